@@ -1,0 +1,206 @@
+-- How long the outputs are: 7 bytes an entry, at most one entry a turn, and a snapshot of at most 2,624 bytes after every run of an accepted job.
+use Prim.Native.Nat.{ℕ, zero, suc, _+_, _*_, _≤_, _<_, zero-le, suc-le-suc}
+use mathlib.Core.Path.{_≡_, refl, sym, ap, subst, _∙_}
+use mathlib.Core.Bool.{Bool, true, false, cond, _&&_, _||_}
+use mathlib.Core.List.{List, [], _∷_, _++_, map}
+use native.Mathlib.Omega.{arith}
+use lib.Dec.{leb, ltb, eqb}
+use lib.ListN.{length, getD, set, drop, length-append, length-map, length-drop, List·getD-eq-default, List·getD-append}
+use lib.Seq.{getD-at}
+use borrow.Author.Tests.{leb-false, eqb-true, eqb-false, ltb-true, ltb-false}
+use Rattle.model.specs.Table.{NODE, VAR, SET, TAKE, GET, PUT, ADD, PLUS, JUMPZ, JUMP, SEND, CALL}
+use Rattle.model.specs.Command.{Command}
+use Rattle.model.specs.Declared.{Instruction, countOf, turnsOf, startsOf}
+use Rattle.model.specs.Program.{Program, programOf}
+use Rattle.model.specs.State.{State, idle, positionAt, accumulatorAt, queueAt, waitingAt, variableAt, tabulate, initialState}
+use Rattle.model.specs.Turn.{Entry, Turned, completed, stopped, someBelow, delivered, isFull, blocked, performed, executed, commandOf, turn}
+use Rattle.model.specs.Permission.{permitted, redacted, enforced, monitoredTurn}
+use Rattle.model.specs.Run.{Run, proceed, runFrom, monitoredRun, unmonitoredRun}
+use Rattle.model.specs.Output.{bytes4, entryBytes, traceBytes, numbersBytes, nodeBytes, nodesBytes, variablesBytes, snapshotBytes}
+use Rattle.model.specs.Valid.{Valid, Bounded}
+use Rattle.model.proofs.Logic.{and-false}
+use Rattle.model.proofs.Valid.{limits}
+use Rattle.model.proofs.Past.{starts-one}
+use Rattle.model.proofs.Turns.{some-none, delivered-later}
+
+-- 7 bytes an entry
+pub length-trace : (es : List Entry) → length (traceBytes es) ≡ 7 * length es
+unfolding traceBytes
+length-trace [] = refl
+length-trace (e ∷ es) = omega (arith, length-trace es)
+
+-- 4 bytes a number
+pub length-numbers : (vs : List ℕ) → length (numbersBytes vs) ≡ 4 * length vs
+unfolding numbersBytes
+length-numbers [] = refl
+length-numbers (v ∷ vs) = omega (arith, length-numbers vs)
+
+-- a node in the snapshot
+pub length-node : (s : State) (n : ℕ) → length (nodeBytes s n) ≡ 10 + 4 * waitingAt s n
+length-node s n = omega (arith, length-numbers (queueAt s n))
+
+-- the variables in the snapshot
+pub length-variables : (s : State) (k : ℕ) → length (variablesBytes s k) ≡ 4 * k
+unfolding variablesBytes
+length-variables s zero = refl
+length-variables s (suc k) = omega (arith, length-append (variablesBytes s k) (bytes4 (variableAt s k)), length-variables s k)
+
+-- the nodes in the snapshot
+pub length-nodes : (s : State) → Bounded s → (k : ℕ) → length (nodesBytes s k) ≤ 74 * k
+unfolding nodesBytes
+length-nodes s b zero = omega arith
+length-nodes s b (suc k) = omega (arith, length-append (nodesBytes s k) (nodeBytes s k), length-node s k, b k, length-nodes s b k)
+
+pub length-snapshot : (P : Program) (s : State) → P .nodes ≤ 32 → P .variables ≤ 64 → Bounded s → length (snapshotBytes P s) ≤ 2624
+unfolding snapshotBytes
+length-snapshot P s l m b =
+    omega (arith, length-append (nodesBytes s (P .nodes)) (variablesBytes s (P .variables)), length-nodes s b (P .nodes), length-variables s (P .variables))
+
+-- a table has as many elements as it says
+pub length-tabulate : {A : Type 0} (k : ℕ) (f : ℕ → A) → length (tabulate k f) ≡ k
+unfolding tabulate
+length-tabulate zero f = refl
+length-tabulate (suc k) f = omega (arith, length-append (tabulate k f) (f k ∷ []), length-tabulate k f)
+
+-- the elements of a table
+pub getD-tabulate-out : {A : Type 0} (k t : ℕ) (f : ℕ → A) (d : A) → k ≤ t → getD (tabulate k f) t d ≡ d
+getD-tabulate-out k t f d h = List·getD-eq-default (tabulate k f) d (omega (arith, length-tabulate k f))
+
+pub getD-tabulate : {A : Type 0} (k t : ℕ) (f : ℕ → A) (d : A) → t < k → getD (tabulate k f) t d ≡ f t
+unfolding tabulate
+getD-tabulate zero t f d h = absurd (omega arith)
+getD-tabulate {A} (suc k) t f d h = by-last (getD-tabulate k t f d) (eqb t k) refl
+  where
+    by-last : (t < k → getD (tabulate k f) t d ≡ f t) → (b : Bool) → eqb t k ≡ b → getD (tabulate k f ++ (f k ∷ [])) t d ≡ f t
+    by-last ih true e =
+        let same : t ≡ k = eqb-true t k e in
+        getD-at (tabulate k f) (f k) [] d t (length-tabulate k f ∙ sym same) ∙ ap f (sym same)
+    by-last ih false e =
+        let below : t < k = omega (arith, eqb-false t k e) in
+        List·getD-append (tabulate k f) (f k ∷ []) d t (omega (arith, length-tabulate k f)) ∙ ih below
+
+-- every queue is short
+abbrev Short : List (List ℕ) → Type 0
+Short qs = (t : ℕ) → length (getD qs t []) ≤ 16
+
+-- a table of short lists
+table-short : (k : ℕ) (f : ℕ → List ℕ) → ((t : ℕ) → length (f t) ≤ 16) → Short (tabulate k f)
+table-short k f h t = by-range (ltb t k) refl
+  where
+    by-range : (b : Bool) → ltb t k ≡ b → length (getD (tabulate k f) t []) ≤ 16
+    by-range true e = rw (getD-tabulate k t f [] (ltb-true t k e)) (h t)
+    by-range false e = rw (getD-tabulate-out k t f [] (ltb-false t k e)) zero-le
+
+-- one short list set among short lists
+set-short : (qs : List (List ℕ)) (n : ℕ) (q : List ℕ) → length q ≤ 16 → Short qs → Short (set qs n q)
+set-short [] n q h b t = b t
+set-short (p ∷ qs) zero q h b zero = h
+set-short (p ∷ qs) zero q h b (suc t) = b (suc t)
+set-short (p ∷ qs) (suc n) q h b zero = b zero
+set-short (p ∷ qs) (suc n) q h b (suc t) = set-short qs n q h (λ t. b (suc t)) t
+
+-- delivery to targets with room
+delivered-short :
+    (target : ℕ → Bool) (v : ℕ) (qs : List (List ℕ)) → Short qs
+    → (k : ℕ) → ((t : ℕ) → t < k → target t ≡ true → length (getD qs t []) < 16) → Short (delivered target v qs k)
+unfolding delivered
+delivered-short target v qs b zero room = b
+delivered-short target v qs b (suc k) room = by-target (target k) refl (delivered-short target v qs b k (λ t h. room t (omega arith)))
+  where
+    by-target :
+        (t : Bool) → target k ≡ t → Short (delivered target v qs k)
+        → Short (cond t (set (delivered target v qs k) k (getD (delivered target v qs k) k [] ++ (v ∷ []))) (delivered target v qs k))
+    by-target false e ih = ih
+    by-target true e ih =
+        let r : length (getD qs k []) < 16 = room k (omega arith) e in
+        let here : length (getD (delivered target v qs k) k []) < 16 = rw (delivered-later target v qs k k (omega arith)) r in
+        set-short (delivered target v qs k) k _ (omega (arith, length-append (getD (delivered target v qs k) k []) (v ∷ []))) ih
+
+-- what a turn comes to keeps the bound
+abbrev Keeps : Turned → Type 0
+Keeps (completed e s) = Bounded s
+Keeps (stopped k e) = Unit {0}
+
+either : (b : Bool) (t u : Turned) → (b ≡ true → Keeps t) → (b ≡ false → Keeps u) → Keeps (cond b t u)
+either true t u p q = p refl
+either false t u p q = q refl
+
+either-state : (b : Bool) (s s′ : State) → (b ≡ true → Bounded s) → (b ≡ false → Bounded s′) → Bounded (cond b s s′)
+either-state true s s′ p q = p refl
+either-state false s s′ p q = q refl
+
+-- a handler command that is not blocked
+performed-bounded : (P : Program) (s : State) (n : ℕ) (i : Instruction) → Bounded s → blocked P s n i ≡ false → Bounded (performed P s n i)
+performed-bounded P s n i b free =
+    either-state (eqb (i .byte) SET) _ _ (λ _. b) λ _.
+    either-state (eqb (i .byte) TAKE) _ _ (λ _. b) λ _.
+    either-state (eqb (i .byte) GET) _ _ (λ _. b) λ _.
+    either-state (eqb (i .byte) PUT) _ _ (λ _. b) λ _.
+    either-state (eqb (i .byte) ADD) _ _ (λ _. b) λ _.
+    either-state (eqb (i .byte) PLUS) _ _ (λ _. b) λ _.
+    either-state (eqb (i .byte) JUMPZ) _ _ (λ _. either-state (eqb (accumulatorAt s n) 0) _ _ (λ _. b) (λ _. b)) λ _.
+    either-state (eqb (i .byte) JUMP) _ _ (λ _. b) λ _.
+    either-state (eqb (i .byte) SEND) _ _ (λ e. delivered-short (P .wired n (i .operand)) (accumulatorAt s n) (s .queue) b 32 (room e)) λ _.
+    either-state (eqb (i .byte) CALL) _ _ (λ _. b) (λ _. b)
+  where
+    room : eqb (i .byte) SEND ≡ true → (t : ℕ) → t < 32 → P .wired n (i .operand) t ≡ true → waitingAt s t < 16
+    room e t h w =
+        let none : someBelow (isFull P s n (i .operand)) 32 ≡ false = and-false (eqb (i .byte) SEND) _ e free in
+        leb-false 16 (waitingAt s t) (and-false (P .wired n (i .operand) t) _ w (some-none (isFull P s n (i .operand)) 32 none t h))
+
+-- a turn keeps the bound
+pub turn-bounded : (P : Program) (s : State) (n : ℕ) → Bounded s → Keeps (turn P s n)
+unfolding turn
+turn-bounded P s n b =
+    either (eqb (positionAt s n) idle) _ _
+    (λ _. either (eqb (waitingAt s n) 0) (stopped 2 _) (completed _ _) (λ _. tt) (λ _. set-short (s .queue) n (drop 1 (queueAt s n)) (omega (arith, length-drop 1 (queueAt s n), b n)) b))
+    λ _.
+    either (ltb (positionAt s n) (length (P .handler n))) _ _
+    (λ _. either (blocked P s n (commandOf P n (positionAt s n))) (stopped 3 _) (completed _ _) (λ _. tt) (performed-bounded P s n (commandOf P n (positionAt s n)) b))
+    (λ _. b)
+
+-- the lists change no bound
+enforced-bounded : (P : Program) (t : Turned) → Keeps t → Keeps (enforced P t)
+enforced-bounded P (completed e s) k = either (permitted P e) (completed e s) (stopped 1 (redacted e)) (λ _. k) (λ _. tt)
+enforced-bounded P (stopped k e) h = tt
+
+pub monitored-bounded : (P : Program) (s : State) (n : ℕ) → Bounded s → Keeps (monitoredTurn P s n)
+unfolding monitoredTurn
+monitored-bounded P s n b = enforced-bounded P (turn P s n) (turn-bounded P s n b)
+
+-- a run keeps the bound and completes at most its turns
+pub record RunBounded (k : ℕ) (r : Run) : Type 0 where
+  pub final : Bounded (r .final)
+  pub steps : length (r .steps) ≤ k
+
+proceed-bounded :
+    (k : ℕ) (rest : State → Run) (s : State) (t : Turned) → Bounded s → Keeps t
+    → ((s′ : State) → Bounded s′ → RunBounded k (rest s′)) → RunBounded (suc k) (proceed rest s t)
+proceed-bounded k rest s (completed e s′) b h ih = record { final = ih s′ h .final; steps = suc-le-suc (ih s′ h .steps) }
+proceed-bounded k rest s (stopped n e) b h ih = record { final = b; steps = zero-le }
+
+pub run-bounded :
+    (rule : State → ℕ → Turned) → ((s : State) (n : ℕ) → Bounded s → Keeps (rule s n))
+    → (turns : List ℕ) (s : State) → Bounded s → RunBounded (length turns) (runFrom rule turns s)
+unfolding runFrom
+run-bounded rule keeps [] s b = record { final = b; steps = zero-le }
+run-bounded rule keeps (n ∷ turns) s b = proceed-bounded (length turns) (runFrom rule turns) s (rule s n) b (keeps s n b) (run-bounded rule keeps turns)
+
+-- the start of every accepted job
+pub initial-bounded : (past : List Command) → Valid past → Bounded (initialState (programOf past))
+unfolding initialState programOf
+initial-bounded past v = table-short 32 (startsOf past) (λ t. omega (arith, starts-one past v t))
+
+-- both runs of every accepted job
+module _ (past : List Command) (v : Valid past) (turns : List ℕ) where
+  pub unmonitored-fits : RunBounded (length turns) (unmonitoredRun (programOf past) turns)
+  unfolding unmonitoredRun
+  unmonitored-fits = run-bounded (turn (programOf past)) (turn-bounded (programOf past)) turns (initialState (programOf past)) (initial-bounded past v)
+
+  pub monitored-fits : RunBounded (length turns) (monitoredRun (programOf past) turns)
+  unfolding monitoredRun
+  monitored-fits = run-bounded (monitoredTurn (programOf past)) (monitored-bounded (programOf past)) turns (initialState (programOf past)) (initial-bounded past v)
+
+  pub snapshot-fits : (s : State) → Bounded s → length (snapshotBytes (programOf past) s) ≤ 2624
+  unfolding programOf
+  snapshot-fits s b = length-snapshot (programOf past) s (limits past v .nodes) (limits past v .variables) b

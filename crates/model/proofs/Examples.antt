@@ -1,0 +1,27 @@
+-- The rows of the worked jobs hold, by computation.
+use mathlib.Core.Path.{refl}
+use Rattle.model.specs.Table.{operandsIn, operandsOf, isAmong, largestIn, largestOf}
+use Rattle.model.specs.Command.{number, readCommand}
+use Rattle.model.specs.Declared.{countOf, countAmong, occurs, declared, openBody, bodyLength, handlerOf, startsOf, startedIn, turnsOf}
+use Rattle.model.specs.Program.{programOf}
+use Rattle.model.specs.State.{tabulate, initialState}
+use Rattle.model.specs.Turn.{someBelow, delivered, turn}
+use Rattle.model.specs.Permission.{monitoredTurn}
+use Rattle.model.specs.Run.{runFrom, unmonitoredRun, monitoredRun}
+use Rattle.model.specs.Output.{traceBytes, numbersBytes, nodesBytes, variablesBytes, snapshotBytes}
+use Rattle.model.specs.Refusal.{anyOf, groupFalls, violation, decodeFrom, decode, refuseFirst, decodeJob, decodeFor}
+use Rattle.model.specs.Result.{report, monitored, unmonitored}
+use Rattle.model.specs.Examples.{outcome, times, k1, k1Read, k7, low, line, nodeLine, idleNode, ends, none, watched, bare, k1First, k1Last, examples, ExamplesHold}
+
+pub examples-hold : ExamplesHold
+unfolding operandsIn operandsOf isAmong largestIn largestOf
+    number readCommand
+    countOf countAmong occurs declared openBody bodyLength handlerOf startsOf startedIn turnsOf
+    programOf tabulate initialState
+    someBelow delivered turn monitoredTurn
+    runFrom unmonitoredRun monitoredRun
+    traceBytes numbersBytes nodesBytes variablesBytes snapshotBytes
+    anyOf groupFalls violation decodeFrom decode refuseFirst decodeJob decodeFor
+    report monitored unmonitored
+    outcome times k1 k1Read k7 low line nodeLine idleNode ends none watched bare k1First k1Last examples
+examples-hold = refl

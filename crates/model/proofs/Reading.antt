@@ -1,0 +1,69 @@
+-- Looking a byte up in the table by a loop over its rows, and reading one command, in the order of a program's tests.
+use Prim.Native.Nat.{ℕ, zero, suc, _+_, _*_, _≤_, _<_}
+use mathlib.Core.Path.{_≡_, refl, sym, ap, _∙_}
+use mathlib.Core.Bool.{Bool, true, false, cond}
+use mathlib.Core.List.{List, [], _∷_}
+use mathlib.Core.Option.{Option, none, some}
+use native.Mathlib.Omega.{arith}
+use native.Mathlib.Numerals.{add-one}
+use lib.Dec.{leb, eqb}
+use lib.ListN.{length, getD, drop, drop-of-length-le}
+use lib.Seq.{drop-cons}
+use borrow.Author.Tests.{eq-eqb, ne-eqb, le-leb, lt-leb}
+use Rattle.model.specs.Table.{OperandKind, Row, row, table, rowAt, operandsIn, operandsOf, operandAt, kindAt}
+use Rattle.model.specs.Command.{Command, number, Read, whole, unknown, cutShort, endAt, firstAt, secondAt, thirdAt, commandAt, readCommand}
+
+-- the search for a byte, from row i on
+pub search-start : (b : ℕ) → operandsOf b ≡ operandsIn (drop 0 table) b
+unfolding operandsOf
+search-start b = refl
+
+search-row : (b i : ℕ) → i < 23 → operandsIn (drop i table) b ≡ cond (eqb (rowAt i .byte) b) (some (rowAt i .operands)) (operandsIn (drop (i + 1) table) b)
+unfolding operandsIn
+search-row b i h = rw (drop-cons table i (row 0 []) h, add-one)
+
+module _ (b i : ℕ) (e : operandsOf b ≡ operandsIn (drop i table) b) where
+  pub search-hit : i < 23 → rowAt i .byte ≡ b → operandsOf b ≡ some (rowAt i .operands)
+  search-hit h t = e ∙ search-row b i h ∙ ap (λ (y : Bool). cond y (some (rowAt i .operands)) (operandsIn (drop (i + 1) table) b)) (eq-eqb (rowAt i .byte) b t)
+
+  pub search-miss : i < 23 → ¬ (rowAt i .byte ≡ b) → operandsOf b ≡ operandsIn (drop (i + 1) table) b
+  search-miss h t = e ∙ search-row b i h ∙ ap (λ (y : Bool). cond y (some (rowAt i .operands)) (operandsIn (drop (i + 1) table) b)) (ne-eqb (rowAt i .byte) b t)
+
+  pub search-end : 23 ≤ i → operandsOf b ≡ none
+  unfolding operandsIn
+  search-end h = e ∙ ap (λ (l : List Row). operandsIn l b) (drop-of-length-le table h)
+
+-- what the operands of a known byte are
+pub kind-known : (b i : ℕ) (kinds : List OperandKind) → operandsOf b ≡ some kinds → kindAt b i ≡ operandAt kinds i
+kind-known b i kinds e = rw e
+
+-- an operand of 4 bytes, of 1 byte, and of none
+pub number-four : (job : List ℕ) (at : ℕ) → number job at 4 ≡ getD job at 0 + getD job (at + 1) 0 * 256 + getD job (at + 2) 0 * 65536 + getD job (at + 3) 0 * 16777216
+unfolding number
+number-four job at =
+    let p : at + 1 + 1 ≡ at + 2 = omega arith in
+    let q : at + 2 + 1 ≡ at + 3 = omega arith in
+    rw (p, q) (omega arith)
+
+pub number-one : (job : List ℕ) (at : ℕ) → number job at 1 ≡ getD job at 0
+unfolding number
+number-one job at = omega arith
+
+pub number-none : (job : List ℕ) (at : ℕ) → number job at 0 ≡ 0
+unfolding number
+number-none job at = refl
+
+-- what is read at a place: no command, a command cut short, a whole one
+module _ (job : List ℕ) (place : ℕ) where
+  pub read-unknown : operandsOf (getD job place 0) ≡ none → readCommand job place ≡ unknown
+  unfolding readCommand
+  read-unknown e = rw e
+
+  module _ (kinds : List OperandKind) (e : operandsOf (getD job place 0) ≡ some kinds) where
+    pub read-short : length job < endAt place kinds → readCommand job place ≡ cutShort
+    unfolding readCommand
+    read-short h = rw (e, lt-leb (endAt place kinds) (length job) h)
+
+    pub read-whole : endAt place kinds ≤ length job → readCommand job place ≡ whole (commandAt job place kinds) (endAt place kinds)
+    unfolding readCommand
+    read-whole h = rw (e, le-leb (endAt place kinds) (length job) h)

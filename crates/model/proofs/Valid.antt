@@ -1,0 +1,214 @@
+-- The commands of every accepted job passed the tests 2 to 8; their counts keep the limits and their operands are in range.
+use Prim.Native.Nat.{ℕ, zero, suc, _+_, _≤_, _<_, zero-le}
+use mathlib.Core.Path.{_≡_, refl, sym, ap, subst, _∙_}
+use mathlib.Core.Bool.{Bool, true, false, cond, not, _&&_, _||_}
+use mathlib.Core.List.{List, [], _∷_, _++_}
+use mathlib.Core.Option.{Option, none, some}
+use native.Mathlib.Omega.{arith}
+use lib.Dec.{leb, ltb, eqb}
+use lib.ListN.{length, getD, length-append, List·getD-append}
+use lib.Seq.{getD-at}
+use borrow.Author.Tests.{leb-false, leb-true, ltb-false, ltb-true, eqb-true, eqb-false}
+use Rattle.model.specs.Table.{FLOW, NODE, VAR, FUN, ARG, BODY, START, TURN, OperandKind, scope, owner, start, answer, node, port, target, function, value, variable, jump, absent, operandsIn, operandsOf, operandAt, listOf, kindAt, width, limit, isAmong, largestIn, largestOf, maxFlows, maxNodes, maxVariables, maxFunctions, maxHandler, maxArguments, maxTurns}
+use Rattle.model.specs.Command.{Command, is, number, Read, whole, unknown, cutShort, endAt, firstAt, secondAt, thirdAt, commandAt, readAs, readCommand}
+use Rattle.model.specs.Declared.{only, countOf, countAmong, occurs, isSame, isHandler, openBody, belongs, bodyLength, Instruction, instruction, handlerOf, startsOf, turnsOf}
+use Rattle.model.specs.Refusal.{anyOf, groupFalls, isReached, exceedsCount, Counts, countsOf, noOwner, namesNothing, undeclared, outOfReach, repeated, violation, Refusal, refuse, Decoded, accepted, rejected, decodeNext, decodeRead, decodeFrom, decode, acceptUnless, andThen, farJump, decodeJob, Sizes, shortBuffer, decodeFor}
+use Rattle.model.specs.Valid.{InRange, Plain, Valid, Passes, ValidJob, Named, NamedInstruction, Limits}
+use Rattle.model.proofs.Logic.{true-false, not-both, or-left, or-right, and-false, and-left, and-right, none-of}
+
+-- no refusal: the test is false, and the later tests refuse nothing
+cond-false : (b : Bool) (k m : ℕ) → cond b (suc k) m ≡ 0 → (b ≡ false) × (m ≡ 0)
+cond-false true k m e = absurd (omega arith)
+cond-false false k m e = (refl, e)
+
+-- no violation: each test is passed
+pub passes : (past : List Command) (c : Command) → violation past c ≡ 0 → Passes past c
+unfolding violation
+passes past c e =
+    let a = cond-false (groupFalls past c) 3 _ e in
+    let b = cond-false (exceedsCount past c) 4 _ (a .1) in
+    let d = cond-false (undeclared past c) 5 _ (b .1) in
+    let f = cond-false (outOfReach past c) 6 _ (d .1) in
+    let g = cond-false (repeated past c) 7 _ (f .1) in
+    record { ordered = a .0; counted = b .0; declares = d .0; reaches = f .0; fresh = g .0 }
+
+-- a command that is read: it is plain, it stands at its place, and the next one stands further on in the job
+pub record ReadAt (job : List ℕ) (place : ℕ) (c : Command) (next : ℕ) : Type 0 where
+  pub plain : Plain c
+  pub here : c .place ≡ place
+  pub byte : c .byte ≡ getD job place 0
+  pub later : place < next
+  pub inside : next ≤ length job
+
+-- an operand that is absent is read as 0
+absent-zero : (job : List ℕ) (place : ℕ) (k : OperandKind) → k ≡ absent → number job place (width k) ≡ 0
+unfolding number
+absent-zero job place k e = rw e
+
+pub read-at : (job : List ℕ) (place : ℕ) (c : Command) (next : ℕ) → readCommand job place ≡ whole c next → ReadAt job place c next
+unfolding readCommand
+read-at job place c next e = by-operands (operandsOf (getD job place 0)) refl e
+  where
+    by-length :
+        (kinds : List OperandKind) → operandsOf (getD job place 0) ≡ some kinds → (t : Bool) → leb (endAt place kinds) (length job) ≡ t
+        → cond t (whole (commandAt job place kinds) (endAt place kinds)) cutShort ≡ whole c next → ReadAt job place c next
+    by-length kinds o true t q =
+        let a : commandAt job place kinds ≡ c = cc in
+        let b : endAt place kinds ≡ next = cc in
+        let m = leb-true (endAt place kinds) (length job) t in
+        rw (← a)
+        (record {
+          plain =
+              record {
+                known = λ h. let w : _≡_ {A = ℕ} 0 1 = cc in omega arith;
+                first = λ h. absent-zero job (firstAt place) _ (rw o at h);
+                second = λ h. absent-zero job (secondAt place kinds) _ (rw o at h);
+                third = λ h. absent-zero job (thirdAt place kinds) _ (rw o at h);
+              };
+          here = refl;
+          byte = refl;
+          later = omega arith;
+          inside = omega arith;
+        })
+    by-length kinds o false t q = let w : _≡_ {A = ℕ} 0 1 = cc in absurd (omega arith)
+
+    by-operands : (o : Option (List OperandKind)) → operandsOf (getD job place 0) ≡ o → readAs job place o ≡ whole c next → ReadAt job place c next
+    by-operands none o q = let w : _≡_ {A = ℕ} 0 1 = cc in absurd (omega arith)
+    by-operands (some kinds) o q = by-length kinds o (leb (endAt place kinds) (length job)) refl q
+
+-- what is decoded is valid
+abbrev ValidDecoded : Decoded → Type 0
+ValidDecoded (accepted past) = Valid past
+ValidDecoded (rejected r) = Unit {0}
+
+module _ (job : List ℕ) (rest : ℕ → List Command → Decoded) (ih : (place : ℕ) (past : List Command) → Valid past → ValidDecoded (rest place past)) where
+  next-valid : (place : ℕ) (past : List Command) (c : Command) (next k : ℕ) → Valid past → Plain c → violation past c ≡ k → ValidDecoded (decodeNext rest place past c next k)
+  next-valid place past c next zero v p e = ih next (c ∷ past) (v, p, e)
+  next-valid place past c next (suc k) v p e = tt
+
+  read-valid : (place : ℕ) (past : List Command) (r : Read) → readCommand job place ≡ r → Valid past → ValidDecoded (decodeRead rest place past r)
+  read-valid place past unknown e v = tt
+  read-valid place past cutShort e v = tt
+  read-valid place past (whole c next) e v = next-valid place past c next (violation past c) v (read-at job place c next e .plain) refl
+
+either : (b : Bool) (d e : Decoded) → ValidDecoded d → ValidDecoded e → ValidDecoded (cond b d e)
+either true d e p q = p
+either false d e p q = q
+
+decode-from-valid : (fuel : ℕ) (job : List ℕ) (place : ℕ) (past : List Command) → Valid past → ValidDecoded (decodeFrom fuel job place past)
+unfolding decodeFrom
+decode-from-valid zero job place past v = v
+decode-from-valid (suc fuel) job place past v =
+    either (ltb place (length job)) _ _
+    (read-valid job (decodeFrom fuel job) (decode-from-valid fuel job) place past (readCommand job place) refl v)
+    v
+
+decode-valid : (job : List ℕ) → ValidDecoded (decode job)
+unfolding decode
+decode-valid job = either (eqb (length job) 0 || ltb 16384 (length job)) _ _ tt (decode-from-valid (length job) job 0 [] tt)
+
+-- an accepted job's commands are valid, after tests 1 to 8, 1 to 9 and 1 to 12
+pub decoded-valid : (job : List ℕ) (past : List Command) → decode job ≡ accepted past → Valid past
+decoded-valid job past e = rw e at (decode-valid job)
+
+-- a further test accepts the commands as they are, and finds nothing
+pub and-then-accepted : (test : List Command → Option Refusal) (d : Decoded) (past : List Command) → andThen test d ≡ accepted past → (d ≡ accepted past) × (test past ≡ none)
+and-then-accepted test (rejected r) past e = let w : _≡_ {A = ℕ} 0 1 = cc in absurd (omega arith)
+and-then-accepted test (accepted all) past e = by-test (test all) refl e
+  where
+    by-test : (o : Option Refusal) → test all ≡ o → acceptUnless all o ≡ accepted past → (accepted all ≡ accepted past) × (test past ≡ none)
+    by-test none t q = let same : all ≡ past = cc in (q, rw (← same) t)
+    by-test (some r) t q = let w : _≡_ {A = ℕ} 0 1 = cc in absurd (omega arith)
+
+pub job-valid : (job : List ℕ) (past : List Command) → decodeJob job ≡ accepted past → ValidJob past
+unfolding decodeJob
+job-valid job past e =
+    let h = and-then-accepted farJump (decode job) past e in
+    record { commands = decoded-valid job past (h .0); jumps = h .1 }
+
+pub job-fits : (job : List ℕ) (b : Sizes) (past : List Command) → decodeFor job b ≡ accepted past → (decodeJob job ≡ accepted past) × (shortBuffer job b past ≡ none)
+unfolding decodeFor
+job-fits job b past e = and-then-accepted (shortBuffer job b) (decodeJob job) past e
+
+-- a largest count is kept
+module _ (past : List Command) (c : Command) (b most : ℕ) (m : largestOf b ≡ some (limit (b ∷ []) most)) (e : exceedsCount past c ≡ false) where
+  count-step : countOf b past ≤ most → (t : Bool) → is b c ≡ t → cond t (countOf b past + 1) (countOf b past) ≤ most
+  unfolding countAmong
+  count-step h false p = h
+  count-step h true p =
+      let q : c .byte ≡ b = eqb-true (c .byte) b p in
+      let r : isReached (largestOf (c .byte)) past ≡ false = none-of 0 _ e in
+      let r′ : leb most (countAmong (b ∷ []) past) ≡ false = rw (q, m) at r in
+      omega (arith, leb-false most (countAmong (b ∷ []) past) r′)
+
+pub count-limit : (past : List Command) → Valid past → (b most : ℕ) → largestOf b ≡ some (limit (b ∷ []) most) → countOf b past ≤ most
+unfolding countOf
+count-limit [] v b most m = zero-le
+count-limit (c ∷ past) v b most m = count-step past c b most m (passes past c (v .2) .counted) (count-limit past (v .0) b most m) (is b c) refl
+
+-- a handler's largest count is kept
+handler-step :
+    (past : List Command) (c : Command) (n : ℕ) → bodyLength past n ≤ 64 → exceedsCount past c ≡ false
+    → (t : Bool) → belongs past c n ≡ t → cond t (bodyLength past n + 1) (bodyLength past n) ≤ 64
+handler-step past c n h e false p = h
+handler-step past c n h e true p =
+    let here : openBody past ≡ n = eqb-true (openBody past) n (and-right (isHandler c) _ p) in
+    let r : (isHandler c && leb 64 (bodyLength past (openBody past))) ≡ false = none-of 1 _ e in
+    let room : leb 64 (bodyLength past n) ≡ false = rw here at (and-false (isHandler c) _ (and-left (isHandler c) _ p) r) in
+    omega (arith, leb-false 64 (bodyLength past n) room)
+
+pub handler-limit : (past : List Command) → Valid past → (n : ℕ) → bodyLength past n ≤ 64
+unfolding bodyLength
+handler-limit [] v n = zero-le
+handler-limit (c ∷ past) v n = handler-step past c n (handler-limit past (v .0) n) (passes past c (v .2) .counted) (belongs past c n) refl
+
+pub limits : (past : List Command) → Valid past → Limits past
+unfolding largestOf largestIn isAmong
+limits past v =
+    record {
+      flows = count-limit past v FLOW maxFlows refl;
+      nodes = count-limit past v NODE maxNodes refl;
+      variables = count-limit past v VAR maxVariables refl;
+      functions = count-limit past v FUN maxFunctions refl;
+      arguments = count-limit past v ARG maxArguments refl;
+      turns = count-limit past v TURN maxTurns refl;
+      handlers = handler-limit past v;
+    }
+
+-- an operand that names something is in range
+module _ (past : List Command) (l : Limits past) (s : ℕ) where
+  owner-range : (x : ℕ) → noOwner (countsOf past) s x ≡ false → x < 32
+  owner-range x = by-scope (eqb s 0) (eqb s 1)
+    where
+      zero-owner : (t : Bool) → eqb x 0 ≡ t → not t ≡ false → x < 32
+      zero-owner true p e = let z = eqb-true x 0 p in omega arith
+      zero-owner false p e = true-false e
+
+      by-scope : (a b : Bool) → cond a (leb (countOf NODE past) x) (cond b (leb (countOf FLOW past) x) (not (eqb x 0))) ≡ false → x < 32
+      by-scope true b e = omega (arith, leb-false (countOf NODE past) x e, l .nodes)
+      by-scope false true e = omega (arith, leb-false (countOf FLOW past) x e, l .flows)
+      by-scope false false e = zero-owner (eqb x 0) refl e
+
+  in-range : (k : OperandKind) (x : ℕ) → (k ≡ absent → x ≡ 0) → namesNothing (countsOf past) s k x ≡ false → InRange k x
+  in-range scope x z e = omega (arith, ltb-false 2 x e)
+  in-range owner x z e = owner-range x e
+  in-range start x z e = tt
+  in-range answer x z e = tt
+  in-range node x z e = omega (arith, leb-false (countOf NODE past) x e, l .nodes)
+  in-range port x z e = omega (arith, ltb-false 3 x e)
+  in-range target x z e = omega (arith, leb-false (countOf NODE past) x e, l .nodes)
+  in-range function x z e = omega (arith, leb-false (countOf FUN past) x e, l .functions)
+  in-range value x z e = tt
+  in-range variable x z e = omega (arith, leb-false (countOf VAR past) x e, l .variables)
+  in-range jump x z e = tt
+  in-range absent x z e = z refl
+
+pub named : (past : List Command) (c : Command) → Valid (c ∷ past) → Named (c .byte) (c .operands)
+named past c v =
+    let l = limits past (v .0) in
+    let e = passes past c (v .2) .declares in
+    record {
+      first = in-range past l (c .operands .first) _ (c .operands .first) (v .1 .first) (none-of 2 _ e);
+      second = in-range past l (c .operands .first) _ (c .operands .second) (v .1 .second) (none-of 3 _ e);
+      third = in-range past l (c .operands .first) _ (c .operands .third) (v .1 .third) (none-of 4 _ e);
+    }

@@ -1,0 +1,131 @@
+-- The jobs worked by hand ("Jobs worked by hand"), K1 to K11, as rows of one list, and the one claim that the definitions give each row what it expects.
+-- What is expected is written in bytes, so that no definition of the outputs stands on both sides.
+use Prim.Native.Nat.{ℕ, zero, suc}
+use mathlib.Core.Path.{_≡_}
+use mathlib.Core.Bool.{Bool, true, false, cond}
+use mathlib.Core.List.{List, [], _∷_, _++_, map}
+use Rattle.model.specs.Turn.{Entry, entry}
+use Rattle.model.specs.Refusal.{refuse, Sizes, sizes}
+use Rattle.model.specs.Result.{Result, refused, ran, monitored, unmonitored}
+
+-- a row: a job, whether it is run monitored ("watched"), and what is expected
+pub record Example : Type 0 where
+  pub job : List ℕ
+  pub isMonitored : Bool
+  pub expected : Result
+
+-- buffers that are long enough for every job
+abbrev pub enough : Sizes
+enough = sizes 28672 2624 16384
+
+-- what the definitions give
+unfoldable pub outcome : Example → Result
+outcome e = cond (e .isMonitored) (monitored (e .job) enough) (unmonitored (e .job) enough)
+
+-- so many times the bytes
+unfoldable pub times : ℕ → List ℕ → List ℕ
+times zero bytes = []
+times (suc k) bytes = bytes ++ times k bytes
+
+-- K1 with these bytes for its READ command, this START value and this node for its first turn
+unfoldable pub k1 : List ℕ → List ℕ → ℕ → List ℕ
+k1 read start first =
+    0x01 ∷ 0x02 ∷ 0x02 ∷ []
+    ++ 0x10 ∷ 0x02 ∷ 0x00 ∷ 0x05 ∷ 0x00 ∷ 0x00 ∷ 0x00 ∷ []
+    ++ 0x11 ∷ 0x09 ∷ 0x00 ∷ 0x00 ∷ 0x00 ∷ []
+    ++ 0x20 ∷ 0x00 ∷ 0x00 ∷ 0x01 ∷ []
+    ++ read
+    ++ 0x31 ∷ 0x01 ∷ 0x00 ∷ 0x07 ∷ 0x00 ∷ 0x00 ∷ 0x00 ∷ []
+    ++ 0x40 ∷ 0x00 ∷ 0x42 ∷ 0x46 ∷ 0x00 ∷ 0x49 ∷ 0x00 ∷ []
+    ++ 0x40 ∷ 0x01 ∷ 0x42 ∷ 0x4A ∷ 0x00 ∷ []
+    ++ 0x50 ∷ 0x00 ∷ start
+    ++ 0x60 ∷ first ∷ []
+    ++ times 4 (0x60 ∷ 0x00 ∷ [])
+    ++ times 4 (0x60 ∷ 0x01 ∷ [])
+
+-- the READ command of K1
+unfoldable pub k1Read : List ℕ
+k1Read = 0x32 ∷ 0x00 ∷ 0x00 ∷ []
+
+-- K7
+unfoldable pub k7 : List ℕ
+k7 =
+    0x01 ∷ 0x02 ∷ []
+    ++ 0x20 ∷ 0x00 ∷ 0x00 ∷ 0x00 ∷ []
+    ++ 0x40 ∷ 0x00 ∷ 0x49 ∷ 0x00 ∷ 0x48 ∷ 0x00 ∷ []
+    ++ 0x50 ∷ 0x00 ∷ 0x01 ∷ 0x00 ∷ 0x00 ∷ 0x00 ∷ []
+    ++ times 34 (0x60 ∷ 0x00 ∷ [])
+
+-- the 4 bytes of a number below 256
+unfoldable pub low : ℕ → List ℕ
+low v = v ∷ 0 ∷ 0 ∷ 0 ∷ []
+
+-- the 7 bytes of an entry whose value is below 256
+unfoldable pub line : ℕ → ℕ → ℕ → ℕ → List ℕ
+line n kind number v = n ∷ kind ∷ number ∷ low v
+
+-- a node at a position, with accumulator and message below 256 and so many waiting messages, as it stands in the snapshot
+unfoldable pub nodeLine : ℕ → ℕ → ℕ → ℕ → List ℕ
+nodeLine position accumulator message waiting = position ∷ low accumulator ++ low message ++ (waiting ∷ [])
+
+-- an idle node with no waiting message
+unfoldable pub idleNode : List ℕ
+idleNode = nodeLine 255 0 0 0
+
+-- a run: stop, turns, attempted entry, trace and snapshot
+unfoldable pub ends : ℕ → ℕ → Entry → List ℕ → List ℕ → Result
+ends stop turns e trace snapshot = ran (record { stop = stop; turns = turns; attempted = e }) trace snapshot
+
+-- the attempted entry of stop 0
+unfoldable pub none : Entry
+none = entry 0 0 0 0
+
+-- a monitored and an unmonitored row
+unfoldable pub watched : List ℕ → Result → Example
+watched job expected = record { job = job; isMonitored = true; expected = expected }
+
+unfoldable pub bare : List ℕ → Result → Example
+bare job expected = record { job = job; isMonitored = false; expected = expected }
+
+-- the trace of K1 with this START value and this value sent: the turns of node 0, those of node 1 up to its call, and the last two
+unfoldable pub k1First : List ℕ → ℕ → List ℕ
+k1First start sent = 0 ∷ 1 ∷ 0 ∷ start ++ line 0 0 0 0 ++ line 0 3 0 5 ++ line 0 6 0 sent ++ line 0 2 0 0 ++ line 1 1 0 sent ++ line 1 0 0 0
+
+unfoldable pub k1Last : ℕ → List ℕ
+k1Last sent = line 1 5 0 sent ++ line 1 2 0 0
+
+-- K1 to K11, and 32 and 33 nodes
+unfoldable pub examples : List Example
+examples =
+    -- K1
+    watched (k1 k1Read (low 2) 0) (ends 0 9 none (k1First (low 2) 7 ++ k1Last 7) (idleNode ++ idleNode ++ low 5))
+    -- K2
+    ∷ watched (k1 k1Read (low 3) 0) (ends 1 7 (entry 1 5 0 8) (k1First (low 3) 8) (idleNode ++ nodeLine 1 8 8 0 ++ low 5))
+    -- K3
+    ∷ bare (k1 k1Read (low 3) 0) (ends 0 9 none (k1First (low 3) 8 ++ k1Last 8) (idleNode ++ idleNode ++ low 5))
+    -- K4
+    ∷ watched (k1 [] (low 2) 0) (ends 1 2 (entry 0 3 0 0) (line 0 1 0 2 ++ line 0 0 0 0) (nodeLine 1 2 2 0 ++ idleNode ++ low 5))
+    -- K5
+    ∷ watched (k1 k1Read (low 2) 1) (ends 2 0 (entry 1 0 0 0) [] (nodeLine 255 0 0 1 ++ low 2 ++ idleNode ++ low 5))
+    -- K6
+    ∷ watched (k1 k1Read (0xFE ∷ 0xFF ∷ 0xFF ∷ 0xFF ∷ []) 0)
+    (ends 1 7 (entry 1 5 0 3) (k1First (0xFE ∷ 0xFF ∷ 0xFF ∷ 0xFF ∷ []) 3) (idleNode ++ nodeLine 1 3 3 0 ++ low 5))
+    -- K7
+    ∷ watched k7 (ends 3 33 (entry 0 6 0 0) (line 0 1 0 1 ++ times 16 (line 0 6 0 0 ++ line 0 0 0 0)) (nodeLine 0 0 1 16 ++ times 16 (low 0)))
+    -- K8
+    ∷ watched [] (refused (refuse 1 0))
+    -- K9
+    ∷ watched (0x02 ∷ []) (refused (refuse 6 0))
+    -- K10
+    ∷ watched (0x01 ∷ 0x10 ∷ []) (refused (refuse 3 1))
+    -- K11
+    ∷ watched (0x01 ∷ 0x02 ∷ 0x40 ∷ 0x00 ∷ 0x48 ∷ 0x01 ∷ []) (ends 0 0 none [] idleNode)
+    ∷ watched (0x01 ∷ 0x02 ∷ 0x40 ∷ 0x00 ∷ 0x48 ∷ 0x02 ∷ []) (refused (refuse 9 4))
+    -- 32 and 33 nodes
+    ∷ watched (0x01 ∷ times 32 (0x02 ∷ [])) (ends 0 0 none [] (times 32 idleNode))
+    ∷ watched (0x01 ∷ times 33 (0x02 ∷ [])) (refused (refuse 5 33))
+    ∷ []
+
+-- the definitions give what every row expects
+abbrev pub ExamplesHold : Type 0
+ExamplesHold = map outcome examples ≡ map (λ (e : Example). e .expected) examples

@@ -1,0 +1,20 @@
+-- "The job"
+pub mod Table
+pub mod Command
+pub mod Declared
+pub mod Program
+-- "A turn"
+pub mod State
+pub mod Turn
+pub mod Permission
+pub mod Run
+-- "What the run hands over"
+pub mod Output
+-- "When a job is turned away"
+pub mod Refusal
+pub mod Result
+-- statements: demands 1 and 2 of the definitions, demand 3 ("Watched beside bare"), "Jobs worked by hand"
+pub mod Transparency
+pub mod Examples
+-- what holds of accepted jobs and of states, for proofs about code
+pub mod Valid

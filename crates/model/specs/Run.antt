@@ -1,0 +1,53 @@
+-- A run ("A turn"): the turns one after the other, each on the state that the last one left, until a stop.
+use Prim.Native.Nat.{ℕ}
+use mathlib.Core.List.{List, [], _∷_, map}
+use Rattle.model.specs.Program.{Program}
+use Rattle.model.specs.State.{State, initialState}
+use Rattle.model.specs.Turn.{Entry, entry, Turned, completed, stopped, turn}
+use Rattle.model.specs.Permission.{monitoredTurn}
+
+-- a completed turn: the state before it, and its entry
+pub record Step : Type 0 where
+  pub before : State
+  pub made : Entry
+
+-- a run: its completed turns, the stop (0: the turns ran out) with the attempted entry, and the last state
+pub record Run : Type 0 where
+  pub steps : List Step
+  pub stop : ℕ
+  pub attempted : Entry
+  pub final : State
+
+-- the run that ends in a state
+abbrev pub ended : State → ℕ → Entry → Run
+ended s k e = record { steps = []; stop = k; attempted = e; final = s }
+
+-- the run with one more completed turn in front
+abbrev pub after : State → Entry → Run → Run
+after s e r = record { steps = record { before = s; made = e } ∷ r .steps; stop = r .stop; attempted = r .attempted; final = r .final }
+
+-- the run that goes on by `rest` behind a completed turn; a stopped turn changes nothing and ends the run
+abbrev pub proceed : (State → Run) → State → Turned → Run
+proceed rest s (completed e s′) = after s e (rest s′)
+proceed rest s (stopped k e) = ended s k e
+
+-- the run of these turns from a state, by a rule for one turn
+unfoldable pub runFrom : (State → ℕ → Turned) → List ℕ → State → Run
+runFrom rule [] s = ended s 0 (entry 0 0 0 0)
+runFrom rule (n ∷ turns) s = proceed (runFrom rule turns) s (rule s n)
+
+-- the unmonitored ("bare") run of these turns
+unfoldable pub unmonitoredRun : Program → List ℕ → Run
+unmonitoredRun P turns = runFrom (turn P) turns (initialState P)
+
+-- the monitored ("watched") run of these turns
+unfoldable pub monitoredRun : Program → List ℕ → Run
+monitoredRun P turns = runFrom (monitoredTurn P) turns (initialState P)
+
+-- the entries of completed turns
+abbrev pub entriesOf : List Step → List Entry
+entriesOf steps = map (λ (t : Step). t .made) steps
+
+-- the states before completed turns
+abbrev pub statesOf : List Step → List State
+statesOf steps = map (λ (t : Step). t .before) steps

@@ -1,0 +1,78 @@
+-- What holds of the commands of every accepted job, and of every state of its runs: what proofs about code rest on. No definition above uses it.
+use Prim.Native.Nat.{ℕ, _≤_, _<_}
+use mathlib.Core.Path.{_≡_}
+use mathlib.Core.Bool.{Bool, true, false, _&&_}
+use mathlib.Core.List.{List, [], _∷_}
+use mathlib.Core.Option.{Option, none, some}
+use lib.Dec.{leb}
+use lib.ListN.{length, getD}
+use Rattle.model.specs.Table.{FLOW, NODE, VAR, FUN, ARG, SET, SKIP, TURN, OperandKind, scope, owner, start, answer, node, port, target, function, value, variable, jump, absent, operandsOf, kindAt, maxFlows, maxNodes, maxVariables, maxFunctions, maxHandler, maxArguments, maxTurns, maxPort, maxWaiting}
+use Rattle.model.specs.Command.{Operands, Command}
+use Rattle.model.specs.Declared.{Instruction, countOf, bodyLength}
+use Rattle.model.specs.State.{State, waitingAt}
+use Rattle.model.specs.Refusal.{groupFalls, exceedsCount, undeclared, outOfReach, repeated, violation, farJump}
+
+-- an operand is in the range of what it names; one that is absent is 0
+abbrev pub InRange : OperandKind → ℕ → Type 0
+InRange scope x = x ≤ 2
+InRange owner x = x < maxNodes
+InRange start x = Unit {0}
+InRange answer x = Unit {0}
+InRange node x = x < maxNodes
+InRange port x = x ≤ maxPort
+InRange target x = x < maxNodes
+InRange function x = x < maxFunctions
+InRange value x = Unit {0}
+InRange variable x = x < maxVariables
+InRange jump x = Unit {0}
+InRange absent x = x ≡ 0
+
+-- a command as it is read: its byte is in the table, and its absent operands are 0
+pub record Plain (c : Command) : Type 0 where
+  pub known : operandsOf (c .byte) ≡ none → ⊥
+  pub first : kindAt (c .byte) 0 ≡ absent → c .operands .first ≡ 0
+  pub second : kindAt (c .byte) 1 ≡ absent → c .operands .second ≡ 0
+  pub third : kindAt (c .byte) 2 ≡ absent → c .operands .third ≡ 0
+
+-- each command of the list, the latest first, passes the tests 2 to 8 behind those before it
+abbrev pub Valid : List Command → Type 0
+Valid [] = Unit {0}
+Valid (c ∷ past) = Valid past × Plain c × (violation past c ≡ 0)
+
+-- a command that passes the tests 4 to 8
+pub record Passes (past : List Command) (c : Command) : Type 0 where
+  pub ordered : groupFalls past c ≡ false
+  pub counted : exceedsCount past c ≡ false
+  pub declares : undeclared past c ≡ false
+  pub reaches : outOfReach past c ≡ false
+  pub fresh : repeated past c ≡ false
+
+-- the commands of an accepted job
+pub record ValidJob (past : List Command) : Type 0 where
+  pub commands : Valid past
+  pub jumps : farJump past ≡ none
+
+-- the operands of a command byte are in range
+pub record Named (b : ℕ) (x : Operands) : Type 0 where
+  pub first : InRange (kindAt b 0) (x .first)
+  pub second : InRange (kindAt b 1) (x .second)
+  pub third : InRange (kindAt b 2) (x .third)
+
+-- an instruction of a handler of an accepted job
+pub record NamedInstruction (i : Instruction) : Type 0 where
+  pub handler : (leb SET (i .byte) && leb (i .byte) SKIP) ≡ true
+  pub operand : InRange (kindAt (i .byte) 0) (i .operand)
+
+-- the counts of the commands of an accepted job
+pub record Limits (past : List Command) : Type 0 where
+  pub flows : countOf FLOW past ≤ maxFlows
+  pub nodes : countOf NODE past ≤ maxNodes
+  pub variables : countOf VAR past ≤ maxVariables
+  pub functions : countOf FUN past ≤ maxFunctions
+  pub arguments : countOf ARG past ≤ maxArguments
+  pub turns : countOf TURN past ≤ maxTurns
+  pub handlers : (n : ℕ) → bodyLength past n ≤ maxHandler
+
+-- at most 16 messages wait at a node
+abbrev pub Bounded : State → Type 0
+Bounded s = (n : ℕ) → waitingAt s n ≤ maxWaiting
