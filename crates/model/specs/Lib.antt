@@ -13,7 +13,9 @@ pub mod Output
 -- "When a job is turned away"
 pub mod Refusal
 pub mod Result
--- statements: demands 1 and 2 of the definitions, demand 3 ("Watched beside bare"), "Jobs worked by hand"
+-- statements: demands 1, 2 and 3 ("Watched beside bare"), "Jobs worked by hand"
+pub mod Conclusion
+pub mod Following
 pub mod Transparency
 pub mod Examples
 -- what holds of accepted jobs and of states, for proofs about code

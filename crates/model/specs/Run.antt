@@ -1,12 +1,13 @@
 -- A run ("A turn"): the turns one after the other, each on the state that the last one left, until a stop.
 use Prim.Native.Nat.{ℕ}
 use mathlib.Core.List.{List, [], _∷_, map}
+use lib.ListN.{getD}
 use Rattle.model.specs.Program.{Program}
 use Rattle.model.specs.State.{State, initialState}
 use Rattle.model.specs.Turn.{Entry, entry, Turned, completed, stopped, turn}
 use Rattle.model.specs.Permission.{monitoredTurn}
 
--- a completed turn: the state before it, and its entry
+-- a completed turn: the state that it was made from, and its entry
 pub record Step : Type 0 where
   pub before : State
   pub made : Entry
@@ -48,6 +49,14 @@ monitoredRun P turns = runFrom (monitoredTurn P) turns (initialState P)
 abbrev pub entriesOf : List Step → List Entry
 entriesOf steps = map (λ (t : Step). t .made) steps
 
--- the states before completed turns
+-- the states that completed turns were made from
 abbrev pub statesOf : List Step → List State
 statesOf steps = map (λ (t : Step). t .before) steps
+
+-- entry k of a run, counted from 0
+abbrev pub entryAt : Run → ℕ → Entry
+entryAt r k = getD (entriesOf (r .steps)) k (entry 0 0 0 0)
+
+-- the state that turn k of a run was made from; behind the completed turns the last state
+abbrev pub stateAt : Run → ℕ → State
+stateAt r k = getD (statesOf (r .steps)) k (r .final)

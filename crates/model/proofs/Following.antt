@@ -1,0 +1,55 @@
+-- Every run follows its rule for one turn: the proof of `BothFollow` for every program and all turns.
+use Prim.Native.Nat.{ℕ, zero, suc, _<_, zero-le, suc-le-suc}
+use mathlib.Core.Path.{_≡_, refl, sym, ap, _∙_}
+use mathlib.Core.Logic.{_⊎_, inl, inr}
+use mathlib.Core.List.{List, [], _∷_}
+use native.Mathlib.Omega.{arith}
+use native.Mathlib.Nat.{not-suc-le-zero, le-of-suc-le-suc}
+use lib.ListN.{length, getD}
+use Rattle.model.specs.Program.{Program}
+use Rattle.model.specs.State.{State, initialState}
+use Rattle.model.specs.Turn.{Entry, Turned, completed, stopped, turn}
+use Rattle.model.specs.Permission.{monitoredTurn}
+use Rattle.model.specs.Run.{Run, after, proceed, runFrom, entryAt, stateAt, monitoredRun, unmonitoredRun}
+use Rattle.model.specs.Following.{RanOut, Halted, Follows, BothFollow}
+use Rattle.model.proofs.Stops.{StopsBy, turn-stops, monitored-stops}
+
+module _ (rule : State → ℕ → Turned) (turns : List ℕ) (n : ℕ) (s : State) where
+  -- a completed turn in front
+  front : (e : Entry) (s′ : State) (r : Run) → rule s n ≡ completed e s′ → Follows rule turns s′ r → Follows rule (n ∷ turns) s (after s e r)
+  front e s′ r first f = record { begins = refl; goesOn = each; ends = last (f .ends) }
+    where
+      each : (k : ℕ) → k < suc (length (r .steps)) → rule (stateAt (after s e r) k) (getD (n ∷ turns) k 0) ≡ completed (entryAt (after s e r) k) (stateAt (after s e r) (suc k))
+      each zero h = first ∙ ap (completed e) (sym (f .begins))
+      each (suc k) h = f .goesOn k (le-of-suc-le-suc h)
+
+      last : RanOut turns r ⊎ Halted rule turns r → RanOut (n ∷ turns) (after s e r) ⊎ Halted rule (n ∷ turns) (after s e r)
+      last (inl o) = inl (record { all = ap suc (o .all); stop = o .stop; attempted = o .attempted })
+      last (inr h) = inr (record { next = suc-le-suc (h .next); stopping = h .stopping; nonzero = h .nonzero })
+
+  -- one turn and what follows it, by what the turn comes to
+  proceeds : (rest : State → Run) (t : Turned) → rule s n ≡ t → StopsBy (λ k. ¬ (k ≡ 0)) t → ((s′ : State) → Follows rule turns s′ (rest s′)) → Follows rule (n ∷ turns) s (proceed rest s t)
+  proceeds rest (completed e s′) first q ih = front e s′ (rest s′) first (ih s′)
+  proceeds rest (stopped k e) first q ih =
+      record {
+        begins = refl;
+        goesOn = λ j h. absurd (not-suc-le-zero h);
+        ends = inr (record { next = suc-le-suc zero-le; stopping = first; nonzero = q });
+      }
+
+-- a run by a rule that does not stop by 0
+pub follows :
+    (rule : State → ℕ → Turned) → ((s : State) (n : ℕ) → StopsBy (λ k. ¬ (k ≡ 0)) (rule s n))
+    → (turns : List ℕ) (s : State) → Follows rule turns s (runFrom rule turns s)
+unfolding runFrom
+follows rule stops [] s = record { begins = refl; goesOn = λ k h. absurd (not-suc-le-zero h); ends = inl (record { all = refl; stop = refl; attempted = refl }) }
+follows rule stops (n ∷ turns) s = proceeds rule turns n s (runFrom rule turns) (rule s n) refl (stops s n) (follows rule stops turns)
+
+-- both runs of any turns of any program
+pub both-follow : (P : Program) (turns : List ℕ) → BothFollow P turns
+unfolding unmonitoredRun monitoredRun
+both-follow P turns =
+    record {
+      bare = follows (turn P) (turn-stops (λ k. ¬ (k ≡ 0)) (λ h. omega arith) (λ h. omega arith) P) turns (initialState P);
+      watched = follows (monitoredTurn P) (monitored-stops (λ k. ¬ (k ≡ 0)) (λ h. omega arith) (λ h. omega arith) (λ h. omega arith) P) turns (initialState P);
+    }

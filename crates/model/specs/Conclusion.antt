@@ -1,0 +1,35 @@
+-- Demand 1 of the definitions: every job with any buffers is refused by number and place, or runs to one of the four stops.
+use Prim.Native.Nat.{ℕ, _*_, _≤_}
+use mathlib.Core.Path.{_≡_}
+use mathlib.Core.List.{List}
+use lib.ListN.{length}
+use Rattle.model.specs.Table.{maxTurns}
+use Rattle.model.specs.Output.{Answer}
+use Rattle.model.specs.Refusal.{Refusal, Sizes, snapshotSize}
+use Rattle.model.specs.Result.{Result, refused, ran, monitored, unmonitored}
+
+-- a refusal has a number from 1 to 12, and a place inside the job or at its end
+pub record Refuses (job : List ℕ) (r : Refusal) : Type 0 where
+  pub lowest : 1 ≤ r .number
+  pub highest : r .number ≤ 12
+  pub inside : r .place ≤ length job
+
+-- a run answers a stop from 0 to 3 and at most 4,096 turns; its trace has 7 bytes a completed turn, its snapshot at most 2,624 bytes, and both fit their buffers
+pub record Runs (b : Sizes) (a : Answer) (trace snapshot : List ℕ) : Type 0 where
+  pub stops : a .stop ≤ 3
+  pub turns : a .turns ≤ maxTurns
+  pub traceLength : length trace ≡ 7 * a .turns
+  pub traceFits : length trace ≤ b .trace
+  pub snapshotLength : length snapshot ≤ snapshotSize
+  pub snapshotFits : length snapshot ≤ b .snapshot
+
+-- what a job with buffers of these lengths comes to
+abbrev pub Concludes : List ℕ → Sizes → Result → Type 0
+Concludes job b (refused r) = Refuses job r
+Concludes job b (ran a trace snapshot) = Runs b a trace snapshot
+
+-- both runs of a job; the unmonitored one never answers stop 1
+pub record Concluded (job : List ℕ) (b : Sizes) : Type 0 where
+  pub watched : Concludes job b (monitored job b)
+  pub bare : Concludes job b (unmonitored job b)
+  pub bareStop : (a : Answer) (trace snapshot : List ℕ) → unmonitored job b ≡ ran a trace snapshot → a .stop ≡ 1 → ⊥
