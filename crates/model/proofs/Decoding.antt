@@ -15,7 +15,7 @@ use Rattle.model.specs.Program.{Program, programOf}
 use Rattle.model.specs.Run.{Run, monitoredRun, unmonitoredRun}
 use Rattle.model.specs.Refusal.{violation, Refusal, refuse, Decoded, accepted, rejected, decodeNext, decodeRead, decodeFrom, decode, acceptUnless, andThen, firstOf, refuseFirst, farJump, decodeJob, Sizes, shortBuffer, decodeFor}
 use Rattle.model.specs.Result.{Result, refused, report, resultOf, monitored, unmonitored}
-use Rattle.model.proofs.Valid.{ReadAt, read-at}
+use Rattle.model.proofs.Reading.{ReadAt, read-at}
 
 -- at the end of the job, whatever the fuel
 pub decode-end : (fuel : ℕ) (job : List ℕ) (place : ℕ) (past : List Command) → length job ≤ place → decodeFrom fuel job place past ≡ accepted past

@@ -9,9 +9,10 @@ use native.Mathlib.Numerals.{add-one}
 use lib.Dec.{leb, eqb}
 use lib.ListN.{length, getD, drop, drop-of-length-le}
 use lib.Seq.{drop-cons}
-use borrow.Author.Tests.{eq-eqb, ne-eqb, le-leb, lt-leb}
-use Rattle.model.specs.Table.{OperandKind, Row, row, table, rowAt, operandsIn, operandsOf, operandAt, kindAt}
-use Rattle.model.specs.Command.{Command, number, Read, whole, unknown, cutShort, endAt, firstAt, secondAt, thirdAt, commandAt, readCommand}
+use borrow.Author.Tests.{eq-eqb, ne-eqb, le-leb, lt-leb, leb-true}
+use Rattle.model.specs.Table.{OperandKind, absent, width, Row, row, table, rowAt, operandsIn, operandsOf, operandAt, kindAt}
+use Rattle.model.specs.Command.{Command, number, Read, whole, unknown, cutShort, endAt, firstAt, secondAt, thirdAt, commandAt, readAs, readCommand}
+use Rattle.model.specs.Valid.{Plain}
 
 -- the search for a byte, from row i on
 pub search-start : (b : ℕ) → operandsOf b ≡ operandsIn (drop 0 table) b
@@ -67,3 +68,47 @@ module _ (job : List ℕ) (place : ℕ) where
     pub read-whole : endAt place kinds ≤ length job → readCommand job place ≡ whole (commandAt job place kinds) (endAt place kinds)
     unfolding readCommand
     read-whole h = rw (e, le-leb (endAt place kinds) (length job) h)
+
+-- a command that is read: it is plain, it stands at its place, and the next one stands further on in the job
+pub record ReadAt (job : List ℕ) (place : ℕ) (c : Command) (next : ℕ) : Type 0 where
+  pub plain : Plain c
+  pub here : c .place ≡ place
+  pub byte : c .byte ≡ getD job place 0
+  pub later : place < next
+  pub inside : next ≤ length job
+
+-- an operand that is absent is read as 0
+absent-zero : (job : List ℕ) (place : ℕ) (k : OperandKind) → k ≡ absent → number job place (width k) ≡ 0
+unfolding number
+absent-zero job place k e = rw e
+
+pub read-at : (job : List ℕ) (place : ℕ) (c : Command) (next : ℕ) → readCommand job place ≡ whole c next → ReadAt job place c next
+unfolding readCommand
+read-at job place c next e = by-operands (operandsOf (getD job place 0)) refl e
+  where
+    by-length :
+        (kinds : List OperandKind) → operandsOf (getD job place 0) ≡ some kinds → (t : Bool) → leb (endAt place kinds) (length job) ≡ t
+        → cond t (whole (commandAt job place kinds) (endAt place kinds)) cutShort ≡ whole c next → ReadAt job place c next
+    by-length kinds o true t q =
+        let a : commandAt job place kinds ≡ c = cc in
+        let b : endAt place kinds ≡ next = cc in
+        let m = leb-true (endAt place kinds) (length job) t in
+        rw (← a)
+        (record {
+          plain =
+              record {
+                known = λ h. let w : _≡_ {A = ℕ} 0 1 = cc in omega arith;
+                first = λ h. absent-zero job (firstAt place) _ (rw o at h);
+                second = λ h. absent-zero job (secondAt place kinds) _ (rw o at h);
+                third = λ h. absent-zero job (thirdAt place kinds) _ (rw o at h);
+              };
+          here = refl;
+          byte = refl;
+          later = omega arith;
+          inside = omega arith;
+        })
+    by-length kinds o false t q = let w : _≡_ {A = ℕ} 0 1 = cc in absurd (omega arith)
+
+    by-operands : (o : Option (List OperandKind)) → operandsOf (getD job place 0) ≡ o → readAs job place o ≡ whole c next → ReadAt job place c next
+    by-operands none o q = let w : _≡_ {A = ℕ} 0 1 = cc in absurd (omega arith)
+    by-operands (some kinds) o q = by-length kinds o (leb (endAt place kinds) (length job)) refl q

@@ -14,6 +14,8 @@ use Rattle.model.specs.Command.{Command, is, number, Read, whole, unknow
 use Rattle.model.specs.Declared.{only, countOf, countAmong, occurs, isSame, isHandler, openBody, belongs, bodyLength, Instruction, instruction, handlerOf, startsOf, turnsOf}
 use Rattle.model.specs.Refusal.{anyOf, groupFalls, isReached, exceedsCount, Counts, countsOf, noOwner, namesNothing, undeclared, outOfReach, repeated, violation, Refusal, refuse, Decoded, accepted, rejected, decodeNext, decodeRead, decodeFrom, decode, acceptUnless, andThen, farJump, decodeJob, Sizes, shortBuffer, decodeFor}
 use Rattle.model.specs.Valid.{InRange, Plain, Valid, Passes, ValidJob, Named, NamedInstruction, Limits}
+use Rattle.model.proofs.Reading.{read-at}
+use Rattle.model.proofs.Walking.{Decides, decode-keeps}
 use Rattle.model.proofs.Logic.{true-false, not-both, or-left, or-right, and-false, and-left, and-right, none-of}
 
 -- no refusal: the test is false, and the later tests refuse nothing
@@ -32,80 +34,9 @@ passes past c e =
     let g = cond-false (repeated past c) 7 _ (f .1) in
     record { ordered = a .0; counted = b .0; declares = d .0; reaches = f .0; fresh = g .0 }
 
--- a command that is read: it is plain, it stands at its place, and the next one stands further on in the job
-pub record ReadAt (job : List ℕ) (place : ℕ) (c : Command) (next : ℕ) : Type 0 where
-  pub plain : Plain c
-  pub here : c .place ≡ place
-  pub byte : c .byte ≡ getD job place 0
-  pub later : place < next
-  pub inside : next ≤ length job
-
--- an operand that is absent is read as 0
-absent-zero : (job : List ℕ) (place : ℕ) (k : OperandKind) → k ≡ absent → number job place (width k) ≡ 0
-unfolding number
-absent-zero job place k e = rw e
-
-pub read-at : (job : List ℕ) (place : ℕ) (c : Command) (next : ℕ) → readCommand job place ≡ whole c next → ReadAt job place c next
-unfolding readCommand
-read-at job place c next e = by-operands (operandsOf (getD job place 0)) refl e
-  where
-    by-length :
-        (kinds : List OperandKind) → operandsOf (getD job place 0) ≡ some kinds → (t : Bool) → leb (endAt place kinds) (length job) ≡ t
-        → cond t (whole (commandAt job place kinds) (endAt place kinds)) cutShort ≡ whole c next → ReadAt job place c next
-    by-length kinds o true t q =
-        let a : commandAt job place kinds ≡ c = cc in
-        let b : endAt place kinds ≡ next = cc in
-        let m = leb-true (endAt place kinds) (length job) t in
-        rw (← a)
-        (record {
-          plain =
-              record {
-                known = λ h. let w : _≡_ {A = ℕ} 0 1 = cc in omega arith;
-                first = λ h. absent-zero job (firstAt place) _ (rw o at h);
-                second = λ h. absent-zero job (secondAt place kinds) _ (rw o at h);
-                third = λ h. absent-zero job (thirdAt place kinds) _ (rw o at h);
-              };
-          here = refl;
-          byte = refl;
-          later = omega arith;
-          inside = omega arith;
-        })
-    by-length kinds o false t q = let w : _≡_ {A = ℕ} 0 1 = cc in absurd (omega arith)
-
-    by-operands : (o : Option (List OperandKind)) → operandsOf (getD job place 0) ≡ o → readAs job place o ≡ whole c next → ReadAt job place c next
-    by-operands none o q = let w : _≡_ {A = ℕ} 0 1 = cc in absurd (omega arith)
-    by-operands (some kinds) o q = by-length kinds o (leb (endAt place kinds) (length job)) refl q
-
 -- what is decoded is valid
-abbrev ValidDecoded : Decoded → Type 0
-ValidDecoded (accepted past) = Valid past
-ValidDecoded (rejected r) = Unit {0}
-
-module _ (job : List ℕ) (rest : ℕ → List Command → Decoded) (ih : (place : ℕ) (past : List Command) → Valid past → ValidDecoded (rest place past)) where
-  next-valid : (place : ℕ) (past : List Command) (c : Command) (next k : ℕ) → Valid past → Plain c → violation past c ≡ k → ValidDecoded (decodeNext rest place past c next k)
-  next-valid place past c next zero v p e = ih next (c ∷ past) (v, p, e)
-  next-valid place past c next (suc k) v p e = tt
-
-  read-valid : (place : ℕ) (past : List Command) (r : Read) → readCommand job place ≡ r → Valid past → ValidDecoded (decodeRead rest place past r)
-  read-valid place past unknown e v = tt
-  read-valid place past cutShort e v = tt
-  read-valid place past (whole c next) e v = next-valid place past c next (violation past c) v (read-at job place c next e .plain) refl
-
-either : (b : Bool) (d e : Decoded) → ValidDecoded d → ValidDecoded e → ValidDecoded (cond b d e)
-either true d e p q = p
-either false d e p q = q
-
-decode-from-valid : (fuel : ℕ) (job : List ℕ) (place : ℕ) (past : List Command) → Valid past → ValidDecoded (decodeFrom fuel job place past)
-unfolding decodeFrom
-decode-from-valid zero job place past v = v
-decode-from-valid (suc fuel) job place past v =
-    either (ltb place (length job)) _ _
-    (read-valid job (decodeFrom fuel job) (decode-from-valid fuel job) place past (readCommand job place) refl v)
-    v
-
-decode-valid : (job : List ℕ) → ValidDecoded (decode job)
-unfolding decode
-decode-valid job = either (eqb (length job) 0 || ltb 16384 (length job)) _ _ tt (decode-from-valid (length job) job 0 [] tt)
+decode-valid : (job : List ℕ) → Decides Valid (λ r. Unit {0}) (decode job)
+decode-valid job = decode-keeps job Valid (λ r. Unit {0}) (λ place past c next h e p v. (v, read-at job place c next e .plain, p)) (λ place k h l m. tt) tt tt
 
 -- an accepted job's commands are valid, after tests 1 to 8, 1 to 9 and 1 to 12
 pub decoded-valid : (job : List ℕ) (past : List Command) → decode job ≡ accepted past → Valid past
