@@ -1,8 +1,8 @@
 -- The proof of `Concluded` for every job and all buffers.
-use Prim.Native.Nat.{ℕ, zero, suc, _*_, _≤_, _<_}
-use mathlib.Core.Path.{_≡_, refl, sym, ap, _∙_}
+use Prim.Native.Nat.{ℕ, _*_, _≤_, _<_}
+use mathlib.Core.Path.{_≡_, refl, ap, _∙_}
 use mathlib.Core.Bool.{Bool, true, false, cond}
-use mathlib.Core.List.{List, [], _∷_, map}
+use mathlib.Core.List.{List, [], _∷_}
 use mathlib.Core.Option.{Option, none, some}
 use native.Mathlib.Omega.{arith}
 use lib.Dec.{ltb}
@@ -14,17 +14,17 @@ use Rattle.model.specs.Program.{Program, programOf}
 use Rattle.model.specs.State.{initialState}
 use Rattle.model.specs.Turn.{turn}
 use Rattle.model.specs.Permission.{monitoredTurn}
-use Rattle.model.specs.Run.{Run, Step, runFrom, entriesOf, monitoredRun, unmonitoredRun}
+use Rattle.model.specs.Run.{Run, Step, entriesOf, monitoredRun, unmonitoredRun}
 use Rattle.model.specs.Output.{Answer, answerIn, traceIn, snapshotBytes}
 use Rattle.model.specs.Refusal.{Refusal, refuse, Decoded, accepted, rejected, firstOf, refuseFirst, isFarJump, farJump, decode, decodeJob, Sizes, snapshotSize, workSize, shortBuffer, decodeFor}
-use Rattle.model.specs.Result.{Result, refused, ran, report, resultOf, monitored, unmonitored}
+use Rattle.model.specs.Result.{ran, report, resultOf, monitored, unmonitored}
 use Rattle.model.specs.Valid.{Valid}
-use Rattle.model.specs.Conclusion.{Refuses, Runs, Concludes, Concluded}
+use Rattle.model.specs.Conclusion.{Refuses, Concludes, Concluded}
 use Rattle.model.proofs.Reading.{read-at}
 use Rattle.model.proofs.Walking.{Decides, decode-keeps, Finds, and-then-keeps}
 use Rattle.model.proofs.Valid.{job-valid, job-fits, limits}
-use Rattle.model.proofs.Past.{length-turns}
-use Rattle.model.proofs.Decoding.{buffers-fit}
+use Rattle.model.proofs.Growth.{length-turns}
+use Rattle.model.proofs.Results.{buffers-fit}
 use Rattle.model.proofs.Stops.{turn-stops, monitored-stops, run-stops, run-not-one}
 use Rattle.model.proofs.Bounds.{RunBounded, length-trace, unmonitored-fits, monitored-fits, snapshot-fits}
 
@@ -92,15 +92,15 @@ module _
     (stops : (P : Program) (turns : List ℕ) → run P turns .stop ≤ 3)
     (bounded : (past : List Command) → Valid past → (turns : List ℕ) → RunBounded (length turns) (run (programOf past) turns))
     (job : List ℕ) (b : Sizes)
-    where
-  by-decoded : (d : Decoded) → decodeFor job b ≡ d → Decides (Inside job) (Refuses job) d → Concludes job b (resultOf run d)
-  by-decoded (rejected r) e i = i
-  by-decoded (accepted past) e i =
-      let v = job-valid job past (job-fits job b past e .0) .commands in
-      run-concludes job b past e (run (programOf past) (turnsOf past)) (stops (programOf past) (turnsOf past)) (bounded past v (turnsOf past))
+  where
+    by-decoded : (d : Decoded) → decodeFor job b ≡ d → Decides (Inside job) (Refuses job) d → Concludes job b (resultOf run d)
+    by-decoded (rejected r) e i = i
+    by-decoded (accepted past) e i =
+        let v = job-valid job past (job-fits job b past e .0) .commands in
+        run-concludes job b past e (run (programOf past) (turnsOf past)) (stops (programOf past) (turnsOf past)) (bounded past v (turnsOf past))
 
-  concludes : Concludes job b (resultOf run (decodeFor job b))
-  concludes = by-decoded (decodeFor job b) refl (refusals-inside job b)
+    concludes : Concludes job b (resultOf run (decodeFor job b))
+    concludes = by-decoded (decodeFor job b) refl (refusals-inside job b)
 
 watched-stops : (P : Program) (turns : List ℕ) → monitoredRun P turns .stop ≤ 3
 unfolding monitoredRun

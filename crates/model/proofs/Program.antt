@@ -1,13 +1,11 @@
 -- Two programs that agree everywhere are equal. A TURN command changes no program.
-use Prim.Native.Nat.{ℕ, _≤_, _<_}
-use mathlib.Core.Path.{_≡_, refl, sym, ap, _∙_}
-use mathlib.Core.Bool.{Bool, true, false, cond, not, _&&_, _||_}
-use mathlib.Core.List.{List, [], _∷_, _++_, append-nil}
-use lib.Dec.{leb, eqb}
-use borrow.Author.Tests.{eqb-true}
-use Rattle.model.specs.Table.{NODE, VAR, FUN, WIRE, ANY, ARG, READ, WRITE, START, TURN}
+use Prim.Native.Nat.{ℕ}
+use mathlib.Core.Path.{_≡_}
+use mathlib.Core.Bool.{false}
+use mathlib.Core.List.{List, _∷_, append-nil}
+use Rattle.model.specs.Table.{WIRE, ANY, ARG, READ, WRITE, TURN}
 use Rattle.model.specs.Command.{Operands, binary, ternary, Command, is}
-use Rattle.model.specs.Declared.{Instruction, only, countOf, occurs, declared, scopeOf, startOf, answerOf, openBody, belongs, handlerOf, startsOf}
+use Rattle.model.specs.Declared.{countOf, occurs, declared, handlerOf, startsOf}
 use Rattle.model.specs.Program.{Program, programOf}
 
 -- two programs that agree everywhere

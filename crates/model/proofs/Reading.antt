@@ -1,8 +1,8 @@
 -- Looking a byte up in the table by a loop over its rows, and reading one command, in the order of a program's tests.
-use Prim.Native.Nat.{ℕ, zero, suc, _+_, _*_, _≤_, _<_}
-use mathlib.Core.Path.{_≡_, refl, sym, ap, _∙_}
+use Prim.Native.Nat.{ℕ, _+_, _*_, _≤_, _<_}
+use mathlib.Core.Path.{_≡_, refl, ap, _∙_}
 use mathlib.Core.Bool.{Bool, true, false, cond}
-use mathlib.Core.List.{List, [], _∷_}
+use mathlib.Core.List.{List, []}
 use mathlib.Core.Option.{Option, none, some}
 use native.Mathlib.Omega.{arith}
 use native.Mathlib.Numerals.{add-one}
@@ -11,7 +11,7 @@ use lib.ListN.{length, getD, drop, drop-of-length-le}
 use lib.Seq.{drop-cons}
 use borrow.Author.Tests.{eq-eqb, ne-eqb, le-leb, lt-leb, leb-true}
 use Rattle.model.specs.Table.{OperandKind, absent, width, Row, row, table, rowAt, operandsIn, operandsOf, operandAt, kindAt}
-use Rattle.model.specs.Command.{Command, number, Read, whole, unknown, cutShort, endAt, firstAt, secondAt, thirdAt, commandAt, readAs, readCommand}
+use Rattle.model.specs.Command.{Command, number, whole, unknown, cutShort, endAt, firstAt, secondAt, thirdAt, commandAt, readAs, readCommand}
 use Rattle.model.specs.Valid.{Plain}
 
 -- the search for a byte, from row i on

@@ -1,13 +1,13 @@
 -- A run by a loop over its turns, and the trace that grows with it.
-use Prim.Native.Nat.{ℕ, zero, suc, _+_, _≤_, _<_}
+use Prim.Native.Nat.{ℕ, _+_, _≤_, _<_}
 use mathlib.Core.Path.{_≡_, refl, sym, ap, _∙_}
-use mathlib.Core.List.{List, [], _∷_, _++_, map, append-assoc, append-nil}
+use mathlib.Core.List.{List, [], _∷_, _++_, append-assoc, append-nil}
 use native.Mathlib.Numerals.{add-one}
 use lib.ListN.{length, getD, drop, drop-of-length-le}
 use lib.Seq.{drop-cons}
 use Rattle.model.specs.State.{State}
 use Rattle.model.specs.Turn.{Entry, entry, Turned, completed, stopped}
-use Rattle.model.specs.Run.{Step, Run, proceed, runFrom, entriesOf}
+use Rattle.model.specs.Run.{Step, Run, runFrom, entriesOf}
 use Rattle.model.specs.Output.{entryBytes, traceBytes}
 
 -- one entry more at the end of the trace

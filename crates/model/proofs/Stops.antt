@@ -1,45 +1,27 @@
 -- Which stops there are: 2 and 3 of an unmonitored turn, 1 to 3 of a monitored one, and 0 of a run whose turns ran out.
-use Prim.Native.Nat.{ℕ, _≤_}
+use Prim.Native.Nat.{ℕ}
 use mathlib.Core.Path.{_≡_}
-use mathlib.Core.Bool.{Bool, true, false, cond}
 use mathlib.Core.List.{List, [], _∷_}
 use native.Mathlib.Omega.{arith}
-use lib.Dec.{eqb, ltb}
-use lib.ListN.{length}
 use Rattle.model.specs.Program.{Program}
-use Rattle.model.specs.State.{State, idle, positionAt, waitingAt, initialState}
-use Rattle.model.specs.Turn.{Turned, completed, stopped, blocked, commandOf, turn}
-use Rattle.model.specs.Permission.{permitted, redacted, enforced, monitoredTurn}
+use Rattle.model.specs.State.{State}
+use Rattle.model.specs.Turn.{Turned, completed, stopped, turn}
+use Rattle.model.specs.Permission.{monitoredTurn}
 use Rattle.model.specs.Run.{Run, proceed, runFrom}
+use Rattle.model.proofs.Ways.{turn-by, monitored-by}
 
 -- a turn is completed, or its stop is one of these
 abbrev pub StopsBy : (ℕ → Type 0) → Turned → Type 0
 StopsBy Q (completed e s) = Unit {0}
 StopsBy Q (stopped k e) = Q k
 
--- by either outcome of a test
-either : (Q : ℕ → Type 0) (b : Bool) (t u : Turned) → StopsBy Q t → StopsBy Q u → StopsBy Q (cond b t u)
-either Q true t u p q = p
-either Q false t u p q = q
-
 -- an unmonitored turn stops by 2 or 3
 pub turn-stops : (Q : ℕ → Type 0) → Q 2 → Q 3 → (P : Program) (s : State) (n : ℕ) → StopsBy Q (turn P s n)
-unfolding turn
-turn-stops Q two three P s n =
-    either Q (eqb (positionAt s n) idle) _ _
-    (either Q (eqb (waitingAt s n) 0) (stopped 2 _) (completed _ _) two tt)
-    (either Q (ltb (positionAt s n) (length (P .handler n))) _ _
-    (either Q (blocked P s n (commandOf P n (positionAt s n))) (stopped 3 _) (completed _ _) three tt)
-    tt)
+turn-stops Q two three P s n = turn-by (StopsBy Q) P s n (λ p w. two) (λ p w. tt) (λ l b. three) (λ l b. tt) (λ l. tt)
 
 -- the lists add stop 1
-enforced-stops : (Q : ℕ → Type 0) → Q 1 → (P : Program) (t : Turned) → StopsBy Q t → StopsBy Q (enforced P t)
-enforced-stops Q one P (completed e s) h = either Q (permitted P e) (completed e s) (stopped 1 (redacted e)) tt one
-enforced-stops Q one P (stopped k e) h = h
-
 pub monitored-stops : (Q : ℕ → Type 0) → Q 1 → Q 2 → Q 3 → (P : Program) (s : State) (n : ℕ) → StopsBy Q (monitoredTurn P s n)
-unfolding monitoredTurn
-monitored-stops Q one two three P s n = enforced-stops Q one P (turn P s n) (turn-stops Q two three P s n)
+monitored-stops Q one two three P s n = monitored-by (StopsBy Q) P s n (turn-stops Q two three P s n) (λ e. one)
 
 -- a run stops by 0 or as its rule does
 proceed-stops : (Q : ℕ → Type 0) (rest : State → Run) (s : State) (t : Turned) → StopsBy Q t → ((s′ : State) → Q (rest s′ .stop)) → Q (proceed rest s t .stop)

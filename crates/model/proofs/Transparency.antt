@@ -3,20 +3,19 @@ use Prim.Native.Nat.{ℕ, zero, suc, _<_, _≤_, zero-le, suc-le-suc}
 use mathlib.Core.Path.{_≡_, refl, sym, ap, subst, _∙_}
 use mathlib.Core.Logic.{_↔_, _⊎_, inl, inr}
 use mathlib.Core.Bool.{Bool, true, false, cond}
-use mathlib.Core.List.{List, [], _∷_, map}
+use mathlib.Core.List.{List, [], _∷_}
 use native.Mathlib.Omega.{arith}
 use native.Mathlib.Nat.{not-suc-le-zero, le-of-suc-le-suc}
-use lib.ListN.{length, take, getD, length-take}
+use lib.ListN.{length, take, length-take}
 use lib.Seq.{length-take-le, getD-take}
-use Rattle.model.specs.Command.{Command}
 use Rattle.model.specs.Declared.{turnsOf}
 use Rattle.model.specs.Program.{Program, programOf}
 use Rattle.model.specs.State.{State, initialState}
 use Rattle.model.specs.Turn.{Entry, entry, Turned, completed, stopped, turn}
 use Rattle.model.specs.Permission.{permitted, redacted, enforced, monitoredTurn}
-use Rattle.model.specs.Run.{Run, Step, ended, after, proceed, runFrom, entriesOf, entryAt, stateAt, monitoredRun, unmonitoredRun}
+use Rattle.model.specs.Run.{Run, Step, after, proceed, runFrom, entriesOf, entryAt, stateAt, monitoredRun, unmonitoredRun}
 use Rattle.model.specs.Refusal.{Refusal, Decoded, accepted, rejected, Sizes, decodeFor}
-use Rattle.model.specs.Result.{Result, refused, ran, report, resultOf, monitored, unmonitored}
+use Rattle.model.specs.Result.{refused, report, resultOf, monitored, unmonitored}
 use Rattle.model.specs.Transparency.{AllPermitted, Forbidden, FirstForbidden, stoppedAt, Comparison, Transparent}
 use Rattle.model.proofs.Logic.{not-both}
 use Rattle.model.proofs.Stops.{run-not-one}

@@ -1,17 +1,17 @@
 -- What a turn comes to, from the tests that lead there; sends by a loop over the targets.
 use Prim.Native.Nat.{ℕ, zero, suc, _+_, _≤_, _<_}
-use mathlib.Core.Path.{_≡_, refl, sym, ap, _∙_}
-use mathlib.Core.Bool.{Bool, true, false, cond, _&&_, _||_}
+use mathlib.Core.Path.{_≡_, refl, ap, _∙_}
+use mathlib.Core.Bool.{Bool, true, false, cond, _||_}
 use mathlib.Core.List.{List, [], _∷_, _++_}
 use native.Mathlib.Omega.{arith}
-use lib.Dec.{leb, ltb, eqb}
+use lib.Dec.{eqb}
 use lib.ListN.{length, getD, set, length-set}
-use lib.Seq.{getD-set-same, getD-set-other}
+use lib.Seq.{getD-set-other}
 use borrow.Author.Tests.{eqb-true, eqb-false, eq-eqb, ne-eqb, lt-ltb, le-ltb}
 use Rattle.model.specs.Declared.{Instruction}
 use Rattle.model.specs.Program.{Program}
 use Rattle.model.specs.State.{State, idle, positionAt, waitingAt}
-use Rattle.model.specs.Turn.{Entry, entry, Turned, completed, stopped, oldest, begun, finished, someBelow, delivered, performed, entryOf, blocked, executed, started, commandOf, turn}
+use Rattle.model.specs.Turn.{Entry, entry, completed, stopped, oldest, begun, finished, someBelow, delivered, performed, entryOf, blocked, executed, started, commandOf, turn}
 use Rattle.model.specs.Permission.{permitted, redacted, enforced, monitoredTurn}
 use Rattle.model.proofs.Logic.{or-left, or-right}
 

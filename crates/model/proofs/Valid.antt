@@ -1,22 +1,20 @@
 -- The commands of every accepted job passed the tests 2 to 8; their counts keep the limits and their operands are in range.
-use Prim.Native.Nat.{ℕ, zero, suc, _+_, _≤_, _<_, zero-le}
-use mathlib.Core.Path.{_≡_, refl, sym, ap, subst, _∙_}
-use mathlib.Core.Bool.{Bool, true, false, cond, not, _&&_, _||_}
-use mathlib.Core.List.{List, [], _∷_, _++_}
+use Prim.Native.Nat.{ℕ, suc, _+_, _≤_, _<_, zero-le}
+use mathlib.Core.Path.{_≡_, refl}
+use mathlib.Core.Bool.{Bool, true, false, cond, not, _&&_}
+use mathlib.Core.List.{List, [], _∷_}
 use mathlib.Core.Option.{Option, none, some}
 use native.Mathlib.Omega.{arith}
-use lib.Dec.{leb, ltb, eqb}
-use lib.ListN.{length, getD, length-append, List·getD-append}
-use lib.Seq.{getD-at}
-use borrow.Author.Tests.{leb-false, leb-true, ltb-false, ltb-true, eqb-true, eqb-false}
-use Rattle.model.specs.Table.{FLOW, NODE, VAR, FUN, ARG, BODY, START, TURN, OperandKind, scope, owner, start, answer, node, port, target, function, value, variable, jump, absent, operandsIn, operandsOf, operandAt, listOf, kindAt, width, limit, isAmong, largestIn, largestOf, maxFlows, maxNodes, maxVariables, maxFunctions, maxHandler, maxArguments, maxTurns}
-use Rattle.model.specs.Command.{Command, is, number, Read, whole, unknown, cutShort, endAt, firstAt, secondAt, thirdAt, commandAt, readAs, readCommand}
-use Rattle.model.specs.Declared.{only, countOf, countAmong, occurs, isSame, isHandler, openBody, belongs, bodyLength, Instruction, instruction, handlerOf, startsOf, turnsOf}
-use Rattle.model.specs.Refusal.{anyOf, groupFalls, isReached, exceedsCount, Counts, countsOf, noOwner, namesNothing, undeclared, outOfReach, repeated, violation, Refusal, refuse, Decoded, accepted, rejected, decodeNext, decodeRead, decodeFrom, decode, acceptUnless, andThen, farJump, decodeJob, Sizes, shortBuffer, decodeFor}
-use Rattle.model.specs.Valid.{InRange, Plain, Valid, Passes, ValidJob, Named, NamedInstruction, Limits}
+use lib.Dec.{leb, eqb}
+use borrow.Author.Tests.{leb-false, ltb-false, eqb-true}
+use Rattle.model.specs.Table.{FLOW, NODE, VAR, FUN, ARG, TURN, OperandKind, scope, owner, start, answer, node, port, target, function, value, variable, jump, absent, limit, isAmong, largestIn, largestOf, maxFlows, maxNodes, maxVariables, maxFunctions, maxArguments, maxTurns}
+use Rattle.model.specs.Command.{Command, is}
+use Rattle.model.specs.Declared.{countOf, countAmong, isHandler, openBody, belongs, bodyLength}
+use Rattle.model.specs.Refusal.{groupFalls, isReached, exceedsCount, countsOf, noOwner, namesNothing, undeclared, outOfReach, repeated, violation, Refusal, Decoded, accepted, rejected, decode, acceptUnless, andThen, farJump, decodeJob, Sizes, shortBuffer, decodeFor}
+use Rattle.model.specs.Valid.{InRange, Valid, Passes, ValidJob, Named, Limits}
 use Rattle.model.proofs.Reading.{read-at}
 use Rattle.model.proofs.Walking.{Decides, decode-keeps}
-use Rattle.model.proofs.Logic.{true-false, not-both, or-left, or-right, and-false, and-left, and-right, none-of}
+use Rattle.model.proofs.Logic.{true-false, and-false, and-left, and-right, none-of}
 
 -- no refusal: the test is false, and the later tests refuse nothing
 cond-false : (b : Bool) (k m : ℕ) → cond b (suc k) m ≡ 0 → (b ≡ false) × (m ≡ 0)

@@ -43,28 +43,28 @@ module _
     (job : List ℕ) (Q : List Command → Type 0) (R : Refusal → Type 0)
     (grows : (place : ℕ) (past : List Command) (c : Command) (next : ℕ) → place < length job → readCommand job place ≡ whole c next → violation past c ≡ 0 → Q past → Q (c ∷ past))
     (refuses : (place k : ℕ) → place < length job → 2 ≤ k → k ≤ 8 → R (refuse k place))
-    where
-  module _ (rest : ℕ → List Command → Decoded) (ih : (place : ℕ) (past : List Command) → Q past → Decides Q R (rest place past)) (place : ℕ) (past : List Command) (h : place < length job) (q : Q past) where
-    next-keeps : (c : Command) (next k : ℕ) → readCommand job place ≡ whole c next → violation past c ≡ k → Allowed k → Decides Q R (decodeNext rest place past c next k)
-    next-keeps c next zero e v l = ih next (c ∷ past) (grows place past c next h e v q)
-    next-keeps c next (suc k) e v l = let m = l (λ z. omega arith) in refuses place (suc k) h (omega arith) (omega arith)
+  where
+    module _ (rest : ℕ → List Command → Decoded) (ih : (place : ℕ) (past : List Command) → Q past → Decides Q R (rest place past)) (place : ℕ) (past : List Command) (h : place < length job) (q : Q past) where
+      next-keeps : (c : Command) (next k : ℕ) → readCommand job place ≡ whole c next → violation past c ≡ k → Allowed k → Decides Q R (decodeNext rest place past c next k)
+      next-keeps c next zero e v l = ih next (c ∷ past) (grows place past c next h e v q)
+      next-keeps c next (suc k) e v l = let m = l (λ z. omega arith) in refuses place (suc k) h (omega arith) (omega arith)
 
-    read-keeps : (r : Read) → readCommand job place ≡ r → Decides Q R (decodeRead rest place past r)
-    read-keeps unknown e = refuses place 2 h (omega arith) (omega arith)
-    read-keeps cutShort e = refuses place 3 h (omega arith) (omega arith)
-    read-keeps (whole c next) e = next-keeps c next (violation past c) e refl (violation-allowed past c)
+      read-keeps : (r : Read) → readCommand job place ≡ r → Decides Q R (decodeRead rest place past r)
+      read-keeps unknown e = refuses place 2 h (omega arith) (omega arith)
+      read-keeps cutShort e = refuses place 3 h (omega arith) (omega arith)
+      read-keeps (whole c next) e = next-keeps c next (violation past c) e refl (violation-allowed past c)
 
-  decode-from-keeps : (fuel place : ℕ) (past : List Command) → Q past → Decides Q R (decodeFrom fuel job place past)
-  unfolding decodeFrom
-  decode-from-keeps zero place past q = q
-  decode-from-keeps (suc fuel) place past q =
-      either Q R (ltb place (length job)) _ _
-      (λ t. read-keeps (decodeFrom fuel job) (decode-from-keeps fuel) place past (ltb-true place (length job) t) q (readCommand job place) refl)
-      (λ _. q)
+    decode-from-keeps : (fuel place : ℕ) (past : List Command) → Q past → Decides Q R (decodeFrom fuel job place past)
+    unfolding decodeFrom
+    decode-from-keeps zero place past q = q
+    decode-from-keeps (suc fuel) place past q =
+        either Q R (ltb place (length job)) _ _
+        (λ t. read-keeps (decodeFrom fuel job) (decode-from-keeps fuel) place past (ltb-true place (length job) t) q (readCommand job place) refl)
+        (λ _. q)
 
-  pub decode-keeps : Q [] → R (refuse 1 0) → Decides Q R (decode job)
-  unfolding decode
-  decode-keeps q r = either Q R (eqb (length job) 0 || ltb maxJob (length job)) _ _ (λ _. r) (λ _. decode-from-keeps (length job) 0 [] q)
+    pub decode-keeps : Q [] → R (refuse 1 0) → Decides Q R (decode job)
+    unfolding decode
+    decode-keeps q r = either Q R (eqb (length job) 0 || ltb maxJob (length job)) _ _ (λ _. r) (λ _. decode-from-keeps (length job) 0 [] q)
 
 -- a further test
 abbrev pub Finds : (Refusal → Type 0) → Option Refusal → Type 0

@@ -1,5 +1,5 @@
 -- Demand 2 of the definitions: a run goes by the rule for one turn, each turn on the state that the last one left, until a stop.
-use Prim.Native.Nat.{ℕ, suc, _≤_, _<_}
+use Prim.Native.Nat.{ℕ, suc, _<_}
 use mathlib.Core.Path.{_≡_}
 use mathlib.Core.Logic.{_⊎_}
 use mathlib.Core.List.{List}

@@ -1,11 +1,10 @@
 -- What holds of the commands of every accepted job, and of every state of its runs: what proofs about code rest on. No definition above uses it.
 use Prim.Native.Nat.{ℕ, _≤_, _<_}
 use mathlib.Core.Path.{_≡_}
-use mathlib.Core.Bool.{Bool, true, false, _&&_}
+use mathlib.Core.Bool.{true, false, _&&_}
 use mathlib.Core.List.{List, [], _∷_}
-use mathlib.Core.Option.{Option, none, some}
+use mathlib.Core.Option.{none}
 use lib.Dec.{leb}
-use lib.ListN.{length, getD}
 use Rattle.model.specs.Table.{FLOW, NODE, VAR, FUN, ARG, SET, SKIP, TURN, OperandKind, scope, owner, start, answer, node, port, target, function, value, variable, jump, absent, operandsOf, kindAt, maxFlows, maxNodes, maxVariables, maxFunctions, maxHandler, maxArguments, maxTurns, maxPort, maxWaiting}
 use Rattle.model.specs.Command.{Operands, Command}
 use Rattle.model.specs.Declared.{Instruction, countOf, bodyLength}

@@ -1,0 +1,76 @@
+-- Laws of lists that the definitions make: lists that grow by `only`, tables, one element set.
+use Prim.Native.Nat.{ℕ, zero, suc, _+_, _≤_, _<_}
+use mathlib.Core.Path.{_≡_, refl, sym, ap, _∙_}
+use mathlib.Core.Bool.{Bool, true, false, cond}
+use mathlib.Core.List.{List, [], _∷_, _++_, append-nil}
+use native.Mathlib.Omega.{arith}
+use lib.Dec.{ltb, eqb}
+use lib.ListN.{length, getD, set, replicate, length-append, List·getD-append, List·getD-eq-default}
+use lib.Seq.{getD-at}
+use borrow.Author.Tests.{ltb-true, ltb-false, eqb-true, eqb-false}
+use Rattle.model.specs.Declared.{only}
+use Rattle.model.specs.State.{tabulate}
+
+-- a list with one more element, or none
+pub length-only : {A : Type 0} (l : List A) (t : Bool) (a : A) → length (l ++ only t a) ≡ cond t (length l + 1) (length l)
+length-only l true a = length-append l (a ∷ [])
+length-only l false a = ap length (append-nil l)
+
+-- a property of each of its elements
+pub only-each :
+    {A : Type 0} (Q : A → Type 0) (d : A) (l : List A) (t : Bool) (a : A)
+    → ((i : ℕ) → i < length l → Q (getD l i d)) → (t ≡ true → Q a)
+    → (i : ℕ) → i < length (l ++ only t a) → Q (getD (l ++ only t a) i d)
+only-each Q d l false a older new i h = rw (append-nil l) (older i (rw (append-nil l) at h))
+only-each {A} Q d l true a older new i h = by-place (ltb i (length l)) refl
+  where
+    by-place : (b : Bool) → ltb i (length l) ≡ b → Q (getD (l ++ (a ∷ [])) i d)
+    by-place true q = rw (List·getD-append l (a ∷ []) d i (ltb-true i (length l) q)) (older i (ltb-true i (length l) q))
+    by-place false q =
+        let last : length l ≡ i = omega (arith, ltb-false i (length l) q, length-append l (a ∷ [])) in
+        rw (getD-at l a [] d i last) (new refl)
+
+-- a table has as many elements as it says
+pub length-tabulate : {A : Type 0} (k : ℕ) (f : ℕ → A) → length (tabulate k f) ≡ k
+unfolding tabulate
+length-tabulate zero f = refl
+length-tabulate (suc k) f = omega (arith, length-append (tabulate k f) (f k ∷ []), length-tabulate k f)
+
+-- the elements of a table
+pub getD-tabulate-out : {A : Type 0} (k t : ℕ) (f : ℕ → A) (d : A) → k ≤ t → getD (tabulate k f) t d ≡ d
+getD-tabulate-out k t f d h = List·getD-eq-default (tabulate k f) d (omega (arith, length-tabulate k f))
+
+pub getD-tabulate : {A : Type 0} (k t : ℕ) (f : ℕ → A) (d : A) → t < k → getD (tabulate k f) t d ≡ f t
+unfolding tabulate
+getD-tabulate zero t f d h = absurd (omega arith)
+getD-tabulate {A} (suc k) t f d h = by-last (getD-tabulate k t f d) (eqb t k) refl
+  where
+    by-last : (t < k → getD (tabulate k f) t d ≡ f t) → (b : Bool) → eqb t k ≡ b → getD (tabulate k f ++ (f k ∷ [])) t d ≡ f t
+    by-last ih true e =
+        let same : t ≡ k = eqb-true t k e in
+        getD-at (tabulate k f) (f k) [] d t (length-tabulate k f ∙ sym same) ∙ ap f (sym same)
+    by-last ih false e =
+        let below : t < k = omega (arith, eqb-false t k e) in
+        List·getD-append (tabulate k f) (f k ∷ []) d t (omega (arith, length-tabulate k f)) ∙ ih below
+
+-- one element set, where the others keep a property
+pub set-each : {A : Type 0} (Q : ℕ → A → Type 0) (d : A) (l : List A) (n : ℕ) (p : A) → Q n p → ((m : ℕ) → Q m (getD l m d)) → (m : ℕ) → Q m (getD (set l n p) m d)
+set-each Q d [] n p q h m = h m
+set-each Q d (a ∷ l) zero p q h zero = q
+set-each Q d (a ∷ l) zero p q h (suc m) = h (suc m)
+set-each Q d (a ∷ l) (suc n) p q h zero = h zero
+set-each Q d (a ∷ l) (suc n) p q h (suc m) = set-each (λ k. Q (suc k)) d l n p q (λ k. h (suc k)) m
+
+-- a table whose elements have a property, and the default outside
+pub tabulate-each : {A : Type 0} (Q : ℕ → A → Type 0) (d : A) (k : ℕ) (f : ℕ → A) → ((m : ℕ) → Q m (f m)) → ((m : ℕ) → Q m d) → (m : ℕ) → Q m (getD (tabulate k f) m d)
+tabulate-each {A} Q d k f h z m = by-range (ltb m k) refl
+  where
+    by-range : (b : Bool) → ltb m k ≡ b → Q m (getD (tabulate k f) m d)
+    by-range true e = rw (getD-tabulate k m f d (ltb-true m k e)) (h m)
+    by-range false e = rw (getD-tabulate-out k m f d (ltb-false m k e)) (z m)
+
+-- the same of a list of one value
+pub replicate-each : {A : Type 0} (Q : ℕ → A → Type 0) (d : A) (k : ℕ) (a : A) → ((m : ℕ) → Q m a) → ((m : ℕ) → Q m d) → (m : ℕ) → Q m (getD (replicate k a) m d)
+replicate-each Q d zero a q z m = z m
+replicate-each Q d (suc k) a q z zero = q zero
+replicate-each Q d (suc k) a q z (suc m) = replicate-each (λ j. Q (suc j)) d k a (λ j. q (suc j)) (λ j. z (suc j)) m

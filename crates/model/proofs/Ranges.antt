@@ -1,0 +1,147 @@
+-- What lies inside the range of what is declared, and that nothing lies outside, in every accepted job.
+use Prim.Native.Nat.{ℕ, _-_, _≤_, _<_, zero-le}
+use mathlib.Core.Path.{_≡_, refl, sym, ap, _∙_}
+use mathlib.Core.Bool.{Bool, true, false, cond, _&&_, _||_}
+use mathlib.Core.List.{List, [], _∷_, _++_}
+use native.Mathlib.Omega.{arith}
+use lib.Dec.{ltb, eqb}
+use lib.ListN.{length, getD, length-append}
+use borrow.Author.Tests.{leb-false, ltb-true, ltb-false, eqb-true, eqb-false, ne-eqb}
+use Rattle.model.specs.Table.{FLOW, NODE, BODY, START, TURN, node, operandsIn, operandsOf, kindAt}
+use Rattle.model.specs.Command.{Operands, Command, is}
+use Rattle.model.specs.Declared.{only, countOf, isSame, occurs, flowOf, isHandler, openBody, belongs, instruction, handlerOf, startsOf, startedIn, turnsOf}
+use Rattle.model.specs.Refusal.{countsOf, namesNothing}
+use Rattle.model.specs.Valid.{Valid, Named, NamedInstruction}
+use Rattle.model.proofs.Logic.{true-false, or-left, or-right, and-false, and-left, and-right, none-of}
+use Rattle.model.proofs.Lists.{only-each}
+use Rattle.model.proofs.Growth.{count-grows, declared-older}
+use Rattle.model.proofs.Valid.{passes, named}
+
+-- a command with the operands of another is in the same range
+same-named : (b : ℕ) (x : Operands) (c : Command) → isSame b x c ≡ true → Named (c .byte) (c .operands) → Named b x
+same-named b x c e n =
+    let t = and-right (is b c) _ e in
+    let u = and-right (eqb (c .operands .first) (x .first)) _ t in
+    let p : c .byte ≡ b = eqb-true (c .byte) b (and-left (is b c) _ e) in
+    let q : c .operands .first ≡ x .first = eqb-true (c .operands .first) (x .first) (and-left (eqb (c .operands .first) (x .first)) _ t) in
+    let r : c .operands .second ≡ x .second = eqb-true (c .operands .second) (x .second) (and-left (eqb (c .operands .second) (x .second)) _ u) in
+    let s : c .operands .third ≡ x .third = eqb-true (c .operands .third) (x .third) (and-right (eqb (c .operands .second) (x .second)) _ u) in
+    record { first = rw (p, q) at (n .first); second = rw (p, r) at (n .second); third = rw (p, s) at (n .third) }
+
+-- what occurs is in range, so that a table that ends there misses nothing
+pub occurs-inside : (past : List Command) → Valid past → (b : ℕ) (x : Operands) → occurs b x past ≡ true → Named b x
+unfolding occurs
+occurs-inside [] v b x e = true-false (sym e)
+occurs-inside (c ∷ past) v b x e = by-command (isSame b x c) refl e (occurs-inside past (v .0) b x)
+  where
+    by-command : (t : Bool) → isSame b x c ≡ t → (t || occurs b x past) ≡ true → (occurs b x past ≡ true → Named b x) → Named b x
+    by-command true p q ih = same-named b x c p (named past c v)
+    by-command false p q ih = ih q
+
+pub occurs-outside : (past : List Command) → Valid past → (b : ℕ) (x : Operands) → ¬ Named b x → occurs b x past ≡ false
+occurs-outside past v b x n = by-test (occurs b x past) refl
+  where
+    by-test : (t : Bool) → occurs b x past ≡ t → t ≡ false
+    by-test true e = absurd (n (occurs-inside past v b x e))
+    by-test false e = refl
+
+-- the open handler is a node's
+pub open-inside : (past : List Command) → Valid past → openBody past < 32
+unfolding openBody operandsOf operandsIn
+open-inside [] v = omega arith
+open-inside (c ∷ past) v = by-body (is BODY c) refl (open-inside past (v .0))
+  where
+    by-body : (t : Bool) → is BODY c ≡ t → openBody past < 32 → cond t (c .operands .first) (openBody past) < 32
+    by-body true e h = let p : c .byte ≡ BODY = eqb-true (c .byte) BODY e in rw p at (named past c v .first)
+    by-body false e h = h
+
+-- no node from 32 on has a handler
+pub handler-outside : (past : List Command) → Valid past → (n : ℕ) → 32 ≤ n → handlerOf past n ≡ []
+unfolding handlerOf
+handler-outside [] v n h = refl
+handler-outside (c ∷ past) v n h =
+    let far : belongs past c n ≡ false = by-handler (isHandler c) (ne-eqb (openBody past) n (λ e. omega (arith, open-inside past (v .0)))) in
+    rw (far, handler-outside past (v .0) n h)
+  where
+    by-handler : (t : Bool) → eqb (openBody past) n ≡ false → (t && eqb (openBody past) n) ≡ false
+    by-handler true e = e
+    by-handler false e = refl
+
+-- an instruction of a handler names what is in range
+pub handler-named : (past : List Command) → Valid past → (n i : ℕ) → i < length (handlerOf past n) → NamedInstruction (getD (handlerOf past n) i (instruction 0 0))
+unfolding handlerOf
+handler-named [] v n = λ i h. absurd (omega arith)
+handler-named (c ∷ past) v n =
+    only-each NamedInstruction (instruction 0 0) (handlerOf past n) (belongs past c n) (instruction (c .byte) (c .operands .first)) (handler-named past (v .0) n)
+    (λ p. record { handler = and-left (isHandler c) _ p; operand = named past c v .first })
+
+-- a command whose first operand is a node names a declared one
+pub names-node : (past : List Command) (c : Command) → Valid (c ∷ past) → kindAt (c .byte) 0 ≡ node → c .operands .first < countOf NODE past
+names-node past c v e =
+    let h : namesNothing (countsOf past) (c .operands .first) (kindAt (c .byte) 0) (c .operands .first) ≡ false = none-of 2 _ (passes past c (v .2) .declares) in
+    leb-false (countOf NODE past) (c .operands .first) (rw e at h)
+
+-- the node of every turn is declared
+pub turns-inside : (past : List Command) → Valid past → (i : ℕ) → i < length (turnsOf past) → getD (turnsOf past) i 0 < countOf NODE past
+unfolding turnsOf operandsOf operandsIn
+turns-inside [] v = λ i h. absurd (omega arith)
+turns-inside (c ∷ past) v =
+    only-each (λ n. n < countOf NODE (c ∷ past)) 0 (turnsOf past) (is TURN c) (c .operands .first)
+    (λ i h. omega (arith, turns-inside past (v .0) i h, count-grows NODE c past))
+    (λ p.
+    let turn : c .byte ≡ TURN = eqb-true (c .byte) TURN p in
+    let g : c .operands .first < countOf NODE past = names-node past c v (rw turn) in
+    omega (arith, count-grows NODE c past))
+
+-- a first message is that of a declared node
+start-inside : (past : List Command) (c : Command) → Valid (c ∷ past) → (n : ℕ) → (is START c && eqb (c .operands .first) n) ≡ true → n < countOf NODE past
+unfolding operandsOf operandsIn
+start-inside past c v n p =
+    let start : c .byte ≡ START = eqb-true (c .byte) START (and-left (is START c) _ p) in
+    let here : c .operands .first ≡ n = eqb-true (c .operands .first) n (and-right (is START c) _ p) in
+    let g : c .operands .first < countOf NODE past = names-node past c v (rw start) in
+    rw (← here) g
+
+-- no node that is not declared has a first message
+pub starts-outside : (past : List Command) → Valid past → (n : ℕ) → countOf NODE past ≤ n → startsOf past n ≡ []
+unfolding startsOf
+starts-outside [] v n h = refl
+starts-outside (c ∷ past) v n h = by-start (is START c && eqb (c .operands .first) n) refl (starts-outside past (v .0) n (omega (arith, count-grows NODE c past)))
+  where
+    by-start : (t : Bool) → (is START c && eqb (c .operands .first) n) ≡ t → startsOf past n ≡ [] → startsOf past n ++ only t (c .operands .second) ≡ []
+    by-start false p ih = rw ih
+    by-start true p ih = absurd (omega (arith, count-grows NODE c past, start-inside past c v n p))
+
+-- no START in the flow of a node: no first message
+no-starts : (past : List Command) → Valid past → (n : ℕ) → startedIn past (flowOf past n) ≡ false → startsOf past n ≡ []
+unfolding startsOf startedIn
+no-starts [] v n e = refl
+no-starts (c ∷ past) v n e = rw (fresh (is START c && eqb (c .operands .first) n) refl, older (ltb n (countOf NODE past)) refl (no-starts past (v .0) n))
+  where
+    fresh : (t : Bool) → (is START c && eqb (c .operands .first) n) ≡ t → (is START c && eqb (c .operands .first) n) ≡ false
+    fresh false p = p
+    fresh true p =
+        let here : c .operands .first ≡ n = eqb-true (c .operands .first) n (and-right (is START c) _ p) in
+        let same = declared-older (λ c before. countOf FLOW before - 1) NODE c past n (start-inside past c v n p) in
+        let miss : eqb (flowOf past (c .operands .first)) (flowOf (c ∷ past) n) ≡ false = and-false (is START c) _ (and-left (is START c) _ p) (or-left _ _ e) in
+        absurd (eqb-false _ _ miss (ap (flowOf past) here ∙ sym same))
+
+    older : (t : Bool) → ltb n (countOf NODE past) ≡ t → (startedIn past (flowOf past n) ≡ false → startsOf past n ≡ []) → startsOf past n ≡ []
+    older true p ih =
+        let same = declared-older (λ c before. countOf FLOW before - 1) NODE c past n (ltb-true n (countOf NODE past) p) in
+        ih (rw same at (or-right (is START c && eqb (flowOf past (c .operands .first)) (flowOf (c ∷ past) n)) _ e))
+    older false p ih = starts-outside past (v .0) n (ltb-false n (countOf NODE past) p)
+
+-- a node has at most one first message
+pub starts-one : (past : List Command) → Valid past → (n : ℕ) → length (startsOf past n) ≤ 1
+unfolding startsOf
+starts-one [] v n = zero-le
+starts-one (c ∷ past) v n = by-start (is START c && eqb (c .operands .first) n) refl (starts-one past (v .0) n)
+  where
+    by-start : (t : Bool) → (is START c && eqb (c .operands .first) n) ≡ t → length (startsOf past n) ≤ 1 → length (startsOf past n ++ only t (c .operands .second)) ≤ 1
+    by-start false p ih = omega (arith, length-append (startsOf past n) [])
+    by-start true p ih =
+        let here : c .operands .first ≡ n = eqb-true (c .operands .first) n (and-right (is START c) _ p) in
+        let none : startedIn past (flowOf past (c .operands .first)) ≡ false = and-false (is START c) _ (and-left (is START c) _ p) (none-of 1 _ (passes past c (v .2) .fresh)) in
+        let empty : startsOf past n ≡ [] = no-starts past (v .0) n (rw here at none) in
+        rw empty (omega arith)

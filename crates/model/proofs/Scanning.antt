@@ -1,0 +1,112 @@
+-- A later test by a second loop over the commands of an accepted job.
+use Prim.Native.Nat.{ℕ, zero, suc, _+_, _≤_, _<_}
+use mathlib.Core.Path.{_≡_, refl, sym, _∙_}
+use mathlib.Core.Bool.{Bool, true, false, cond, _||_}
+use mathlib.Core.List.{List, [], _∷_}
+use mathlib.Core.Option.{none, some}
+use native.Mathlib.Omega.{arith}
+use lib.Dec.{ltb, eqb}
+use lib.ListN.{length}
+use borrow.Author.Tests.{lt-ltb, ltb-true}
+use Rattle.model.specs.Command.{Command, Read, whole, unknown, cutShort, readCommand}
+use Rattle.model.specs.Refusal.{violation, Refusal, refuse, accepted, rejected, decodeNext, decodeRead, decodeFrom, decode, refuseFirst}
+use Rattle.model.proofs.Reading.{read-at}
+use Rattle.model.proofs.Decoding.{decode-end, fuel-left}
+
+-- a later test by a second look at the commands: none of those so far is found, and the rest of an accepted job follows
+pub record Scanning (k : ℕ) (test : List Command → Command → Bool) (job : List ℕ) (all : List Command) (place : ℕ) (past : List Command) : Type 0 where
+  pub fuel : ℕ
+  pub enough : length job ≤ place + fuel
+  pub goesOn : decodeFrom fuel job place past ≡ accepted all
+  pub fine : refuseFirst k test past ≡ none
+
+-- at the start
+pub scanning-start : (k : ℕ) (test : List Command → Command → Bool) (job : List ℕ) (all : List Command) → decode job ≡ accepted all → Scanning k test job all 0 []
+unfolding decode refuseFirst
+scanning-start k test job all e = record { fuel = length job; enough = omega arith; goesOn = by-length (eqb (length job) 0 || ltb 16384 (length job)) e; fine = refl }
+  where
+    by-length : (t : Bool) → cond t (rejected (refuse 1 0)) (decodeFrom (length job) job 0 []) ≡ accepted all → decodeFrom (length job) job 0 [] ≡ accepted all
+    by-length true q = let w : _≡_ {A = ℕ} 0 1 = cc in absurd (omega arith)
+    by-length false q = q
+
+-- what is read inside an accepted job is a command that passes
+pub record Passing (fuel : ℕ) (job : List ℕ) (place : ℕ) (past all : List Command) : Type 0 where
+  pub command : Command
+  pub next : ℕ
+  pub isRead : readCommand job place ≡ whole command next
+  pub goesOn : decodeFrom fuel job next (command ∷ past) ≡ accepted all
+
+passing-next :
+    (fuel : ℕ) (job : List ℕ) (place : ℕ) (past all : List Command) (c : Command) (next k : ℕ)
+    → readCommand job place ≡ whole c next → decodeNext (decodeFrom fuel job) place past c next k ≡ accepted all → Passing fuel job place past all
+passing-next fuel job place past all c next zero r e = record { command = c; next = next; isRead = r; goesOn = e }
+passing-next fuel job place past all c next (suc k) r e = let w : _≡_ {A = ℕ} 0 1 = cc in absurd (omega arith)
+
+passing-read :
+    (fuel : ℕ) (job : List ℕ) (place : ℕ) (past all : List Command) (r : Read)
+    → readCommand job place ≡ r → decodeRead (decodeFrom fuel job) place past r ≡ accepted all → Passing fuel job place past all
+passing-read fuel job place past all unknown r e = let w : _≡_ {A = ℕ} 0 1 = cc in absurd (omega arith)
+passing-read fuel job place past all cutShort r e = let w : _≡_ {A = ℕ} 0 1 = cc in absurd (omega arith)
+passing-read fuel job place past all (whole c next) r e = passing-next fuel job place past all c next (violation past c) r e
+
+pub passing : (fuel : ℕ) (job : List ℕ) (place : ℕ) (past all : List Command) → place < length job → decodeFrom (suc fuel) job place past ≡ accepted all → Passing fuel job place past all
+unfolding decodeFrom
+passing fuel job place past all h e = passing-read fuel job place past all (readCommand job place) refl (rw (lt-ltb place (length job) h) at e)
+
+-- a command found so far is the first one of all
+pub found-stays :
+    (k : ℕ) (test : List Command → Command → Bool) (job : List ℕ) (all : List Command) (r : Refusal) (fuel place : ℕ) (past : List Command)
+    → decodeFrom fuel job place past ≡ accepted all → refuseFirst k test past ≡ some r → refuseFirst k test all ≡ some r
+unfolding decodeFrom refuseFirst
+found-stays k test job all r zero place past e f = let q : past ≡ all = cc in rw q at f
+found-stays k test job all r (suc fuel) place past e f = by-place (ltb place (length job)) refl (found-stays k test job all r fuel)
+  where
+    by-place :
+        (t : Bool) → ltb place (length job) ≡ t
+        → ((place : ℕ) (past : List Command) → decodeFrom fuel job place past ≡ accepted all → refuseFirst k test past ≡ some r → refuseFirst k test all ≡ some r)
+        → refuseFirst k test all ≡ some r
+    by-place true t ih =
+        let p = passing fuel job place past all (ltb-true place (length job) t) e in
+        ih (p .next) (p .command ∷ past) (p .goesOn) (rw f)
+    by-place false t ih = let z = rw t at e in let q : past ≡ all = cc in rw q at f
+
+module _ (k : ℕ) (test : List Command → Command → Bool) (job : List ℕ) (all : List Command) (place : ℕ) (past : List Command) (s : Scanning k test job all place past) where
+  -- at the end
+  pub scanning-end : length job ≤ place → refuseFirst k test all ≡ none
+  scanning-end h =
+      let z = sym (decode-end (s .fuel) job place past h) ∙ s .goesOn in
+      let q : past ≡ all = cc in
+      rw q at (s .fine)
+
+  module _ (h : place < length job) where
+    left-over : (f : ℕ) × (decodeFrom (suc f) job place past ≡ accepted all) × (s .fuel ≡ suc f)
+    left-over = let f = fuel-left job place (s .fuel) h (s .enough) in (f .0, rw (f .1) at (s .goesOn), f .1)
+
+    -- what is read is a command
+    pub scanning-reads : (c : Command) × (next : ℕ) × (readCommand job place ≡ whole c next)
+    scanning-reads = let p = passing (left-over .0) job place past all h (left-over .1) in (p .command, p .next, p .isRead)
+
+    module _ (c : Command) (next : ℕ) (e : readCommand job place ≡ whole c next) where
+      went : decodeFrom (left-over .0) job next (c ∷ past) ≡ accepted all
+      went =
+          let p = passing (left-over .0) job place past all h (left-over .1) in
+          let w = sym e ∙ p .isRead in
+          let a : p .command ≡ c = cc in
+          let b : p .next ≡ next = cc in
+          rw (a, b) at (p .goesOn)
+
+      -- the test finds it
+      pub scanning-found : test past c ≡ true → refuseFirst k test all ≡ some (refuse k place)
+      unfolding refuseFirst
+      scanning-found t =
+          found-stays k test job all (refuse k place) (left-over .0) next (c ∷ past) went
+          (rw (s .fine, t, read-at job place c next e .here))
+
+      -- the test does not
+      pub scanning-on : test past c ≡ false → Scanning k test job all next (c ∷ past)
+      unfolding refuseFirst
+      scanning-on t =
+          let r = read-at job place c next e in
+          let g = left-over .2 in
+          let m = s .enough in
+          record { fuel = left-over .0; enough = omega (arith, r .later); goesOn = went; fine = rw (s .fine, t) }

@@ -1,0 +1,84 @@
+-- Every way that a turn goes: a property of its outcome follows from the property of each way.
+use Prim.Native.Nat.{ℕ, _≤_, _<_}
+use mathlib.Core.Path.{_≡_, refl, sym}
+use mathlib.Core.Bool.{Bool, true, false, cond, _||_}
+use mathlib.Core.List.{List}
+use lib.Dec.{ltb, eqb}
+use lib.ListN.{length}
+use borrow.Author.Tests.{ltb-true, ltb-false, eqb-true, eqb-false}
+use Rattle.model.specs.Table.{SET, TAKE, GET, PUT, ADD, PLUS, JUMPZ, JUMP, SEND, CALL, maxNodes}
+use Rattle.model.specs.Declared.{Instruction}
+use Rattle.model.specs.Program.{Program}
+use Rattle.model.specs.State.{State, idle, positionAt, accumulatorAt, waitingAt, withPosition, withQueues}
+use Rattle.model.specs.Turn.{Entry, entry, Turned, completed, stopped, oldest, begun, finished, delivered, performed, advanced, entryOf, blocked, commandOf, turn}
+use Rattle.model.specs.Permission.{permitted, redacted, enforced, monitoredTurn}
+use Rattle.model.proofs.Logic.{true-false}
+
+-- by either outcome of a test
+pub either : {A : Type 0} (Q : A → Type 0) (b : Bool) (x y : A) → (b ≡ true → Q x) → (b ≡ false → Q y) → Q (cond b x y)
+either Q true x y p q = p refl
+either Q false x y p q = q refl
+
+-- the command is a jump
+abbrev pub isJump : Instruction → Bool
+isJump i = eqb (i .byte) JUMPZ || eqb (i .byte) JUMP
+
+or-first : (a b : Bool) → a ≡ true → (a || b) ≡ true
+or-first true b e = refl
+or-first false b e = true-false (sym e)
+
+or-second : (a b : Bool) → b ≡ true → (a || b) ≡ true
+or-second true b e = refl
+or-second false b e = e
+
+-- the state with other accumulators and other variables
+abbrev pub withMemory : State → List ℕ → List ℕ → State
+withMemory s accumulators variables = record { position = s .position; accumulator = accumulators; message = s .message; queue = s .queue; variable = variables }
+
+-- a handler command changes accumulators or variables, jumps, or sends
+pub performed-by :
+    (Q : State → Type 0) (P : Program) (s : State) (n : ℕ) (i : Instruction)
+    → ((accumulators variables : List ℕ) → Q (advanced (withMemory s accumulators variables) n))
+    → (isJump i ≡ true → Q (withPosition s n (i .operand)))
+    → (eqb (i .byte) SEND ≡ true → Q (advanced (withQueues s (delivered (P .wired n (i .operand)) (accumulatorAt s n) (s .queue) maxNodes)) n))
+    → Q (performed P s n i)
+performed-by Q P s n i on jumps sends =
+    either Q (eqb (i .byte) SET) _ _ (λ _. on _ _) λ _.
+    either Q (eqb (i .byte) TAKE) _ _ (λ _. on _ _) λ _.
+    either Q (eqb (i .byte) GET) _ _ (λ _. on _ _) λ _.
+    either Q (eqb (i .byte) PUT) _ _ (λ _. on _ _) λ _.
+    either Q (eqb (i .byte) ADD) _ _ (λ _. on _ _) λ _.
+    either Q (eqb (i .byte) PLUS) _ _ (λ _. on _ _) λ _.
+    either Q (eqb (i .byte) JUMPZ) _ _
+    (λ e. either Q (eqb (accumulatorAt s n) 0) _ _ (λ _. jumps (or-first (eqb (i .byte) JUMPZ) (eqb (i .byte) JUMP) e)) (λ _. on (s .accumulator) (s .variable))) λ _.
+    either Q (eqb (i .byte) JUMP) _ _ (λ e. jumps (or-second (eqb (i .byte) JUMPZ) (eqb (i .byte) JUMP) e)) λ _.
+    either Q (eqb (i .byte) SEND) _ _ sends λ _.
+    either Q (eqb (i .byte) CALL) _ _ (λ _. on _ _) (λ _. on (s .accumulator) (s .variable))
+
+-- the node is not ready, takes a message, is stopped at a full target, carries out a command, or becomes idle
+pub turn-by :
+    (Q : Turned → Type 0) (P : Program) (s : State) (n : ℕ)
+    → (positionAt s n ≡ idle → waitingAt s n ≡ 0 → Q (stopped 2 (entry n 0 0 0)))
+    → (positionAt s n ≡ idle → ¬ (waitingAt s n ≡ 0) → Q (completed (entry n 1 0 (oldest s n)) (begun s n)))
+    → (positionAt s n < length (P .handler n) → blocked P s n (commandOf P n (positionAt s n)) ≡ true → Q (stopped 3 (entryOf P s n (commandOf P n (positionAt s n)))))
+    → (positionAt s n < length (P .handler n) → blocked P s n (commandOf P n (positionAt s n)) ≡ false
+    → Q (completed (entryOf P s n (commandOf P n (positionAt s n))) (performed P s n (commandOf P n (positionAt s n)))))
+    → (length (P .handler n) ≤ positionAt s n → Q (completed (entry n 2 0 0) (finished s n)))
+    → Q (turn P s n)
+unfolding turn
+turn-by Q P s n unready begins full does ends =
+    either Q (eqb (positionAt s n) idle) _ _
+    (λ p. either Q (eqb (waitingAt s n) 0) (stopped 2 _) (completed _ _) (λ w. unready (eqb-true _ _ p) (eqb-true _ _ w)) (λ w. begins (eqb-true _ _ p) (eqb-false (waitingAt s n) 0 w)))
+    λ _.
+    either Q (ltb (positionAt s n) (length (P .handler n))) _ _
+    (λ l. either Q (blocked P s n (commandOf P n (positionAt s n))) (stopped 3 _) (completed _ _) (full (ltb-true _ _ l)) (does (ltb-true _ _ l)))
+    (λ l. ends (ltb-false (positionAt s n) (length (P .handler n)) l))
+
+-- the lists leave an outcome as it is, or make it stop 1
+pub enforced-by : (Q : Turned → Type 0) (P : Program) (t : Turned) → Q t → ((e : Entry) → Q (stopped 1 (redacted e))) → Q (enforced P t)
+enforced-by Q P (completed e s) q one = either Q (permitted P e) (completed e s) (stopped 1 (redacted e)) (λ _. q) (λ _. one e)
+enforced-by Q P (stopped k e) q one = q
+
+pub monitored-by : (Q : Turned → Type 0) (P : Program) (s : State) (n : ℕ) → Q (turn P s n) → ((e : Entry) → Q (stopped 1 (redacted e))) → Q (monitoredTurn P s n)
+unfolding monitoredTurn
+monitored-by Q P s n q one = enforced-by Q P (turn P s n) q one
