@@ -1,4 +1,4 @@
--- The rows of the worked jobs hold, by computation.
+-- The rows of the worked jobs and of the readings hold, by computation.
 use mathlib.Core.Path.{refl}
 use Rattle.model.specs.Table.{operandsIn, operandsOf, isAmong, largestIn, largestOf}
 use Rattle.model.specs.Command.{number, readCommand}
@@ -11,9 +11,10 @@ use Rattle.model.specs.Run.{runFrom, unmonitoredRun, monitoredRun}
 use Rattle.model.specs.Output.{traceBytes, numbersBytes, nodesBytes, variablesBytes, snapshotBytes}
 use Rattle.model.specs.Refusal.{anyOf, groupFalls, violation, decodeFrom, decode, refuseFirst, decodeJob, decodeFor}
 use Rattle.model.specs.Result.{report, monitored, unmonitored}
-use Rattle.model.specs.Examples.{outcome, times, k1, k1Read, k7, low, line, nodeLine, idleNode, ends, none, watched, bare, k1First, k1Last, examples, ExamplesHold}
+use Rattle.model.specs.Examples.{outcome, enough, watched, bare, times, k1, k1Read, k7, low, line, nodeLine, idleNode, ends, none, k1First, k1Last, examples, ExamplesHold}
+use Rattle.model.specs.Readings.{within, nodes, global, turns, orderRows, declaredRows, turnRows, ReadingsHold}
 
-pub examples-hold : ExamplesHold
+rows-hold : ExamplesHold × ReadingsHold
 unfolding operandsIn operandsOf isAmong largestIn largestOf
     number readCommand
     countOf countAmong occurs declared openBody bodyLength handlerOf startsOf startedIn turnsOf
@@ -23,5 +24,15 @@ unfolding operandsIn operandsOf isAmong largestIn largestOf
     traceBytes numbersBytes nodesBytes variablesBytes snapshotBytes
     anyOf groupFalls violation decodeFrom decode refuseFirst decodeJob decodeFor
     report monitored unmonitored
-    outcome times k1 k1Read k7 low line nodeLine idleNode ends none watched bare k1First k1Last examples
-examples-hold = refl
+    outcome enough watched bare times low line nodeLine idleNode ends none
+    k1 k1Read k7 k1First k1Last examples
+    within nodes global turns orderRows declaredRows turnRows
+rows-hold = (refl, refl)
+
+-- K1 to K11, and 32 and 33 nodes
+pub examples-hold : ExamplesHold
+examples-hold = rows-hold .0
+
+-- the open points
+pub readings-hold : ReadingsHold
+readings-hold = rows-hold .1

@@ -8,19 +8,31 @@ use Rattle.model.specs.Turn.{Entry, entry}
 use Rattle.model.specs.Refusal.{refuse, Sizes, sizes}
 use Rattle.model.specs.Result.{Result, refused, ran, monitored, unmonitored}
 
--- a row: a job, whether it is run monitored ("watched"), and what is expected
+-- a row: a job, the lengths of the buffers, whether it is run monitored ("watched"), and what is expected
 pub record Example : Type 0 where
   pub job : List ℕ
+  pub buffers : Sizes
   pub isMonitored : Bool
   pub expected : Result
 
--- buffers that are long enough for every job
-abbrev pub enough : Sizes
-enough = sizes 28672 2624 16384
-
 -- what the definitions give
 unfoldable pub outcome : Example → Result
-outcome e = cond (e .isMonitored) (monitored (e .job) enough) (unmonitored (e .job) enough)
+outcome e = cond (e .isMonitored) (monitored (e .job) (e .buffers)) (unmonitored (e .job) (e .buffers))
+
+-- the definitions give what every row expects
+abbrev pub RowsHold : List Example → Type 0
+RowsHold rows = map outcome rows ≡ map (λ (e : Example). e .expected) rows
+
+-- buffers that are long enough for every job
+unfoldable pub enough : Sizes
+enough = sizes 28672 2624 16384
+
+-- a monitored and an unmonitored row with long buffers
+unfoldable pub watched : List ℕ → Result → Example
+watched job expected = record { job = job; buffers = enough; isMonitored = true; expected = expected }
+
+unfoldable pub bare : List ℕ → Result → Example
+bare job expected = record { job = job; buffers = enough; isMonitored = false; expected = expected }
 
 -- so many times the bytes
 unfoldable pub times : ℕ → List ℕ → List ℕ
@@ -80,13 +92,6 @@ ends stop turns e trace snapshot = ran (record { stop = stop; turns = turns; att
 unfoldable pub none : Entry
 none = entry 0 0 0 0
 
--- a monitored and an unmonitored row
-unfoldable pub watched : List ℕ → Result → Example
-watched job expected = record { job = job; isMonitored = true; expected = expected }
-
-unfoldable pub bare : List ℕ → Result → Example
-bare job expected = record { job = job; isMonitored = false; expected = expected }
-
 -- the trace of K1 with this START value and this value sent: the turns of node 0, those of node 1 up to its call, and the last two
 unfoldable pub k1First : List ℕ → ℕ → List ℕ
 k1First start sent = 0 ∷ 1 ∷ 0 ∷ start ++ line 0 0 0 0 ++ line 0 3 0 5 ++ line 0 6 0 sent ++ line 0 2 0 0 ++ line 1 1 0 sent ++ line 1 0 0 0
@@ -126,6 +131,6 @@ examples =
     ∷ watched (0x01 ∷ times 33 (0x02 ∷ [])) (refused (refuse 5 33))
     ∷ []
 
--- the definitions give what every row expects
+-- every row holds
 abbrev pub ExamplesHold : Type 0
-ExamplesHold = map outcome examples ≡ map (λ (e : Example). e .expected) examples
+ExamplesHold = RowsHold examples

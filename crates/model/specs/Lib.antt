@@ -13,10 +13,11 @@ pub mod Output
 -- "When a job is turned away"
 pub mod Refusal
 pub mod Result
--- statements: demands 1, 2 and 3 ("Watched beside bare"), "Jobs worked by hand"
+-- statements: demands 1, 2 and 3 ("Watched beside bare"), "Jobs worked by hand", open points
 pub mod Conclusion
 pub mod Following
 pub mod Transparency
 pub mod Examples
+pub mod Readings
 -- what holds of accepted jobs and of states, for proofs about code
 pub mod Valid

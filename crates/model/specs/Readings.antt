@@ -1,0 +1,85 @@
+-- How the definitions read what the paper leaves open or what is easily misread (docs/DECISIONS.md), as rows of one list, claimed once.
+use Prim.Native.Nat.{ℕ}
+use mathlib.Core.Bool.{true}
+use mathlib.Core.List.{List, [], _∷_, _++_}
+use Rattle.model.specs.Turn.{entry}
+use Rattle.model.specs.Refusal.{refuse, Sizes, sizes}
+use Rattle.model.specs.Result.{Result, refused}
+use Rattle.model.specs.Examples.{Example, RowsHold, watched, times, low, line, nodeLine, idleNode, ends, none}
+
+-- a monitored row with buffers of these lengths
+unfoldable pub within : Sizes → List ℕ → Result → Example
+within buffers job expected = record { job = job; buffers = buffers; isMonitored = true; expected = expected }
+
+-- one flow with so many nodes
+unfoldable pub nodes : ℕ → List ℕ
+nodes k = 0x01 ∷ times k (0x02 ∷ [])
+
+-- a global variable with this start
+unfoldable pub global : ℕ → List ℕ
+global start = 0x10 ∷ 0x02 ∷ 0x00 ∷ low start
+
+-- so many turns of a node
+unfoldable pub turns : ℕ → ℕ → List ℕ
+turns k n = times k (0x60 ∷ n ∷ [])
+
+-- the order of the tests
+unfoldable pub orderRows : List Example
+orderRows =
+    -- 2: an unknown last byte
+    watched (nodes 1 ++ (0xFF ∷ [])) (refused (refuse 2 2))
+    -- 3 before 4: a command of a lower group that is cut off
+    ∷ watched (nodes 1 ++ turns 1 0 ++ (0x20 ∷ 0x00 ∷ [])) (refused (refuse 3 4))
+    -- 4 before 6: a lower group and an undeclared node
+    ∷ watched (nodes 1 ++ turns 1 0 ++ (0x20 ∷ 0x05 ∷ 0x00 ∷ 0x00 ∷ [])) (refused (refuse 4 4))
+    -- 5 before 6: the 65th variable, of scope 9
+    ∷ watched (times 64 (global 0) ++ 0x10 ∷ 0x09 ∷ 0x00 ∷ low 0) (refused (refuse 5 448))
+    -- 6 before 7: a variable that is not declared, and so not seen
+    ∷ watched (nodes 2 ++ (0x40 ∷ 0x01 ∷ 0x43 ∷ 0x00 ∷ [])) (refused (refuse 6 5))
+    -- 6: a handler command before every BODY
+    ∷ watched (nodes 1 ++ (0x42 ∷ [])) (refused (refuse 6 2))
+    -- 8 before 9: a jump out of its body, then a second BODY
+    ∷ watched (nodes 1 ++ (0x40 ∷ 0x00 ∷ 0x48 ∷ 0x05 ∷ 0x40 ∷ 0x00 ∷ [])) (refused (refuse 8 6))
+    -- 10, 11 and 12 in this order, at the job's length
+    ∷ within (sizes 6 2623 16383) (nodes 1 ++ turns 1 0) (refused (refuse 10 4))
+    ∷ within (sizes 7 2623 16383) (nodes 1 ++ turns 1 0) (refused (refuse 11 4))
+    ∷ within (sizes 7 2624 16383) (nodes 1 ++ turns 1 0) (refused (refuse 12 4))
+    ∷ []
+
+-- what is declared
+unfoldable pub declaredRows : List Example
+declaredRows =
+    -- one global variable is a job
+    watched (global 5) (ends 0 0 none [] (low 5))
+    -- ARG beside ANY and beside ARG with another argument is no repetition
+    ∷ watched
+    (nodes 1 ++ 0x11 ∷ low 0 ++ 0x30 ∷ 0x00 ∷ 0x00 ∷ 0x31 ∷ 0x00 ∷ 0x00 ∷ low 1 ++ 0x31 ∷ 0x00 ∷ 0x00 ∷ low 2)
+    (ends 0 0 none [] idleNode)
+    -- a second START in the flow, of another node
+    ∷ watched (nodes 2 ++ 0x50 ∷ 0x00 ∷ low 1 ++ 0x50 ∷ 0x01 ∷ low 2) (refused (refuse 8 9))
+    ∷ []
+
+-- what a turn does
+unfoldable pub turnRows : List Example
+turnRows =
+    -- a node variable: GET, PUT and PLUS leave kind 0 and need no permission
+    watched
+    (nodes 1 ++ 0x10 ∷ 0x00 ∷ 0x00 ∷ low 5 ++ 0x40 ∷ 0x00 ∷ 0x43 ∷ 0x00 ∷ 0x44 ∷ 0x00 ∷ 0x46 ∷ 0x00 ∷ 0x50 ∷ 0x00 ∷ low 1 ++ turns 4 0)
+    (ends 0 4 none (line 0 1 0 1 ++ times 3 (line 0 0 0 0)) (nodeLine 3 10 1 0 ++ low 5))
+    -- a forbidden write: the attempted entry shows the accumulator, and the variable is not written
+    ∷ watched
+    (nodes 1 ++ global 5 ++ 0x32 ∷ 0x00 ∷ 0x00 ∷ 0x40 ∷ 0x00 ∷ 0x41 ∷ low 7 ++ 0x44 ∷ 0x00 ∷ 0x50 ∷ 0x00 ∷ low 1 ++ turns 3 0)
+    (ends 1 2 (entry 0 4 0 7) (line 0 1 0 1 ++ line 0 0 0 0) (nodeLine 1 7 1 0 ++ low 5))
+    -- the oldest message is taken first
+    ∷ watched
+    (nodes 2 ++ 0x20 ∷ 0x00 ∷ 0x00 ∷ 0x01 ∷ 0x40 ∷ 0x00 ∷ 0x49 ∷ 0x00 ∷ 0x42 ∷ 0x49 ∷ 0x00 ∷ 0x50 ∷ 0x00 ∷ low 9 ++ turns 4 0 ++ turns 1 1)
+    (ends 0 5 none (line 0 1 0 9 ++ line 0 6 0 0 ++ line 0 0 0 0 ++ line 0 6 0 9 ++ line 1 1 0 0) (nodeLine 3 9 9 0 ++ nodeLine 0 0 0 1 ++ low 9))
+    -- a send whose second target is full delivers to nobody
+    ∷ watched
+    (nodes 2 ++ 0x20 ∷ 0x00 ∷ 0x00 ∷ 0x00 ∷ 0x20 ∷ 0x00 ∷ 0x00 ∷ 0x01 ∷ 0x20 ∷ 0x00 ∷ 0x01 ∷ 0x01 ∷ 0x40 ∷ 0x00 ∷ times 16 (0x49 ∷ 0x01 ∷ []) ++ 0x49 ∷ 0x00 ∷ 0x50 ∷ 0x00 ∷ low 1 ++ turns 18 0)
+    (ends 3 17 (entry 0 6 0 0) (line 0 1 0 1 ++ times 16 (line 0 6 1 0)) (nodeLine 16 0 1 0 ++ nodeLine 255 0 0 16 ++ times 16 (low 0)))
+    ∷ []
+
+-- every row holds
+abbrev pub ReadingsHold : Type 0
+ReadingsHold = RowsHold (orderRows ++ declaredRows ++ turnRows)
