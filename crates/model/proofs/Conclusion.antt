@@ -6,7 +6,8 @@ use mathlib.Core.List.{List, [], _∷_}
 use mathlib.Core.Option.{Option, none, some}
 use native.Mathlib.Omega.{arith}
 use lib.Dec.{ltb}
-use lib.ListN.{length, length-map}
+use lib.ListN.{length, drop, replicate, length-map, length-append, length-drop, length-replicate}
+use lib.Seq.{take-append-seam, drop-append-seam}
 use Rattle.model.specs.Table.{TURN}
 use Rattle.model.specs.Command.{Command}
 use Rattle.model.specs.Declared.{countOf, turnsOf}
@@ -16,10 +17,10 @@ use Rattle.model.specs.Turn.{turn}
 use Rattle.model.specs.Permission.{monitoredTurn}
 use Rattle.model.specs.Run.{Run, Step, entriesOf, monitoredRun, unmonitoredRun}
 use Rattle.model.specs.Output.{Answer, answerIn, traceIn, snapshotBytes}
-use Rattle.model.specs.Refusal.{Refusal, refuse, Decoded, accepted, rejected, firstOf, refuseFirst, isFarJump, farJump, decode, decodeJob, Sizes, snapshotSize, workSize, shortBuffer, decodeFor}
-use Rattle.model.specs.Result.{ran, report, resultOf, monitored, unmonitored}
+use Rattle.model.specs.Refusal.{Refusal, refuse, Decoded, accepted, rejected, firstOf, refuseFirst, isFarJump, farJump, decode, decodeJob, Sizes, sizes, snapshotSize, workSize, shortBuffer, decodeFor}
+use Rattle.model.specs.Result.{Result, refused, ran, report, resultOf, monitored, unmonitored, written}
 use Rattle.model.specs.Valid.{Valid}
-use Rattle.model.specs.Conclusion.{Refuses, Concludes, Concluded}
+use Rattle.model.specs.Conclusion.{Refuses, Concludes, Concluded, Filled, Leaves, BothLeave}
 use Rattle.model.proofs.Reading.{read-at}
 use Rattle.model.proofs.Walking.{Decides, decode-keeps, Finds, and-then-keeps}
 use Rattle.model.proofs.Valid.{job-valid, job-fits, limits}
@@ -84,7 +85,7 @@ module _ (job : List ℕ) (b : Sizes) (past : List Command) (fits : decodeFor jo
       let p : length (snapshotBytes (programOf past) (r .final)) ≤ 2624 = snapshot-fits past v (turnsOf past) (r .final) (bounded .final) in
       let q = buffers .0 in
       let w = buffers .1 in
-      record { stops = stop; turns = omega arith; traceLength = m; traceFits = omega arith; snapshotLength = p; snapshotFits = omega arith }
+      record { stops = stop; turns = omega arith; traceLength = m; traceFits = omega arith; snapshotLength = p; snapshotFits = omega arith; workFits = buffers .2 }
 
 -- what a job comes to, by what it is decoded to, for a way of running that keeps the bounds and stops by 0 to 3
 module _
@@ -128,3 +129,33 @@ concluded job b =
       bare = concludes unmonitoredRun bare-stops unmonitored-fits job b;
       bareStop = bare-stop (decodeFor job b);
     }
+
+-- bytes written to the front of a buffer that holds them
+written-filled : (bytes buffer : List ℕ) → length bytes ≤ length buffer → Filled bytes buffer (written bytes buffer)
+written-filled bytes buffer h =
+    record {
+      front = take-append-seam bytes (drop (length bytes) buffer);
+      beyond = drop-append-seam bytes (drop (length bytes) buffer);
+      sameLength = omega (arith, length-append bytes (drop (length bytes) buffer), length-drop (length bytes) buffer);
+    }
+
+-- what a conclusion leaves in buffers of these lengths
+leaves :
+    (job trace snapshot work : List ℕ) (result : Result) → Concludes job (sizes (length trace) (length snapshot) (length work)) result
+    → Leaves result trace snapshot work
+leaves job trace snapshot work (refused r) c = record { untouched = λ q e. (refl, refl, refl); filled = λ a t s e. let w : _≡_ {A = ℕ} 0 1 = cc in absurd (omega arith) }
+leaves job trace snapshot work (ran a t s) c =
+    record {
+      untouched = λ q e. let w : _≡_ {A = ℕ} 0 1 = cc in absurd (omega arith);
+      filled = λ a′ t′ s′ e.
+          let t-same : t ≡ t′ = cc in
+          let s-same : s ≡ s′ = cc in
+          rw (← t-same, ← s-same)
+          (written-filled t trace (c .traceFits), written-filled s snapshot (c .snapshotFits), written-filled (replicate workSize 0) work (rw (length-replicate {A = ℕ} workSize 0) (c .workFits)));
+    }
+
+-- both runs of every job, with all buffers
+pub both-leave : (job trace snapshot work : List ℕ) → BothLeave job trace snapshot work
+both-leave job trace snapshot work =
+    let c = concluded job (sizes (length trace) (length snapshot) (length work)) in
+    record { watched = leaves job trace snapshot work _ (c .watched); bare = leaves job trace snapshot work _ (c .bare) }
