@@ -1,4 +1,4 @@
--- The rows of the worked jobs and of the readings hold, by computation.
+-- The definitions agree with the worked jobs and with the readings of open points, by computation.
 use mathlib.Core.Path.{refl}
 use Rattle.model.specs.Table.{operandsIn, operandsOf, isAmong, largestIn, largestOf}
 use Rattle.model.specs.Command.{number, readCommand}
