@@ -9,7 +9,7 @@ use lib.ListN.{length}
 use borrow.Author.Tests.{ltb-true, ltb-false, lt-ltb, le-ltb, eq-eqb, ne-eqb}
 use Rattle.model.specs.Table.{TURN, groupOf}
 use Rattle.model.specs.Command.{Command, is}
-use Rattle.model.specs.Declared.{countOf, declared, belongs, bodyLength, instruction, handlerOf, turnsOf}
+use Rattle.model.specs.Declared.{countOf, countAmong, declared, belongs, bodyLength, instruction, handlerOf, turnsOf}
 use Rattle.model.specs.Refusal.{groupFalls}
 use Rattle.model.proofs.Lists.{length-only}
 
@@ -17,6 +17,11 @@ use Rattle.model.proofs.Lists.{length-only}
 pub count-same : (b : ℕ) (c : Command) (past : List Command) → is b c ≡ true → countOf b (c ∷ past) ≡ countOf b past + 1
 unfolding countOf
 count-same b c past e = rw e
+
+-- the count of one byte alone
+pub among-one : (b : ℕ) (past : List Command) → countAmong (b ∷ []) past ≡ countOf b past
+unfolding countAmong
+among-one b past = omega arith
 
 pub count-other : (b : ℕ) (c : Command) (past : List Command) → is b c ≡ false → countOf b (c ∷ past) ≡ countOf b past
 unfolding countOf

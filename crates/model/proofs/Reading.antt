@@ -71,6 +71,10 @@ module _ (job : List ℕ) (place : ℕ) where
 
 -- a command that is read: it is plain, it stands at its place, and the next one stands further on in the job
 pub record ReadAt (job : List ℕ) (place : ℕ) (c : Command) (next : ℕ) : Type 0 where
+  pub kinds : List OperandKind
+  pub operands : operandsOf (getD job place 0) ≡ some kinds
+  pub command : commandAt job place kinds ≡ c
+  pub ends : endAt place kinds ≡ next
   pub plain : Plain c
   pub here : c .place ≡ place
   pub byte : c .byte ≡ getD job place 0
@@ -95,6 +99,10 @@ read-at job place c next e = by-operands (operandsOf (getD job place 0)) refl e
         let m = leb-true (endAt place kinds) (length job) t in
         rw (← a)
         (record {
+          kinds = kinds;
+          operands = o;
+          command = refl;
+          ends = b;
           plain =
               record {
                 known = λ h. let w : _≡_ {A = ℕ} 0 1 = cc in omega arith;

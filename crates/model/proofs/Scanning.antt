@@ -8,6 +8,7 @@ use native.Mathlib.Omega.{arith}
 use lib.Dec.{ltb, eqb}
 use lib.ListN.{length}
 use borrow.Author.Tests.{lt-ltb, ltb-true}
+use Rattle.model.specs.Table.{maxJob}
 use Rattle.model.specs.Command.{Command, Read, whole, unknown, cutShort, readCommand}
 use Rattle.model.specs.Refusal.{violation, Refusal, refuse, accepted, rejected, decodeNext, decodeRead, decodeFrom, decode, refuseFirst}
 use Rattle.model.proofs.Reading.{read-at}
@@ -20,34 +21,41 @@ pub record Scanning (k : ℕ) (test : List Command → Command → Bool) (job : 
   pub goesOn : decodeFrom fuel job place past ≡ accepted all
   pub fine : refuseFirst k test past ≡ none
 
--- at the start
-pub scanning-start : (k : ℕ) (test : List Command → Command → Bool) (job : List ℕ) (all : List Command) → decode job ≡ accepted all → Scanning k test job all 0 []
-unfolding decode refuseFirst
-scanning-start k test job all e = record { fuel = length job; enough = omega arith; goesOn = by-length (eqb (length job) 0 || ltb 16384 (length job)) e; fine = refl }
+-- an accepted job is decoded from its start
+pub accepted-from : (job : List ℕ) (all : List Command) → decode job ≡ accepted all → decodeFrom (length job) job 0 [] ≡ accepted all
+unfolding decode
+accepted-from job all e = by-length (eqb (length job) 0 || ltb maxJob (length job)) e
   where
     by-length : (t : Bool) → cond t (rejected (refuse 1 0)) (decodeFrom (length job) job 0 []) ≡ accepted all → decodeFrom (length job) job 0 [] ≡ accepted all
     by-length true q = let w : _≡_ {A = ℕ} 0 1 = cc in absurd (omega arith)
     by-length false q = q
+
+-- at the start
+pub scanning-start : (k : ℕ) (test : List Command → Command → Bool) (job : List ℕ) (all : List Command) → decode job ≡ accepted all → Scanning k test job all 0 []
+unfolding refuseFirst
+scanning-start k test job all e = record { fuel = length job; enough = omega arith; goesOn = accepted-from job all e; fine = refl }
 
 -- what is read inside an accepted job is a command that passes
 pub record Passing (fuel : ℕ) (job : List ℕ) (place : ℕ) (past all : List Command) : Type 0 where
   pub command : Command
   pub next : ℕ
   pub isRead : readCommand job place ≡ whole command next
+  pub passes : violation past command ≡ 0
   pub goesOn : decodeFrom fuel job next (command ∷ past) ≡ accepted all
 
 passing-next :
     (fuel : ℕ) (job : List ℕ) (place : ℕ) (past all : List Command) (c : Command) (next k : ℕ)
-    → readCommand job place ≡ whole c next → decodeNext (decodeFrom fuel job) place past c next k ≡ accepted all → Passing fuel job place past all
-passing-next fuel job place past all c next zero r e = record { command = c; next = next; isRead = r; goesOn = e }
-passing-next fuel job place past all c next (suc k) r e = let w : _≡_ {A = ℕ} 0 1 = cc in absurd (omega arith)
+    → readCommand job place ≡ whole c next → violation past c ≡ k → decodeNext (decodeFrom fuel job) place past c next k ≡ accepted all
+    → Passing fuel job place past all
+passing-next fuel job place past all c next zero r v e = record { command = c; next = next; isRead = r; passes = v; goesOn = e }
+passing-next fuel job place past all c next (suc k) r v e = let w : _≡_ {A = ℕ} 0 1 = cc in absurd (omega arith)
 
 passing-read :
     (fuel : ℕ) (job : List ℕ) (place : ℕ) (past all : List Command) (r : Read)
     → readCommand job place ≡ r → decodeRead (decodeFrom fuel job) place past r ≡ accepted all → Passing fuel job place past all
 passing-read fuel job place past all unknown r e = let w : _≡_ {A = ℕ} 0 1 = cc in absurd (omega arith)
 passing-read fuel job place past all cutShort r e = let w : _≡_ {A = ℕ} 0 1 = cc in absurd (omega arith)
-passing-read fuel job place past all (whole c next) r e = passing-next fuel job place past all c next (violation past c) r e
+passing-read fuel job place past all (whole c next) r e = passing-next fuel job place past all c next (violation past c) r refl e
 
 pub passing : (fuel : ℕ) (job : List ℕ) (place : ℕ) (past all : List Command) → place < length job → decodeFrom (suc fuel) job place past ≡ accepted all → Passing fuel job place past all
 unfolding decodeFrom

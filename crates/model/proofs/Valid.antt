@@ -49,10 +49,13 @@ and-then-accepted test (accepted all) past e = by-test (test all) refl e
     by-test none t q = let same : all ≡ past = cc in (q, rw (← same) t)
     by-test (some r) t q = let w : _≡_ {A = ℕ} 0 1 = cc in absurd (omega arith)
 
-pub job-valid : (job : List ℕ) (past : List Command) → decodeJob job ≡ accepted past → ValidJob past
+pub job-accepted : (job : List ℕ) (past : List Command) → decodeJob job ≡ accepted past → (decode job ≡ accepted past) × (farJump past ≡ none)
 unfolding decodeJob
+job-accepted job past e = and-then-accepted farJump (decode job) past e
+
+pub job-valid : (job : List ℕ) (past : List Command) → decodeJob job ≡ accepted past → ValidJob past
 job-valid job past e =
-    let h = and-then-accepted farJump (decode job) past e in
+    let h = job-accepted job past e in
     record { commands = decoded-valid job past (h .0); jumps = h .1 }
 
 pub job-fits : (job : List ℕ) (b : Sizes) (past : List Command) → decodeFor job b ≡ accepted past → (decodeJob job ≡ accepted past) × (shortBuffer job b past ≡ none)

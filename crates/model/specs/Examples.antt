@@ -131,6 +131,15 @@ examples =
     ∷ watched (0x01 ∷ times 33 (0x02 ∷ [])) (refused (refuse 5 33))
     ∷ []
 
+-- one flow with one node, and so many turns of the node
+unfoldable pub manyTurns : ℕ → List ℕ
+manyTurns k = 0x01 ∷ 0x02 ∷ times k (0x60 ∷ 0x00 ∷ [])
+
+-- 4,096 turns are accepted, and the first of them stops; 4,097 are refused by 5 at the last TURN
+pub record TurnLimit : Type 0 where
+  pub reached : monitored (manyTurns 4096) enough ≡ ends 2 0 (entry 0 0 0 0) [] idleNode
+  pub passed : monitored (manyTurns 4097) enough ≡ refused (refuse 5 8194)
+
 -- every row holds
 abbrev pub ExamplesHold : Type 0
 ExamplesHold = RowsHold examples
