@@ -1,7 +1,7 @@
 -- The definitions agree with the worked jobs and with the readings of open points, by computation.
 use mathlib.Core.Path.{refl}
 use Rattle.model.specs.Table.{operandsIn, operandsOf, isAmong, largestIn, largestOf}
-use Rattle.model.specs.Command.{number, readCommand}
+use Rattle.model.specs.Command.{numberAt, readCommand}
 use Rattle.model.specs.Declared.{countOf, countAmong, occurs, declared, openBody, bodyLength, handlerOf, startsOf, startedIn, turnsOf}
 use Rattle.model.specs.Program.{programOf}
 use Rattle.model.specs.State.{tabulate, initialState}
@@ -11,12 +11,12 @@ use Rattle.model.specs.Run.{runFrom, unmonitoredRun, monitoredRun}
 use Rattle.model.specs.Output.{traceBytes, numbersBytes, nodesBytes, variablesBytes, snapshotBytes}
 use Rattle.model.specs.Refusal.{anyOf, groupFalls, violation, decodeFrom, decode, refuseFirst, decodeJob, decodeFor}
 use Rattle.model.specs.Result.{report, monitored, unmonitored}
-use Rattle.model.specs.Examples.{outcome, enough, watched, bare, times, k1, k1Read, k7, low, line, nodeLine, idleNode, ends, none, k1First, k1Last, examples, ExamplesHold}
+use Rattle.model.specs.Examples.{outcome, enough, monitoredRow, unmonitoredRow, times, k1, k1Read, k7, low, line, nodeLine, idleNode, ends, noEntry, k1First, k1Last, examples, ExamplesHold}
 use Rattle.model.specs.Readings.{within, nodes, global, turns, orderRows, declaredRows, turnRows, ReadingsHold}
 
 rows-hold : ExamplesHold × ReadingsHold
 unfolding operandsIn operandsOf isAmong largestIn largestOf
-    number readCommand
+    numberAt readCommand
     countOf countAmong occurs declared openBody bodyLength handlerOf startsOf startedIn turnsOf
     programOf tabulate initialState
     someBelow delivered turn monitoredTurn
@@ -24,7 +24,7 @@ unfolding operandsIn operandsOf isAmong largestIn largestOf
     traceBytes numbersBytes nodesBytes variablesBytes snapshotBytes
     anyOf groupFalls violation decodeFrom decode refuseFirst decodeJob decodeFor
     report monitored unmonitored
-    outcome enough watched bare times low line nodeLine idleNode ends none
+    outcome enough monitoredRow unmonitoredRow times low line nodeLine idleNode ends noEntry
     k1 k1Read k7 k1First k1Last examples
     within nodes global turns orderRows declaredRows turnRows
 rows-hold = (refl, refl)

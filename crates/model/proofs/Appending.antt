@@ -10,7 +10,7 @@ use lib.ListN.{length, getD, length-append, List·getD-append}
 use lib.Seq.{getD-append-seam, getD-append-add}
 use borrow.Author.Tests.{leb-true, lt-leb, le-leb, le-ltb, ltb-true, ltb-false, eqb-true}
 use Rattle.model.specs.Table.{NODE, TURN, OperandKind, node, width, Row, table, operandsIn, operandsOf, operandAt, groupOf, isAmong, largestIn, largestOf, maxTurns, maxJob}
-use Rattle.model.specs.Command.{Command, unary, number, firstAt, secondAt, thirdAt, endAt, commandAt, whole, readCommand}
+use Rattle.model.specs.Command.{Command, binary, numberAt, firstAt, secondAt, thirdAt, endAt, commandAt, whole, readCommand}
 use Rattle.model.specs.Declared.{countOf, bodyLength}
 use Rattle.model.specs.Refusal.{anyOf, violation, Refusal, refuse, accepted, rejected, decodeFrom, decode, firstOf, refuseFirst, isFarJump, farJump, decodeJob}
 use Rattle.model.specs.Valid.{Valid}
@@ -20,11 +20,12 @@ use Rattle.model.proofs.Valid.{decoded-valid, job-accepted}
 use Rattle.model.proofs.Growth.{among-one, highestGroup, group-falls}
 use Rattle.model.proofs.Decoding.{Decoding, decoding-start, decoding-on, decoding-end, decoding-refused}
 use Rattle.model.proofs.Results.{decode-job-accepted}
+use Rattle.model.proofs.Retracing.{read-accepted}
 use Rattle.model.proofs.Scanning.{passing, accepted-from}
 
 -- bytes behind a job change nothing that is read inside it
-number-prefix : (job extra : List ℕ) (at w : ℕ) → at + w ≤ length job → number (job ++ extra) at w ≡ number job at w
-unfolding number
+number-prefix : (job extra : List ℕ) (at w : ℕ) → at + w ≤ length job → numberAt (job ++ extra) at w ≡ numberAt job at w
+unfolding numberAt
 number-prefix job extra at zero h = refl
 number-prefix job extra at (suc w) h = rw (List·getD-append job extra 0 at (omega arith), number-prefix job extra (at + 1) w (omega arith))
 
@@ -101,7 +102,7 @@ highest-low (c ∷ past) v =
 
 -- a TURN of a node at a place
 abbrev pub turnAt : ℕ → ℕ → Command
-turnAt place n = record { place = place; byte = TURN; operands = unary n }
+turnAt place n = record { place = place; byte = TURN; operands = binary n 0 }
 
 -- it violates at most the largest count of turns
 violation-turn : (past : List Command) → Valid past → (place n : ℕ) → n < countOf NODE past → violation past (turnAt place n) ≡ cond (leb maxTurns (countOf TURN past)) 5 0
@@ -162,4 +163,5 @@ pub turn-appended :
     → decodeJob (job ++ (TURN ∷ n ∷ [])) ≡ accepted (turnAt (length job) n ∷ past)
 turn-appended job past e n h room l =
     let a = job-accepted job past e in
-    decode-job-accepted (job ++ (TURN ∷ n ∷ [])) (turnAt (length job) n ∷ past) (turn-accepted job past (a .0) n h room l) (far-jump-turn past (length job) n ∙ a .1)
+    let d = read-accepted job past (a .read) in
+    decode-job-accepted (job ++ (TURN ∷ n ∷ [])) (turnAt (length job) n ∷ past) (turn-accepted job past d n h room l) (far-jump-turn past (length job) n ∙ a .jumps)

@@ -12,7 +12,7 @@ use Rattle.model.specs.Command.{Command}
 use Rattle.model.specs.Declared.{Instruction, startsOf}
 use Rattle.model.specs.Program.{Program, programOf}
 use Rattle.model.specs.State.{State, positionAt, accumulatorAt, queueAt, waitingAt, variableAt, initialState}
-use Rattle.model.specs.Turn.{Entry, Turned, completed, stopped, someBelow, delivered, isFull, blocked, performed, commandOf, turn}
+use Rattle.model.specs.Turn.{Entry, Turned, completed, stopped, someBelow, delivered, isFull, blocked, performed, instructionAt, turn}
 use Rattle.model.specs.Permission.{monitoredTurn}
 use Rattle.model.specs.Run.{Run, proceed, runFrom, monitoredRun, unmonitoredRun}
 use Rattle.model.specs.Output.{bytes4, traceBytes, numbersBytes, nodeBytes, nodesBytes, variablesBytes, snapshotBytes}
@@ -101,7 +101,7 @@ pub turn-bounded : (P : Program) (s : State) (n : ℕ) → Bounded s → Keeps (
 turn-bounded P s n b =
     turn-by Keeps P s n (λ p w. tt) (λ p w. set-short (s .queue) n (drop 1 (queueAt s n)) (omega (arith, length-drop 1 (queueAt s n), b n)) b)
     (λ l f. tt)
-    (λ l. performed-bounded P s n (commandOf P n (positionAt s n)) b)
+    (λ l. performed-bounded P s n (instructionAt P n (positionAt s n)) b)
     (λ l. b)
 
 pub monitored-bounded : (P : Program) (s : State) (n : ℕ) → Bounded s → Keeps (monitoredTurn P s n)

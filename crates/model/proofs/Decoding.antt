@@ -7,7 +7,7 @@ use native.Mathlib.Omega.{arith}
 use lib.Dec.{ltb}
 use lib.ListN.{length}
 use borrow.Author.Tests.{eq-eqb, ne-eqb, lt-ltb, le-ltb}
-use Rattle.model.specs.Command.{Command, Read, whole, unknown, cutShort, readCommand}
+use Rattle.model.specs.Command.{Command, Parsed, whole, unknown, cutShort, readCommand}
 use Rattle.model.specs.Refusal.{violation, refuse, Decoded, accepted, rejected, decodeNext, decodeRead, decodeFrom, decode}
 use Rattle.model.proofs.Reading.{read-at}
 
@@ -62,7 +62,7 @@ decode-fuel (suc fuel) job place past h = by-read (readCommand job place) refl (
     by-violation c next (suc k) ih = refl
 
     by-read :
-        (r : Read) → readCommand job place ≡ r
+        (r : Parsed) → readCommand job place ≡ r
         → ((place : ℕ) (past : List Command) → length job ≤ place + fuel → decodeFrom fuel job place past ≡ decodeFrom (suc fuel) job place past)
         → cond (ltb place (length job)) (decodeRead (decodeFrom fuel job) place past r) (accepted past) ≡ cond (ltb place (length job)) (decodeRead (decodeFrom (suc fuel) job) place past r) (accepted past)
     by-read unknown e ih = refl

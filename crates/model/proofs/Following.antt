@@ -1,4 +1,4 @@
--- Every run follows its rule for one turn: the proof of `BothFollow` for every program and all turns.
+-- Every run follows its rule for one turn: the proof of `Demand2` for every program and all turns.
 use Prim.Native.Nat.{ℕ, zero, suc, _<_, zero-le, suc-le-suc}
 use mathlib.Core.Path.{_≡_, refl, sym, ap, _∙_}
 use mathlib.Core.Logic.{_⊎_, inl, inr}
@@ -6,12 +6,11 @@ use mathlib.Core.List.{List, [], _∷_}
 use native.Mathlib.Omega.{arith}
 use native.Mathlib.Nat.{not-suc-le-zero, le-of-suc-le-suc}
 use lib.ListN.{length, getD}
-use Rattle.model.specs.Program.{Program}
 use Rattle.model.specs.State.{State, initialState}
 use Rattle.model.specs.Turn.{Entry, Turned, completed, stopped, turn}
 use Rattle.model.specs.Permission.{monitoredTurn}
 use Rattle.model.specs.Run.{Run, after, proceed, runFrom, entryAt, stateAt, monitoredRun, unmonitoredRun}
-use Rattle.model.specs.Following.{RanOut, Halted, Follows, BothFollow}
+use Rattle.model.specs.Following.{RanOut, Halted, Follows, Demand2Holds}
 use Rattle.model.proofs.Stops.{StopsBy, turn-stops, monitored-stops}
 
 module _ (rule : State → ℕ → Turned) (turns : List ℕ) (n : ℕ) (s : State) where
@@ -45,11 +44,11 @@ unfolding runFrom
 follows rule stops [] s = record { begins = refl; goesOn = λ k h. absurd (not-suc-le-zero h); ends = inl (record { all = refl; stop = refl; attempted = refl }) }
 follows rule stops (n ∷ turns) s = proceeds rule turns n s (runFrom rule turns) (rule s n) refl (stops s n) (follows rule stops turns)
 
--- both runs of any turns of any program
-pub both-follow : (P : Program) (turns : List ℕ) → BothFollow P turns
+-- demand 2
+pub demand2 : Demand2Holds
 unfolding unmonitoredRun monitoredRun
-both-follow P turns =
+demand2 P turns =
     record {
-      bare = follows (turn P) (turn-stops (λ k. ¬ (k ≡ 0)) (λ h. omega arith) (λ h. omega arith) P) turns (initialState P);
-      watched = follows (monitoredTurn P) (monitored-stops (λ k. ¬ (k ≡ 0)) (λ h. omega arith) (λ h. omega arith) (λ h. omega arith) P) turns (initialState P);
+      unmonitoredFollows = follows (turn P) (turn-stops (λ k. ¬ (k ≡ 0)) (λ h. omega arith) (λ h. omega arith) P) turns (initialState P);
+      monitoredFollows = follows (monitoredTurn P) (monitored-stops (λ k. ¬ (k ≡ 0)) (λ h. omega arith) (λ h. omega arith) (λ h. omega arith) P) turns (initialState P);
     }

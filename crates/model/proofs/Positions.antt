@@ -15,7 +15,7 @@ use Rattle.model.specs.Declared.{Instruction, instruction, isHandler, op
 use Rattle.model.specs.Refusal.{Refusal, refuse, firstOf, refuseFirst, isFarJump}
 use Rattle.model.specs.Program.{Program, programOf}
 use Rattle.model.specs.State.{State, idle, positionAt, initialState}
-use Rattle.model.specs.Turn.{Turned, completed, stopped, performed, commandOf, turn}
+use Rattle.model.specs.Turn.{Turned, completed, stopped, performed, instructionAt, turn}
 use Rattle.model.specs.Permission.{monitoredTurn}
 use Rattle.model.specs.Valid.{ValidJob}
 use Rattle.model.proofs.Logic.{and-right, and-false}
@@ -84,13 +84,13 @@ KeepsPlaces P (stopped k e) = Unit {0}
 
 -- every jump of the program stays inside its handler
 abbrev pub JumpsInside : Program → Type 0
-JumpsInside P = (n i : ℕ) → i < length (P .handler n) → StaysInside (length (P .handler n)) (commandOf P n i)
+JumpsInside P = (n i : ℕ) → i < length (P .handler n) → StaysInside (length (P .handler n)) (instructionAt P n i)
 
 pub turn-placed : (P : Program) → JumpsInside P → (s : State) (n : ℕ) → Placed P s → KeepsPlaces P (turn P s n)
 turn-placed P j s n placed =
     turn-by (KeepsPlaces P) P s n (λ p w. tt) (λ p w. set-each (AtPlace P) 0 (s .position) n 0 (inr (omega arith)) placed)
     (λ l b. tt)
-    (λ l b. performed-placed P s n (commandOf P n (positionAt s n)) placed l (j n (positionAt s n) l))
+    (λ l b. performed-placed P s n (instructionAt P n (positionAt s n)) placed l (j n (positionAt s n) l))
     (λ l. set-each (AtPlace P) 0 (s .position) n idle (inl refl) placed)
 
 pub monitored-placed : (P : Program) → JumpsInside P → (s : State) (n : ℕ) → Placed P s → KeepsPlaces P (monitoredTurn P s n)

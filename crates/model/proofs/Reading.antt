@@ -10,9 +10,13 @@ use lib.Dec.{leb, eqb}
 use lib.ListN.{length, getD, drop, drop-of-length-le}
 use lib.Seq.{drop-cons}
 use borrow.Author.Tests.{eq-eqb, ne-eqb, le-leb, lt-leb, leb-true}
-use Rattle.model.specs.Table.{OperandKind, absent, width, Row, row, table, rowAt, operandsIn, operandsOf, operandAt, kindAt}
-use Rattle.model.specs.Command.{Command, number, whole, unknown, cutShort, endAt, firstAt, secondAt, thirdAt, commandAt, readAs, readCommand}
+use Rattle.model.specs.Table.{OperandKind, absent, width, Row, row, table, operandsIn, operandsOf, operandAt, kindAt}
+use Rattle.model.specs.Command.{Command, numberAt, whole, unknown, cutShort, endAt, firstAt, secondAt, thirdAt, commandAt, readAs, readCommand}
 use Rattle.model.specs.Valid.{Plain}
+
+-- row i of the table, counted from 0
+abbrev pub rowAt : ℕ → Row
+rowAt i = getD table i (row 0 [])
 
 -- the search for a byte, from row i on
 pub search-start : (b : ℕ) → operandsOf b ≡ operandsIn (drop 0 table) b
@@ -39,19 +43,19 @@ pub kind-known : (b i : ℕ) (kinds : List OperandKind) → operandsOf b ≡ som
 kind-known b i kinds e = rw e
 
 -- an operand of 4 bytes, of 1 byte, and of none
-pub number-four : (job : List ℕ) (at : ℕ) → number job at 4 ≡ getD job at 0 + getD job (at + 1) 0 * 256 + getD job (at + 2) 0 * 65536 + getD job (at + 3) 0 * 16777216
-unfolding number
+pub number-four : (job : List ℕ) (at : ℕ) → numberAt job at 4 ≡ getD job at 0 + getD job (at + 1) 0 * 256 + getD job (at + 2) 0 * 65536 + getD job (at + 3) 0 * 16777216
+unfolding numberAt
 number-four job at =
     let p : at + 1 + 1 ≡ at + 2 = omega arith in
     let q : at + 2 + 1 ≡ at + 3 = omega arith in
     rw (p, q) (omega arith)
 
-pub number-one : (job : List ℕ) (at : ℕ) → number job at 1 ≡ getD job at 0
-unfolding number
+pub number-one : (job : List ℕ) (at : ℕ) → numberAt job at 1 ≡ getD job at 0
+unfolding numberAt
 number-one job at = omega arith
 
-pub number-none : (job : List ℕ) (at : ℕ) → number job at 0 ≡ 0
-unfolding number
+pub number-none : (job : List ℕ) (at : ℕ) → numberAt job at 0 ≡ 0
+unfolding numberAt
 number-none job at = refl
 
 -- what is read at a place: no command, a command cut short, a whole one
@@ -82,8 +86,8 @@ pub record ReadAt (job : List ℕ) (place : ℕ) (c : Command) (next : ℕ) : Ty
   pub inside : next ≤ length job
 
 -- an operand that is absent is read as 0
-absent-zero : (job : List ℕ) (place : ℕ) (k : OperandKind) → k ≡ absent → number job place (width k) ≡ 0
-unfolding number
+absent-zero : (job : List ℕ) (place : ℕ) (k : OperandKind) → k ≡ absent → numberAt job place (width k) ≡ 0
+unfolding numberAt
 absent-zero job place k e = rw e
 
 pub read-at : (job : List ℕ) (place : ℕ) (c : Command) (next : ℕ) → readCommand job place ≡ whole c next → ReadAt job place c next

@@ -9,7 +9,7 @@ use lib.Dec.{ltb, eqb}
 use lib.ListN.{length}
 use borrow.Author.Tests.{lt-ltb, ltb-true}
 use Rattle.model.specs.Table.{maxJob}
-use Rattle.model.specs.Command.{Command, Read, whole, unknown, cutShort, readCommand}
+use Rattle.model.specs.Command.{Command, Parsed, whole, unknown, cutShort, readCommand}
 use Rattle.model.specs.Refusal.{violation, Refusal, refuse, accepted, rejected, decodeNext, decodeRead, decodeFrom, decode, refuseFirst}
 use Rattle.model.proofs.Reading.{read-at}
 use Rattle.model.proofs.Decoding.{decode-end, fuel-left}
@@ -51,7 +51,7 @@ passing-next fuel job place past all c next zero r v e = record { command = c; n
 passing-next fuel job place past all c next (suc k) r v e = let w : _≡_ {A = ℕ} 0 1 = cc in absurd (omega arith)
 
 passing-read :
-    (fuel : ℕ) (job : List ℕ) (place : ℕ) (past all : List Command) (r : Read)
+    (fuel : ℕ) (job : List ℕ) (place : ℕ) (past all : List Command) (r : Parsed)
     → readCommand job place ≡ r → decodeRead (decodeFrom fuel job) place past r ≡ accepted all → Passing fuel job place past all
 passing-read fuel job place past all unknown r e = let w : _≡_ {A = ℕ} 0 1 = cc in absurd (omega arith)
 passing-read fuel job place past all cutShort r e = let w : _≡_ {A = ℕ} 0 1 = cc in absurd (omega arith)

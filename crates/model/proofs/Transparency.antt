@@ -1,4 +1,4 @@
--- The proof of `Transparent` for every job, all turns and all buffers, by induction over the turns.
+-- The proof of `Demand3` for every job and all buffers, by induction over the turns.
 use Prim.Native.Nat.{ℕ, zero, suc, _<_, _≤_, zero-le, suc-le-suc}
 use mathlib.Core.Path.{_≡_, refl, sym, ap, subst, _∙_}
 use mathlib.Core.Logic.{_↔_, _⊎_, inl, inr}
@@ -14,37 +14,37 @@ use Rattle.model.specs.State.{State, initialState}
 use Rattle.model.specs.Turn.{Entry, entry, Turned, completed, stopped, turn}
 use Rattle.model.specs.Permission.{permitted, redacted, enforced, monitoredTurn}
 use Rattle.model.specs.Run.{Run, Step, after, proceed, runFrom, entriesOf, entryAt, stateAt, monitoredRun, unmonitoredRun}
-use Rattle.model.specs.Refusal.{Refusal, Decoded, accepted, rejected, Sizes, decodeFor}
-use Rattle.model.specs.Result.{refused, report, resultOf, monitored, unmonitored}
-use Rattle.model.specs.Transparency.{AllPermitted, Forbidden, FirstForbidden, stoppedAt, Comparison, Transparent}
+use Rattle.model.specs.Result.{report, sizesOf}
+use Rattle.model.specs.Transparency.{AllPermitted, Forbidden, FirstForbidden, stoppedAt, Comparison, Demand3Holds}
 use Rattle.model.proofs.Logic.{not-both}
 use Rattle.model.proofs.Stops.{run-not-one}
+use Rattle.model.proofs.Conclusion.{both-end, concluded, monitored-leaves, unmonitored-leaves}
 
 -- a run that is stopped at its turn n
 abbrev haltedRun : Run → ℕ → Run
 haltedRun r n = record { steps = take n (r .steps); stop = 1; attempted = redacted (entryAt r n); final = stateAt r n }
 
 -- a run and the same run under the lists: they agree, or the second one is the first stopped at its first forbidden turn
-data Compared (P : Program) (bare watched : Run) : Type 0 where
-  agree : AllPermitted P bare → watched ≡ bare → Compared P bare watched
-  halt : (n : ℕ) → FirstForbidden P bare n → watched ≡ haltedRun bare n → Compared P bare watched
+data Compared (P : Program) (u m : Run) : Type 0 where
+  agree : AllPermitted P u → m ≡ u → Compared P u m
+  halt : (n : ℕ) → FirstForbidden P u n → m ≡ haltedRun u n → Compared P u m
 
 -- a permitted entry in front keeps the comparison
 step-compared :
-    (P : Program) (s : State) (e : Entry) (bare watched : Run)
-    → permitted P e ≡ true → Compared P bare watched → Compared P (after s e bare) (after s e watched)
-step-compared P s e bare watched p (agree all same) = agree front (ap (after s e) same)
+    (P : Program) (s : State) (e : Entry) (u m : Run)
+    → permitted P e ≡ true → Compared P u m → Compared P (after s e u) (after s e m)
+step-compared P s e u m p (agree all same) = agree front (ap (after s e) same)
   where
-    front : AllPermitted P (after s e bare)
+    front : AllPermitted P (after s e u)
     front zero h = p
     front (suc k) h = all k (le-of-suc-le-suc h)
-step-compared P s e bare watched p (halt n first same) = halt (suc n) front (ap (after s e) same)
+step-compared P s e u m p (halt n first same) = halt (suc n) front (ap (after s e) same)
   where
-    before : (k : ℕ) → k < suc n → permitted P (entryAt (after s e bare) k) ≡ true
+    before : (k : ℕ) → k < suc n → permitted P (entryAt (after s e u) k) ≡ true
     before zero h = p
     before (suc k) h = first .earlier k (le-of-suc-le-suc h)
 
-    front : FirstForbidden P (after s e bare) (suc n)
+    front : FirstForbidden P (after s e u) (suc n)
     front = record { isForbidden = record { isCompleted = suc-le-suc (first .isForbidden .isCompleted); notPermitted = first .isForbidden .notPermitted }; earlier = before }
 
 -- one turn and what follows it, by what the turn comes to
@@ -79,44 +79,44 @@ entries-take zero steps = refl
 entries-take (suc n) [] = refl
 entries-take (suc n) (c ∷ steps) = ap {B = List Entry} (λ es. c .made ∷ es) (entries-take n steps)
 
-module _ (P : Program) (bare watched : Run) where
+module _ (P : Program) (u m : Run) where
   -- no turn is forbidden
-  none-forbidden : AllPermitted P bare → (n : ℕ) → Forbidden P bare n → ⊥
+  none-forbidden : AllPermitted P u → (n : ℕ) → Forbidden P u n → ⊥
   none-forbidden all n f = not-both (all n (f .isCompleted)) (f .notPermitted)
 
   -- the two cases
-  decided : Compared P bare watched → ((n : ℕ) × FirstForbidden P bare n) ⊎ AllPermitted P bare
+  decided : Compared P u m → ((n : ℕ) × FirstForbidden P u n) ⊎ AllPermitted P u
   decided (agree all same) = inr all
   decided (halt n first same) = inl (n, first)
 
-  identical : Compared P bare watched → AllPermitted P bare → watched ≡ bare
+  identical : Compared P u m → AllPermitted P u → m ≡ u
   identical (agree _ same) all = same
   identical (halt n first same) all = absurd (none-forbidden all n (first .isForbidden))
 
   -- every entry of the second run is permitted
-  safe : Compared P bare watched → AllPermitted P watched
+  safe : Compared P u m → AllPermitted P m
   safe (agree all same) = subst (AllPermitted P) (sym same) all
   safe (halt n first same) = subst (AllPermitted P) (sym same) cut
     where
-      cut : AllPermitted P (haltedRun bare n)
+      cut : AllPermitted P (haltedRun u n)
       cut k h =
-          let short : k < n = omega (arith, length-take n (bare .steps)) in
-          rw (entries-take n (bare .steps), getD-take n (entriesOf (bare .steps)) k (entry 0 0 0 0) short) (first .earlier k short)
+          let short : k < n = omega (arith, length-take n (u .steps)) in
+          rw (entries-take n (u .steps), getD-take n (entriesOf (u .steps)) k (entry 0 0 0 0) short) (first .earlier k short)
 
   -- the first forbidden turn is one
-  same-first : (m n : ℕ) → FirstForbidden P bare m → FirstForbidden P bare n → m ≡ n
-  same-first m n f g =
-      let a : ¬ (m < n) = λ h. not-both (g .earlier m h) (f .isForbidden .notPermitted) in
-      let b : ¬ (n < m) = λ h. not-both (f .earlier n h) (g .isForbidden .notPermitted) in
+  same-first : (k n : ℕ) → FirstForbidden P u k → FirstForbidden P u n → k ≡ n
+  same-first k n f g =
+      let a : ¬ (k < n) = λ h. not-both (g .earlier k h) (f .isForbidden .notPermitted) in
+      let b : ¬ (n < k) = λ h. not-both (f .earlier n h) (g .isForbidden .notPermitted) in
       omega arith
 
   -- where turn n is the first forbidden one, the second run is the first one stopped there
-  stops : Compared P bare watched → (n : ℕ) → FirstForbidden P bare n → watched ≡ haltedRun bare n
+  stops : Compared P u m → (n : ℕ) → FirstForbidden P u n → m ≡ haltedRun u n
   stops (agree all same) n first = absurd (none-forbidden all n (first .isForbidden))
-  stops (halt m first′ same) n first = same ∙ ap (haltedRun bare) (same-first m n first′ first)
+  stops (halt k first′ same) n first = same ∙ ap (haltedRun u) (same-first k n first′ first)
 
   -- the second run answers stop 1 exactly if some turn is forbidden
-  stop-one : (bare .stop ≡ 1 → ⊥) → Compared P bare watched → (watched .stop ≡ 1) ↔ ((n : ℕ) × Forbidden P bare n)
+  stop-one : (u .stop ≡ 1 → ⊥) → Compared P u m → (m .stop ≡ 1) ↔ ((n : ℕ) × Forbidden P u n)
   stop-one never (agree all same) = (λ h. absurd (never (ap (λ (r : Run). r .stop) (sym same) ∙ h)), λ f. absurd (none-forbidden all (f .0) (f .1)))
   stop-one never (halt n first same) = (λ h. (n, first .isForbidden), λ f. ap (λ (r : Run). r .stop) same)
 
@@ -129,28 +129,31 @@ halted-report P r n h = let le : n ≤ length (r .steps) = omega arith in rw (le
 pub runs-compared : (P : Program) (turns : List ℕ) → Comparison P (unmonitoredRun P turns) (monitoredRun P turns)
 unfolding unmonitoredRun monitoredRun
 runs-compared P turns =
-    let bare = runFrom (turn P) turns (initialState P) in
-    let watched = runFrom (monitoredTurn P) turns (initialState P) in
+    let u = runFrom (turn P) turns (initialState P) in
+    let m = runFrom (monitoredTurn P) turns (initialState P) in
     let both = run-compared P turns (initialState P) in
     record {
-      decided = decided P bare watched both;
-      identical = λ all. ap (report P) (identical P bare watched both all);
-      stops = λ n first. ap (report P) (stops P bare watched both n first) ∙ halted-report P bare n (first .isForbidden .isCompleted);
-      stopOne = stop-one P bare watched (run-not-one P turns (initialState P)) both;
-      safe = safe P bare watched both;
+      decided = decided P u m both;
+      identical = λ all. ap (report P) (identical P u m both all);
+      stops = λ n first. ap (report P) (stops P u m both n first) ∙ halted-report P u n (first .isForbidden .isCompleted);
+      stopOne = stop-one P u m (run-not-one P turns (initialState P)) both;
+      safe = safe P u m both;
     }
 
--- a refusal does not depend on the run
-alike : (run run′ : Program → List ℕ → Run) (d : Decoded) (r : Refusal) → resultOf run d ≡ refused r → resultOf run′ d ≡ refused r
-unfolding report
-alike run run′ (accepted past) r e = let w : _≡_ {A = ℕ} 0 1 = cc in absurd (omega arith)
-alike run run′ (rejected q) r e = e
-
--- both runs of every job, with buffers of all lengths
-pub transparent : (job : List ℕ) (b b′ : Sizes) → Transparent job b b′
-unfolding monitored unmonitored decodeFor
-transparent job b b′ =
+-- demand 3
+pub demand3 : Demand3Holds
+demand3 job b b′ =
     record {
-      refuseAlike = λ same r. (λ e. alike monitoredRun unmonitoredRun (decodeFor job b′) r (rw same at e), λ e. alike unmonitoredRun monitoredRun (decodeFor job b) r (rw (← same) at e));
-      bothRun = λ past e m u. record { bareReports = rw (e, u); watchedReports = rw (e, m); comparison = runs-compared (programOf past) (turnsOf past) };
+      refuseAlike = λ same r. (
+        λ e. concluded job (sizesOf b′) .unmonitoredRefuses r .1 (rw same at (concluded job (sizesOf b) .monitoredRefuses r .0 e)),
+        λ e. concluded job (sizesOf b) .monitoredRefuses r .1 (rw (← same) at (concluded job (sizesOf b′) .unmonitoredRefuses r .0 e)),
+      );
+      bothRun = λ past m u.
+          record {
+            unmonitoredReports = both-end job (sizesOf b′) past u .unmonitoredReports;
+            monitoredReports = both-end job (sizesOf b) past m .monitoredReports;
+            comparison = runs-compared (programOf past) (turnsOf past);
+          };
+      monitoredLeaves = monitored-leaves job b;
+      unmonitoredLeaves = unmonitored-leaves job b′;
     }

@@ -6,7 +6,7 @@ use native.Mathlib.Omega.{arith}
 use native.Mathlib.Numerals.{add-one}
 use lib.ListN.{length, replicate, length-append, replicate-append-replicate}
 use Rattle.model.specs.Table.{FLOW, NODE, TURN, operandsIn, operandsOf, isAmong, largestIn, largestOf, maxTurns}
-use Rattle.model.specs.Command.{Command, unary, number, readCommand}
+use Rattle.model.specs.Command.{Command, binary, numberAt, readCommand}
 use Rattle.model.specs.Declared.{countOf, countAmong, declared, startsOf, turnsOf}
 use Rattle.model.specs.Program.{programOf}
 use Rattle.model.specs.State.{tabulate, initialState}
@@ -20,6 +20,7 @@ use Rattle.model.specs.Examples.{enough, times, low, nodeLine, idleNode,
 use Rattle.model.proofs.Program.{program-turn}
 use Rattle.model.proofs.Valid.{job-accepted}
 use Rattle.model.proofs.Results.{decode-job-rejected, decode-for-rejected, decode-for-accepted, monitored-refused, monitored-ran}
+use Rattle.model.proofs.Retracing.{read-accepted}
 use Rattle.model.proofs.Appending.{turnAt, turn-appended, turn-refused}
 
 -- one turn more stands at the end
@@ -39,7 +40,7 @@ length-many (suc k) = omega (arith, ap length (many-snoc k), length-append (many
 
 -- the commands of the job with so many turns
 abbrev turnCommands : ℕ → List Command
-turnCommands zero = record { place = 1; byte = NODE; operands = unary 0 } ∷ record { place = 0; byte = FLOW; operands = unary 0 } ∷ []
+turnCommands zero = record { place = 1; byte = NODE; operands = binary 0 0 } ∷ record { place = 0; byte = FLOW; operands = binary 0 0 } ∷ []
 turnCommands (suc k) = turnAt (2 + 2 * k) 0 ∷ turnCommands k
 
 count-turns : (k : ℕ) → countOf TURN (turnCommands k) ≡ k
@@ -63,7 +64,7 @@ program-same (suc k) = program-turn (turnAt (2 + 2 * k) 0) (turnCommands k) refl
 
 -- up to 4,096 turns the job is accepted
 none-decoded : decodeJob (manyTurns 0) ≡ accepted (turnCommands 0)
-unfolding manyTurns times decodeJob decode decodeFrom readCommand operandsOf operandsIn number violation groupFalls anyOf largestOf largestIn isAmong countAmong countOf refuseFirst
+unfolding manyTurns times decodeJob decode decodeFrom readCommand operandsOf operandsIn numberAt violation groupFalls anyOf largestOf largestIn isAmong countAmong countOf refuseFirst
 none-decoded = refl
 
 decoded : (k : ℕ) → k ≤ maxTurns → decodeJob (manyTurns k) ≡ accepted (turnCommands k)
@@ -87,9 +88,9 @@ many-accepted k h =
 
 many-refused : monitored (manyTurns (suc maxTurns)) enough ≡ refused (refuse 5 8194)
 many-refused =
-    let e = job-accepted (manyTurns maxTurns) (turnCommands maxTurns) (decoded maxTurns (omega arith)) in
+    let e = read-accepted (manyTurns maxTurns) (turnCommands maxTurns) (job-accepted (manyTurns maxTurns) (turnCommands maxTurns) (decoded maxTurns (omega arith)) .read) in
     let r =
-    turn-refused (manyTurns maxTurns) (turnCommands maxTurns) (e .0) 0 (omega (arith, count-nodes maxTurns)) (omega (arith, length-many maxTurns))
+    turn-refused (manyTurns maxTurns) (turnCommands maxTurns) e 0 (omega (arith, count-nodes maxTurns)) (omega (arith, length-many maxTurns))
     (omega (arith, count-turns maxTurns)) in
     let s : decode (manyTurns (suc maxTurns)) ≡ rejected (refuse 5 8194) = ap decode (many-snoc maxTurns) ∙ r ∙ ap (λ (m : ℕ). rejected (refuse 5 m)) (length-many maxTurns) in
     monitored-refused (manyTurns (suc maxTurns)) enough (refuse 5 8194)

@@ -11,7 +11,7 @@ use borrow.Author.Tests.{eqb-true, eqb-false, eq-eqb, ne-eqb, lt-ltb, le-ltb}
 use Rattle.model.specs.Declared.{Instruction}
 use Rattle.model.specs.Program.{Program}
 use Rattle.model.specs.State.{State, idle, positionAt, waitingAt}
-use Rattle.model.specs.Turn.{Entry, entry, completed, stopped, oldest, begun, finished, someBelow, delivered, performed, entryOf, blocked, executed, started, commandOf, turn}
+use Rattle.model.specs.Turn.{Entry, entry, completed, stopped, oldest, begun, finished, someBelow, delivered, performed, entryOf, blocked, executed, idleTurn, instructionAt, turn}
 use Rattle.model.specs.Permission.{permitted, redacted, enforced, monitoredTurn}
 use Rattle.model.proofs.Logic.{or-left, or-right}
 
@@ -95,7 +95,7 @@ module _ (P : Program) (s : State) (n : ℕ) where
   unfolding turn
   turn-begun p w = rw (eq-eqb (positionAt s n) idle p, ne-eqb (waitingAt s n) 0 w)
 
-  pub turn-executed : ¬ (positionAt s n ≡ idle) → positionAt s n < length (P .handler n) → turn P s n ≡ executed P s n (commandOf P n (positionAt s n))
+  pub turn-executed : ¬ (positionAt s n ≡ idle) → positionAt s n < length (P .handler n) → turn P s n ≡ executed P s n (instructionAt P n (positionAt s n))
   unfolding turn
   turn-executed p l = rw (ne-eqb (positionAt s n) idle p, lt-ltb (positionAt s n) (length (P .handler n)) l)
 
@@ -103,7 +103,7 @@ module _ (P : Program) (s : State) (n : ℕ) where
   unfolding turn
   turn-finished p l = rw (ne-eqb (positionAt s n) idle p, le-ltb (positionAt s n) (length (P .handler n)) l)
 
-  pub turn-started : positionAt s n ≡ idle → turn P s n ≡ started s n
+  pub turn-started : positionAt s n ≡ idle → turn P s n ≡ idleTurn s n
   unfolding turn
   turn-started p = rw (eq-eqb (positionAt s n) idle p)
 

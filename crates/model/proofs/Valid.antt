@@ -3,17 +3,18 @@ use Prim.Native.Nat.{ℕ, suc, _+_, _≤_, _<_, zero-le}
 use mathlib.Core.Path.{_≡_, refl}
 use mathlib.Core.Bool.{Bool, true, false, cond, not, _&&_}
 use mathlib.Core.List.{List, [], _∷_}
-use mathlib.Core.Option.{Option, none, some}
+use mathlib.Core.Option.{some}
 use native.Mathlib.Omega.{arith}
 use lib.Dec.{leb, eqb}
 use borrow.Author.Tests.{leb-false, ltb-false, eqb-true}
-use Rattle.model.specs.Table.{FLOW, NODE, VAR, FUN, ARG, TURN, OperandKind, scope, owner, start, answer, node, port, target, function, value, variable, jump, absent, limit, isAmong, largestIn, largestOf, maxFlows, maxNodes, maxVariables, maxFunctions, maxArguments, maxTurns}
+use Rattle.model.specs.Table.{FLOW, NODE, VAR, FUN, ARG, TURN, OperandKind, scope, owner, start, answer, node, port, target, function, value, variable, jump, absent, limit, isAmong, largestIn, largestOf, maxFlows, maxNodes, maxVariables, maxFunctions, maxArgCommands, maxTurns}
 use Rattle.model.specs.Command.{Command, is}
 use Rattle.model.specs.Declared.{countOf, countAmong, isHandler, openBody, belongs, bodyLength}
-use Rattle.model.specs.Refusal.{groupFalls, isReached, exceedsCount, countsOf, noOwner, namesNothing, undeclared, outOfReach, repeated, violation, Refusal, Decoded, accepted, rejected, decode, acceptUnless, andThen, farJump, decodeJob, Sizes, shortBuffer, decodeFor}
+use Rattle.model.specs.Refusal.{groupFalls, isReached, exceedsCount, countsOf, noOwner, namesNothing, undeclared, outOfReach, repeated, violation, accepted, decode, decodeJob, sizes}
+use Rattle.model.specs.Conclusion.{Reads, begin, further, Refuses}
 use Rattle.model.specs.Valid.{InRange, Valid, Passes, ValidJob, Named, Limits}
 use Rattle.model.proofs.Reading.{read-at}
-use Rattle.model.proofs.Walking.{Decides, decode-keeps}
+use Rattle.model.proofs.Walking.{Decides, PassedEight, PassedNine, decode-walked, decode-job-walked}
 use Rattle.model.proofs.Logic.{true-false, and-false, and-left, and-right, none-of}
 
 -- no refusal: the test is false, and the later tests refuse nothing
@@ -32,35 +33,20 @@ passes past c e =
     let g = cond-false (repeated past c) 7 _ (f .1) in
     record { ordered = a .0; counted = b .0; declares = d .0; reaches = f .0; fresh = g .0 }
 
--- what is decoded is valid
-decode-valid : (job : List ℕ) → Decides Valid (λ r. Unit {0}) (decode job)
-decode-valid job = decode-keeps job Valid (λ r. Unit {0}) (λ place past c next h e p v. (v, read-at job place c next e .plain, p)) (λ place k h l m. tt) tt tt
+-- the commands that a job reads are valid
+pub reads-valid : {job : List ℕ} {place : ℕ} {past : List Command} → Reads job place past → Valid past
+reads-valid begin = tt
+reads-valid {job} (further place past c next reads h e v) = (reads-valid reads, read-at job place c next e .plain, v)
 
 -- an accepted job's commands are valid, after tests 1 to 8, 1 to 9 and 1 to 12
 pub decoded-valid : (job : List ℕ) (past : List Command) → decode job ≡ accepted past → Valid past
-decoded-valid job past e = rw e at (decode-valid job)
+decoded-valid job past e = let w : Decides (PassedEight job) (Refuses job (sizes 0 0 0)) (accepted past) = rw e at (decode-walked job (sizes 0 0 0)) in reads-valid (w .reads)
 
--- a further test accepts the commands as they are, and finds nothing
-pub and-then-accepted : (test : List Command → Option Refusal) (d : Decoded) (past : List Command) → andThen test d ≡ accepted past → (d ≡ accepted past) × (test past ≡ none)
-and-then-accepted test (rejected r) past e = let w : _≡_ {A = ℕ} 0 1 = cc in absurd (omega arith)
-and-then-accepted test (accepted all) past e = by-test (test all) refl e
-  where
-    by-test : (o : Option Refusal) → test all ≡ o → acceptUnless all o ≡ accepted past → (accepted all ≡ accepted past) × (test past ≡ none)
-    by-test none t q = let same : all ≡ past = cc in (q, rw (← same) t)
-    by-test (some r) t q = let w : _≡_ {A = ℕ} 0 1 = cc in absurd (omega arith)
-
-pub job-accepted : (job : List ℕ) (past : List Command) → decodeJob job ≡ accepted past → (decode job ≡ accepted past) × (farJump past ≡ none)
-unfolding decodeJob
-job-accepted job past e = and-then-accepted farJump (decode job) past e
+pub job-accepted : (job : List ℕ) (past : List Command) → decodeJob job ≡ accepted past → PassedNine job past
+job-accepted job past e = rw e at (decode-job-walked job (sizes 0 0 0))
 
 pub job-valid : (job : List ℕ) (past : List Command) → decodeJob job ≡ accepted past → ValidJob past
-job-valid job past e =
-    let h = job-accepted job past e in
-    record { commands = decoded-valid job past (h .0); jumps = h .1 }
-
-pub job-fits : (job : List ℕ) (b : Sizes) (past : List Command) → decodeFor job b ≡ accepted past → (decodeJob job ≡ accepted past) × (shortBuffer job b past ≡ none)
-unfolding decodeFor
-job-fits job b past e = and-then-accepted (shortBuffer job b) (decodeJob job) past e
+job-valid job past e = let j = job-accepted job past e in record { commands = reads-valid (j .read .reads); jumps = j .jumps }
 
 -- a largest count is kept
 module _ (past : List Command) (c : Command) (b most : ℕ) (m : largestOf b ≡ some (limit (b ∷ []) most)) (e : exceedsCount past c ≡ false) where
@@ -102,7 +88,7 @@ limits past v =
       nodes = count-limit past v NODE maxNodes refl;
       variables = count-limit past v VAR maxVariables refl;
       functions = count-limit past v FUN maxFunctions refl;
-      arguments = count-limit past v ARG maxArguments refl;
+      arguments = count-limit past v ARG maxArgCommands refl;
       turns = count-limit past v TURN maxTurns refl;
       handlers = handler-limit past v;
     }

@@ -1,5 +1,5 @@
--- Induction over decoding: what every command that passes keeps holds of the commands of an accepted job.
-use Prim.Native.Nat.{ℕ, zero, suc, _≤_, _<_}
+-- Decoding comes to the commands that a job reads, or to the first test that it fails.
+use Prim.Native.Nat.{ℕ, zero, suc, _+_, _≤_, _<_}
 use mathlib.Core.Path.{_≡_, refl}
 use mathlib.Core.Bool.{Bool, true, false, cond, _||_}
 use mathlib.Core.List.{List, [], _∷_}
@@ -7,76 +7,101 @@ use mathlib.Core.Option.{Option, none, some}
 use native.Mathlib.Omega.{arith}
 use lib.Dec.{ltb, eqb}
 use lib.ListN.{length}
-use borrow.Author.Tests.{ltb-true}
+use borrow.Author.Tests.{ltb-true, ltb-false, eqb-true, eqb-false}
 use Rattle.model.specs.Table.{maxJob}
-use Rattle.model.specs.Command.{Command, Read, whole, unknown, cutShort, readCommand}
-use Rattle.model.specs.Refusal.{groupFalls, exceedsCount, undeclared, outOfReach, repeated, violation, Refusal, refuse, Decoded, accepted, rejected, decodeNext, decodeRead, decodeFrom, decode, acceptUnless, andThen}
+use Rattle.model.specs.Command.{Command, Parsed, whole, unknown, cutShort, readCommand}
+use Rattle.model.specs.Refusal.{violation, Refusal, refuse, Decoded, accepted, rejected, decodeNext, decodeRead, decodeFrom, decode, acceptUnless, andThen, farJump, decodeJob, Sizes, shortBuffer, decodeFor}
+use Rattle.model.specs.Conclusion.{HasLength, Reads, begin, further, Refuses, empty, long, noCommand, cutOff, violates, jumpsFar, hasShortBuffer, Accepts}
+use Rattle.model.proofs.Reading.{read-at}
 
 -- a property of the commands if they are accepted, and one of the refusal if they are not
 abbrev pub Decides : (List Command → Type 0) → (Refusal → Type 0) → Decoded → Type 0
 Decides Q R (accepted past) = Q past
 Decides Q R (rejected r) = R r
 
--- a violation is one of 4 to 8
-abbrev Allowed : ℕ → Type 0
-Allowed k = ¬ (k ≡ 0) → (4 ≤ k) × (k ≤ 8)
+-- the walk over a job that is neither empty nor too long
+module _ (job : List ℕ) (b : Sizes) (size : HasLength job) where
+  abbrev Walked : Decoded → Type 0
+  Walked = Decides (Reads job (length job)) (Refuses job b)
 
-either-number : (b : Bool) (k m : ℕ) → Allowed k → Allowed m → Allowed (cond b k m)
-either-number true k m p q = p
-either-number false k m p q = q
+  -- the rest of the walk, with a bound on the commands left that is high enough
+  abbrev Rest : ℕ → (ℕ → List Command → Decoded) → Type 0
+  Rest fuel rest = (place : ℕ) (past : List Command) → Reads job place past → place ≤ length job → length job ≤ place + fuel → Walked (rest place past)
 
-violation-allowed : (past : List Command) (c : Command) → Allowed (violation past c)
-unfolding violation
-violation-allowed past c =
-    either-number (groupFalls past c) 4 _ (λ _. (omega arith, omega arith))
-    (either-number (exceedsCount past c) 5 _ (λ _. (omega arith, omega arith))
-    (either-number (undeclared past c) 6 _ (λ _. (omega arith, omega arith))
-    (either-number (outOfReach past c) 7 _ (λ _. (omega arith, omega arith))
-    (either-number (repeated past c) 8 0 (λ _. (omega arith, omega arith)) (λ n. absurd (n refl))))))
+  module _ (fuel : ℕ) (rest : ℕ → List Command → Decoded) (ih : Rest fuel rest) (place : ℕ) (past : List Command) (reads : Reads job place past) (h : place < length job) (enough : length job ≤ place + suc fuel) where
+    next-walked : (c : Command) (next k : ℕ) → readCommand job place ≡ whole c next → violation past c ≡ k → Walked (decodeNext rest place past c next k)
+    next-walked c next zero e v =
+        let r = read-at job place c next e in
+        ih next (c ∷ past) (further place past c next reads h e v) (r .inside) (omega (arith, r .later))
+    next-walked c next (suc k) e v = violates size place past c next (suc k) reads h e v (λ z. omega arith)
 
-either : (Q : List Command → Type 0) (R : Refusal → Type 0) (b : Bool) (d e : Decoded) → (b ≡ true → Decides Q R d) → (b ≡ false → Decides Q R e) → Decides Q R (cond b d e)
-either Q R true d e p q = p refl
-either Q R false d e p q = q refl
+    read-walked : (r : Parsed) → readCommand job place ≡ r → Walked (decodeRead rest place past r)
+    read-walked unknown e = noCommand size place past reads h e
+    read-walked cutShort e = cutOff size place past reads h e
+    read-walked (whole c next) e = next-walked c next (violation past c) e refl
 
--- a property Q that every command passed keeps, and a property R of each refusal by 2 to 8 at a place inside the job
-module _
-    (job : List ℕ) (Q : List Command → Type 0) (R : Refusal → Type 0)
-    (grows : (place : ℕ) (past : List Command) (c : Command) (next : ℕ) → place < length job → readCommand job place ≡ whole c next → violation past c ≡ 0 → Q past → Q (c ∷ past))
-    (refuses : (place k : ℕ) → place < length job → 2 ≤ k → k ≤ 8 → R (refuse k place))
+  from-walked : (fuel place : ℕ) (past : List Command) → Reads job place past → place ≤ length job → length job ≤ place + fuel → Walked (decodeFrom fuel job place past)
+  unfolding decodeFrom
+  from-walked zero place past reads i f = let here : place ≡ length job = omega arith in rw here at reads
+  from-walked (suc fuel) place past reads i f = by-place (ltb place (length job)) refl (from-walked fuel)
+    where
+      by-place : (t : Bool) → ltb place (length job) ≡ t → Rest fuel (decodeFrom fuel job) → Walked (cond t (decodeRead (decodeFrom fuel job) place past (readCommand job place)) (accepted past))
+      by-place true t ih = read-walked fuel (decodeFrom fuel job) ih place past reads (ltb-true place (length job) t) f (readCommand job place) refl
+      by-place false t ih = let here : place ≡ length job = omega (arith, ltb-false place (length job) t) in rw here at reads
+
+-- a job whose commands pass the tests 1 to 8
+pub record PassedEight (job : List ℕ) (past : List Command) : Type 0 where
+  pub size : HasLength job
+  pub reads : Reads job (length job) past
+
+-- after the tests 1 to 8
+pub decode-walked : (job : List ℕ) (b : Sizes) → Decides (PassedEight job) (Refuses job b) (decode job)
+unfolding decode
+decode-walked job b = by-length (eqb (length job) 0) refl (ltb maxJob (length job)) refl
   where
-    module _ (rest : ℕ → List Command → Decoded) (ih : (place : ℕ) (past : List Command) → Q past → Decides Q R (rest place past)) (place : ℕ) (past : List Command) (h : place < length job) (q : Q past) where
-      next-keeps : (c : Command) (next k : ℕ) → readCommand job place ≡ whole c next → violation past c ≡ k → Allowed k → Decides Q R (decodeNext rest place past c next k)
-      next-keeps c next zero e v l = ih next (c ∷ past) (grows place past c next h e v q)
-      next-keeps c next (suc k) e v l = let m = l (λ z. omega arith) in refuses place (suc k) h (omega arith) (omega arith)
+    sized : (size : HasLength job) (d : Decoded) → Decides (Reads job (length job)) (Refuses job b) d → Decides (PassedEight job) (Refuses job b) d
+    sized size (accepted past) q = record { size = size; reads = q }
+    sized size (rejected r) q = q
 
-      read-keeps : (r : Read) → readCommand job place ≡ r → Decides Q R (decodeRead rest place past r)
-      read-keeps unknown e = refuses place 2 h (omega arith) (omega arith)
-      read-keeps cutShort e = refuses place 3 h (omega arith) (omega arith)
-      read-keeps (whole c next) e = next-keeps c next (violation past c) e refl (violation-allowed past c)
+    by-length :
+        (t : Bool) → eqb (length job) 0 ≡ t → (u : Bool) → ltb maxJob (length job) ≡ u
+        → Decides (PassedEight job) (Refuses job b) (cond (t || u) (rejected (refuse 1 0)) (decodeFrom (length job) job 0 []))
+    by-length true p u q = empty (eqb-true (length job) 0 p)
+    by-length false p true q = long (ltb-true maxJob (length job) q)
+    by-length false p false q =
+        let size : HasLength job = record { lowest = omega (arith, eqb-false (length job) 0 p); highest = ltb-false maxJob (length job) q } in
+        sized size (decodeFrom (length job) job 0 []) (from-walked job b size (length job) 0 [] begin (omega arith) (omega arith))
 
-    decode-from-keeps : (fuel place : ℕ) (past : List Command) → Q past → Decides Q R (decodeFrom fuel job place past)
-    unfolding decodeFrom
-    decode-from-keeps zero place past q = q
-    decode-from-keeps (suc fuel) place past q =
-        either Q R (ltb place (length job)) _ _
-        (λ t. read-keeps (decodeFrom fuel job) (decode-from-keeps fuel) place past (ltb-true place (length job) t) q (readCommand job place) refl)
-        (λ _. q)
-
-    pub decode-keeps : Q [] → R (refuse 1 0) → Decides Q R (decode job)
-    unfolding decode
-    decode-keeps q r = either Q R (eqb (length job) 0 || ltb maxJob (length job)) _ _ (λ _. r) (λ _. decode-from-keeps (length job) 0 [] q)
-
--- a further test
-abbrev pub Finds : (Refusal → Type 0) → Option Refusal → Type 0
-Finds R none = Unit {0}
-Finds R (some r) = R r
-
-pub and-then-keeps :
-    (Q : List Command → Type 0) (R : Refusal → Type 0) (test : List Command → Option Refusal) (d : Decoded)
-    → ((past : List Command) → Q past → Finds R (test past)) → Decides Q R d → Decides Q R (andThen test d)
-and-then-keeps Q R test (rejected r) f q = q
-and-then-keeps Q R test (accepted past) f q = by-test (test past) (f past q)
+-- a further test, if all commands are accepted so far
+and-then-walked :
+    (Q S : List Command → Type 0) (R : Refusal → Type 0) (test : List Command → Option Refusal) (d : Decoded)
+    → ((past : List Command) → Q past → test past ≡ none → S past) → ((past : List Command) (r : Refusal) → Q past → test past ≡ some r → R r)
+    → Decides Q R d → Decides S R (andThen test d)
+and-then-walked Q S R test (rejected r) pass fail q = q
+and-then-walked Q S R test (accepted past) pass fail q = by-test (test past) refl
   where
-    by-test : (o : Option Refusal) → Finds R o → Decides Q R (acceptUnless past o)
-    by-test none g = q
-    by-test (some r) g = g
+    by-test : (o : Option Refusal) → test past ≡ o → Decides S R (acceptUnless past o)
+    by-test none e = pass past q e
+    by-test (some r) e = fail past r q e
+
+-- after the tests 1 to 9
+pub record PassedNine (job : List ℕ) (past : List Command) : Type 0 where
+  pub read : PassedEight job past
+  pub jumps : farJump past ≡ none
+
+pub decode-job-walked : (job : List ℕ) (b : Sizes) → Decides (PassedNine job) (Refuses job b) (decodeJob job)
+unfolding decodeJob
+decode-job-walked job b =
+    and-then-walked (PassedEight job) (PassedNine job) (Refuses job b) farJump (decode job)
+    (λ past q e. record { read = q; jumps = e })
+    (λ past r q e. jumpsFar (q .size) past r (q .reads) e)
+    (decode-walked job b)
+
+-- after the tests 1 to 12
+pub decode-for-walked : (job : List ℕ) (b : Sizes) → Decides (Accepts job b) (Refuses job b) (decodeFor job b)
+unfolding decodeFor
+decode-for-walked job b =
+    and-then-walked (PassedNine job) (Accepts job b) (Refuses job b) (shortBuffer job b) (decodeJob job)
+    (λ past q e. record { size = q .read .size; reads = q .read .reads; jumps = q .jumps; buffers = e })
+    (λ past r q e. hasShortBuffer (q .read .size) past r (q .read .reads) (q .jumps) e)
+    (decode-job-walked job b)

@@ -10,7 +10,7 @@ use Rattle.model.specs.Table.{SET, TAKE, GET, PUT, ADD, PLUS, JUMPZ, JUM
 use Rattle.model.specs.Declared.{Instruction}
 use Rattle.model.specs.Program.{Program}
 use Rattle.model.specs.State.{State, idle, positionAt, accumulatorAt, waitingAt, withPosition, withQueues}
-use Rattle.model.specs.Turn.{Entry, entry, Turned, completed, stopped, oldest, begun, finished, delivered, performed, advanced, entryOf, blocked, commandOf, turn}
+use Rattle.model.specs.Turn.{Entry, entry, Turned, completed, stopped, oldest, begun, finished, delivered, performed, advanced, entryOf, blocked, instructionAt, turn}
 use Rattle.model.specs.Permission.{permitted, redacted, enforced, monitoredTurn}
 use Rattle.model.proofs.Logic.{true-false}
 
@@ -60,9 +60,9 @@ pub turn-by :
     (Q : Turned → Type 0) (P : Program) (s : State) (n : ℕ)
     → (positionAt s n ≡ idle → waitingAt s n ≡ 0 → Q (stopped 2 (entry n 0 0 0)))
     → (positionAt s n ≡ idle → ¬ (waitingAt s n ≡ 0) → Q (completed (entry n 1 0 (oldest s n)) (begun s n)))
-    → (positionAt s n < length (P .handler n) → blocked P s n (commandOf P n (positionAt s n)) ≡ true → Q (stopped 3 (entryOf P s n (commandOf P n (positionAt s n)))))
-    → (positionAt s n < length (P .handler n) → blocked P s n (commandOf P n (positionAt s n)) ≡ false
-    → Q (completed (entryOf P s n (commandOf P n (positionAt s n))) (performed P s n (commandOf P n (positionAt s n)))))
+    → (positionAt s n < length (P .handler n) → blocked P s n (instructionAt P n (positionAt s n)) ≡ true → Q (stopped 3 (entryOf P s n (instructionAt P n (positionAt s n)))))
+    → (positionAt s n < length (P .handler n) → blocked P s n (instructionAt P n (positionAt s n)) ≡ false
+    → Q (completed (entryOf P s n (instructionAt P n (positionAt s n))) (performed P s n (instructionAt P n (positionAt s n)))))
     → (length (P .handler n) ≤ positionAt s n → Q (completed (entry n 2 0 0) (finished s n)))
     → Q (turn P s n)
 unfolding turn
@@ -71,7 +71,7 @@ turn-by Q P s n unready begins full does ends =
     (λ p. either Q (eqb (waitingAt s n) 0) (stopped 2 _) (completed _ _) (λ w. unready (eqb-true _ _ p) (eqb-true _ _ w)) (λ w. begins (eqb-true _ _ p) (eqb-false (waitingAt s n) 0 w)))
     λ _.
     either Q (ltb (positionAt s n) (length (P .handler n))) _ _
-    (λ l. either Q (blocked P s n (commandOf P n (positionAt s n))) (stopped 3 _) (completed _ _) (full (ltb-true _ _ l)) (does (ltb-true _ _ l)))
+    (λ l. either Q (blocked P s n (instructionAt P n (positionAt s n))) (stopped 3 _) (completed _ _) (full (ltb-true _ _ l)) (does (ltb-true _ _ l)))
     (λ l. ends (ltb-false (positionAt s n) (length (P .handler n)) l))
 
 -- the lists leave an outcome as it is, or make it stop 1

@@ -13,15 +13,12 @@ pub record Operands : Type 0 where
   pub second : ℕ
   pub third : ℕ
 
--- three operands, two, and one
+-- three operands, and two
 abbrev pub ternary : ℕ → ℕ → ℕ → Operands
 ternary x y z = record { first = x; second = y; third = z }
 
 abbrev pub binary : ℕ → ℕ → Operands
 binary x y = ternary x y 0
-
-abbrev pub unary : ℕ → Operands
-unary x = binary x 0
 
 -- the operands are the same
 abbrev pub sameOperands : Operands → Operands → Bool
@@ -38,9 +35,9 @@ abbrev pub is : ℕ → Command → Bool
 is b c = eqb (c .byte) b
 
 -- the number that so many bytes of a job spell from a place on, lowest byte first
-unfoldable pub number : List ℕ → ℕ → ℕ → ℕ
-number job place zero = 0
-number job place (suc w) = getD job place 0 + 256 * number job (place + 1) w
+unfoldable pub numberAt : List ℕ → ℕ → ℕ → ℕ
+numberAt job place zero = 0
+numberAt job place (suc w) = getD job place 0 + 256 * numberAt job (place + 1) w
 
 -- where the first, second and third operand of a command begin, and where the next command does
 abbrev pub firstAt : ℕ → ℕ
@@ -58,25 +55,25 @@ endAt place kinds = thirdAt place kinds + width (operandAt kinds 2)
 -- the operands of these kinds behind a command byte
 abbrev pub operandsAt : List ℕ → ℕ → List OperandKind → Operands
 operandsAt job place kinds =
-    ternary (number job (firstAt place) (width (operandAt kinds 0)))
-    (number job (secondAt place kinds) (width (operandAt kinds 1)))
-    (number job (thirdAt place kinds) (width (operandAt kinds 2)))
+    ternary (numberAt job (firstAt place) (width (operandAt kinds 0)))
+    (numberAt job (secondAt place kinds) (width (operandAt kinds 1)))
+    (numberAt job (thirdAt place kinds) (width (operandAt kinds 2)))
 
 -- the command with operands of these kinds at a place of a job
 abbrev pub commandAt : List ℕ → ℕ → List OperandKind → Command
 commandAt job place kinds = record { place = place; byte = getD job place 0; operands = operandsAt job place kinds }
 
 -- what is read at a place: a command with the place behind it, no command byte, or a command whose operands run past the end
-pub data Read : Type 0 where
-  whole : Command → ℕ → Read
-  unknown : Read
-  cutShort : Read
+pub data Parsed : Type 0 where
+  whole : Command → ℕ → Parsed
+  unknown : Parsed
+  cutShort : Parsed
 
 -- what is read at a place of a job, by the operands of the byte there
-abbrev pub readAs : List ℕ → ℕ → Option (List OperandKind) → Read
+abbrev pub readAs : List ℕ → ℕ → Option (List OperandKind) → Parsed
 readAs job place none = unknown
 readAs job place (some kinds) = cond (leb (endAt place kinds) (length job)) (whole (commandAt job place kinds) (endAt place kinds)) cutShort
 
 -- what is read at a place of a job
-unfoldable pub readCommand : List ℕ → ℕ → Read
+unfoldable pub readCommand : List ℕ → ℕ → Parsed
 readCommand job place = readAs job place (operandsOf (getD job place 0))

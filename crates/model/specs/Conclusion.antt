@@ -1,39 +1,96 @@
--- Demand 1 of the definitions: every job with any buffers is refused by number and place, buffers untouched, or runs to one of the four stops.
-use Prim.Native.Nat.{ℕ, _*_, _≤_}
+-- Demand 1 of the definitions: a job is refused at the first test that it fails, by number and place, buffers untouched; every other job runs to one of the four stops.
+use Prim.Native.Nat.{ℕ, _*_, _≤_, _<_}
 use mathlib.Core.Path.{_≡_}
-use mathlib.Core.List.{List}
+use mathlib.Core.Logic.{_↔_, _⊎_}
+use mathlib.Core.List.{List, [], _∷_}
+use mathlib.Core.Option.{none, some}
 use lib.ListN.{length, take, drop, replicate}
-use Rattle.model.specs.Table.{maxTurns}
-use Rattle.model.specs.Output.{Answer}
-use Rattle.model.specs.Refusal.{Refusal, Sizes, sizes, snapshotSize, workSize}
-use Rattle.model.specs.Result.{Result, refused, ran, monitored, unmonitored, traceAfter, snapshotAfter, workAfter}
+use Rattle.model.specs.Table.{maxTurns, maxJob}
+use Rattle.model.specs.Command.{Command, whole, unknown, cutShort, readCommand}
+use Rattle.model.specs.Declared.{turnsOf}
+use Rattle.model.specs.Program.{Program, programOf}
+use Rattle.model.specs.Run.{Run, monitoredRun, unmonitoredRun}
+use Rattle.model.specs.Output.{Answer, traceIn, snapshotBytes}
+use Rattle.model.specs.Refusal.{violation, Refusal, refuse, farJump, Sizes, snapshotSize, workSize, shortBuffer}
+use Rattle.model.specs.Result.{Result, refused, ran, report, monitored, unmonitored, Buffers, sizesOf, traceAfter, snapshotAfter, workAfter}
 
--- a refusal has a number from 1 to 12, and a place inside the job or at its end
-pub record Refuses (job : List ℕ) (r : Refusal) : Type 0 where
-  pub lowest : 1 ≤ r .number
-  pub highest : r .number ≤ 12
-  pub inside : r .place ≤ length job
+-- the job is neither empty nor longer than 16,384 bytes
+pub record HasLength (job : List ℕ) : Type 0 where
+  pub lowest : 1 ≤ length job
+  pub highest : length job ≤ maxJob
 
--- a run answers a stop from 0 to 3 and at most 4,096 turns; its trace has 7 bytes a completed turn, its snapshot at most 2,624 bytes; the buffers are long enough
-pub record Runs (b : Sizes) (a : Answer) (trace snapshot : List ℕ) : Type 0 where
-  pub stops : a .stop ≤ 3
-  pub turns : a .turns ≤ maxTurns
-  pub traceLength : length trace ≡ 7 * a .turns
-  pub traceFits : length trace ≤ b .trace
-  pub snapshotLength : length snapshot ≤ snapshotSize
-  pub snapshotFits : length snapshot ≤ b .snapshot
+-- the commands of a job up to a place, the latest first: each is read where the one before it ends, and passes the tests 2 to 8
+pub data Reads (job : List ℕ) : ℕ → List Command → Type 0 where
+  begin : Reads job 0 []
+  further :
+      (place : ℕ) (past : List Command) (c : Command) (next : ℕ)
+      → Reads job place past → place < length job → readCommand job place ≡ whole c next → violation past c ≡ 0 → Reads job next (c ∷ past)
+
+-- the refusal of a job, and the first test that it fails
+pub data Refuses (job : List ℕ) (b : Sizes) : Refusal → Type 0 where
+  -- 1
+  empty : length job ≡ 0 → Refuses job b (refuse 1 0)
+  long : maxJob < length job → Refuses job b (refuse 1 0)
+  -- 2, 3, and 4 to 8, at the first offending command
+  noCommand :
+      HasLength job → (place : ℕ) (past : List Command)
+      → Reads job place past → place < length job → readCommand job place ≡ unknown → Refuses job b (refuse 2 place)
+  cutOff :
+      HasLength job → (place : ℕ) (past : List Command)
+      → Reads job place past → place < length job → readCommand job place ≡ cutShort → Refuses job b (refuse 3 place)
+  violates :
+      HasLength job → (place : ℕ) (past : List Command) (c : Command) (next k : ℕ)
+      → Reads job place past → place < length job → readCommand job place ≡ whole c next → violation past c ≡ k → ¬ (k ≡ 0) → Refuses job b (refuse k place)
+  -- 9, after all commands
+  jumpsFar :
+      HasLength job → (past : List Command) (r : Refusal)
+      → Reads job (length job) past → farJump past ≡ some r → Refuses job b r
+  -- 10 to 12
+  hasShortBuffer :
+      HasLength job → (past : List Command) (r : Refusal)
+      → Reads job (length job) past → farJump past ≡ none → shortBuffer job b past ≡ some r → Refuses job b r
+
+-- a job with these commands fails no test
+pub record Accepts (job : List ℕ) (b : Sizes) (past : List Command) : Type 0 where
+  pub size : HasLength job
+  pub reads : Reads job (length job) past
+  pub jumps : farJump past ≡ none
+  pub buffers : shortBuffer job b past ≡ none
+
+-- a run ends with a stop from 0 to 3 after at most 4,096 turns; its trace has 7 bytes a completed turn, its snapshot at most 2,624, and the buffers hold them
+pub record Ends (P : Program) (b : Sizes) (r : Run) : Type 0 where
+  pub stops : r .stop ≤ 3
+  pub turns : length (r .steps) ≤ maxTurns
+  pub traceLength : length (traceIn r) ≡ 7 * length (r .steps)
+  pub traceFits : length (traceIn r) ≤ b .trace
+  pub snapshotLength : length (snapshotBytes P (r .final)) ≤ snapshotSize
+  pub snapshotFits : snapshotSize ≤ b .snapshot
   pub workFits : workSize ≤ b .work
 
--- what a job with buffers of these lengths comes to
-abbrev pub Concludes : List ℕ → Sizes → Result → Type 0
-Concludes job b (refused r) = Refuses job r
-Concludes job b (ran a trace snapshot) = Runs b a trace snapshot
+-- the monitored ("watched") and the unmonitored ("bare") run of a job's commands, both with the job's turns
+abbrev pub monitoredOf : List Command → Run
+monitoredOf past = monitoredRun (programOf past) (turnsOf past)
 
--- both runs of a job; the unmonitored one never answers stop 1
+abbrev pub unmonitoredOf : List Command → Run
+unmonitoredOf past = unmonitoredRun (programOf past) (turnsOf past)
+
+-- what an accepted job comes to: both runs are handed over, and the unmonitored one never answers stop 1
+pub record BothEnd (job : List ℕ) (b : Sizes) (past : List Command) : Type 0 where
+  pub monitoredReports : monitored job b ≡ report (programOf past) (monitoredOf past)
+  pub unmonitoredReports : unmonitored job b ≡ report (programOf past) (unmonitoredOf past)
+  pub monitoredEnds : Ends (programOf past) b (monitoredOf past)
+  pub unmonitoredEnds : Ends (programOf past) b (unmonitoredOf past)
+  pub neverOne : ¬ (unmonitoredOf past .stop ≡ 1)
+
+-- what a job with buffers of these lengths comes to
 pub record Concluded (job : List ℕ) (b : Sizes) : Type 0 where
-  pub watched : Concludes job b (monitored job b)
-  pub bare : Concludes job b (unmonitored job b)
-  pub bareStop : (a : Answer) (trace snapshot : List ℕ) → unmonitored job b ≡ ran a trace snapshot → a .stop ≡ 1 → ⊥
+  -- it is refused or accepted
+  pub decided : ((r : Refusal) × Refuses job b r) ⊎ ((past : List Command) × Accepts job b past)
+  -- both runs refuse it exactly so
+  pub monitoredRefuses : (r : Refusal) → (monitored job b ≡ refused r) ↔ Refuses job b r
+  pub unmonitoredRefuses : (r : Refusal) → (unmonitored job b ≡ refused r) ↔ Refuses job b r
+  -- if it is accepted, both runs end
+  pub runs : (past : List Command) → Accepts job b past → BothEnd job b past
 
 -- a buffer that holds these bytes at its front; the bytes beyond are those of before, and so is its length
 pub record Filled (bytes before after : List ℕ) : Type 0 where
@@ -41,18 +98,22 @@ pub record Filled (bytes before after : List ℕ) : Type 0 where
   pub beyond : drop (length bytes) after ≡ drop (length bytes) before
   pub sameLength : length after ≡ length before
 
--- the trace, snapshot and work buffers afterwards
-pub record Leaves (result : Result) (trace snapshot work : List ℕ) : Type 0 where
+-- the buffers afterwards
+pub record Leaves (result : Result) (b : Buffers) : Type 0 where
   -- a refusal changes none of them
   pub untouched :
       (r : Refusal) → result ≡ refused r
-      → (traceAfter result trace ≡ trace) × (snapshotAfter result snapshot ≡ snapshot) × (workAfter result work ≡ work)
+      → (traceAfter result (b .trace) ≡ b .trace) × (snapshotAfter result (b .snapshot) ≡ b .snapshot) × (workAfter result (b .work) ≡ b .work)
   -- a run leaves its trace, its snapshot, and 16,384 zero bytes
   pub filled :
       (a : Answer) (t s : List ℕ) → result ≡ ran a t s
-      → Filled t trace (traceAfter result trace) × Filled s snapshot (snapshotAfter result snapshot) × Filled (replicate workSize 0) work (workAfter result work)
+      → Filled t (b .trace) (traceAfter result (b .trace)) × Filled s (b .snapshot) (snapshotAfter result (b .snapshot)) × Filled (replicate workSize 0) (b .work) (workAfter result (b .work))
 
--- both runs of a job with these buffers, whatever they held
-pub record BothLeave (job trace snapshot work : List ℕ) : Type 0 where
-  pub watched : Leaves (monitored job (sizes (length trace) (length snapshot) (length work))) trace snapshot work
-  pub bare : Leaves (unmonitored job (sizes (length trace) (length snapshot) (length work))) trace snapshot work
+-- demand 1: every job with any buffers, whatever they hold
+pub record Demand1 (job : List ℕ) (b : Buffers) : Type 0 where
+  pub concluded : Concluded job (sizesOf b)
+  pub monitoredLeaves : Leaves (monitored job (sizesOf b)) b
+  pub unmonitoredLeaves : Leaves (unmonitored job (sizesOf b)) b
+
+abbrev pub Demand1Holds : Type 0
+Demand1Holds = (job : List ℕ) (b : Buffers) → Demand1 job b

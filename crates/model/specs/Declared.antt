@@ -76,7 +76,7 @@ sees past n x = isSeen (scopeOf past x) (ownerOf past x) n (flowOf past n)
 abbrev pub isHandler : Command → Bool
 isHandler c = leb SET (c .byte) && leb (c .byte) SKIP
 
--- the node whose handler was opened last
+-- the node whose handler was opened last, 0 before every BODY
 unfoldable pub openBody : List Command → ℕ
 openBody [] = 0
 openBody (c ∷ past) = cond (is BODY c) (c .operands .first) (openBody past)
@@ -95,6 +95,7 @@ pub record Instruction : Type 0 where
   pub byte : ℕ
   pub operand : ℕ
 
+-- the instruction with these
 abbrev pub instruction : ℕ → ℕ → Instruction
 instruction b x = record { byte = b; operand = x }
 

@@ -1,4 +1,4 @@
--- The jobs worked by hand ("Jobs worked by hand"), K1 to K11, as rows of one list, and the one claim that the definitions give each row what it expects.
+-- The jobs worked by hand ("Jobs worked by hand"): K1 to K11, and 32 and 33 nodes, as rows of one list that is claimed once; 4,096 and 4,097 turns beside them.
 -- What is expected is written in bytes, so that no definition of the outputs stands on both sides.
 use Prim.Native.Nat.{ℕ, zero, suc}
 use mathlib.Core.Path.{_≡_}
@@ -28,11 +28,11 @@ unfoldable pub enough : Sizes
 enough = sizes 28672 2624 16384
 
 -- a monitored and an unmonitored row with long buffers
-unfoldable pub watched : List ℕ → Result → Example
-watched job expected = record { job = job; buffers = enough; isMonitored = true; expected = expected }
+unfoldable pub monitoredRow : List ℕ → Result → Example
+monitoredRow job expected = record { job = job; buffers = enough; isMonitored = true; expected = expected }
 
-unfoldable pub bare : List ℕ → Result → Example
-bare job expected = record { job = job; buffers = enough; isMonitored = false; expected = expected }
+unfoldable pub unmonitoredRow : List ℕ → Result → Example
+unmonitoredRow job expected = record { job = job; buffers = enough; isMonitored = false; expected = expected }
 
 -- so many times the bytes
 unfoldable pub times : ℕ → List ℕ → List ℕ
@@ -89,8 +89,8 @@ unfoldable pub ends : ℕ → ℕ → Entry → List ℕ → List ℕ → Result
 ends stop turns e trace snapshot = ran (record { stop = stop; turns = turns; attempted = e }) trace snapshot
 
 -- the attempted entry of stop 0
-unfoldable pub none : Entry
-none = entry 0 0 0 0
+unfoldable pub noEntry : Entry
+noEntry = entry 0 0 0 0
 
 -- the trace of K1 with this START value and this value sent: the turns of node 0, those of node 1 up to its call, and the last two
 unfoldable pub k1First : List ℕ → ℕ → List ℕ
@@ -103,32 +103,32 @@ k1Last sent = line 1 5 0 sent ++ line 1 2 0 0
 unfoldable pub examples : List Example
 examples =
     -- K1
-    watched (k1 k1Read (low 2) 0) (ends 0 9 none (k1First (low 2) 7 ++ k1Last 7) (idleNode ++ idleNode ++ low 5))
+    monitoredRow (k1 k1Read (low 2) 0) (ends 0 9 noEntry (k1First (low 2) 7 ++ k1Last 7) (idleNode ++ idleNode ++ low 5))
     -- K2
-    ∷ watched (k1 k1Read (low 3) 0) (ends 1 7 (entry 1 5 0 8) (k1First (low 3) 8) (idleNode ++ nodeLine 1 8 8 0 ++ low 5))
+    ∷ monitoredRow (k1 k1Read (low 3) 0) (ends 1 7 (entry 1 5 0 8) (k1First (low 3) 8) (idleNode ++ nodeLine 1 8 8 0 ++ low 5))
     -- K3
-    ∷ bare (k1 k1Read (low 3) 0) (ends 0 9 none (k1First (low 3) 8 ++ k1Last 8) (idleNode ++ idleNode ++ low 5))
+    ∷ unmonitoredRow (k1 k1Read (low 3) 0) (ends 0 9 noEntry (k1First (low 3) 8 ++ k1Last 8) (idleNode ++ idleNode ++ low 5))
     -- K4
-    ∷ watched (k1 [] (low 2) 0) (ends 1 2 (entry 0 3 0 0) (line 0 1 0 2 ++ line 0 0 0 0) (nodeLine 1 2 2 0 ++ idleNode ++ low 5))
+    ∷ monitoredRow (k1 [] (low 2) 0) (ends 1 2 (entry 0 3 0 0) (line 0 1 0 2 ++ line 0 0 0 0) (nodeLine 1 2 2 0 ++ idleNode ++ low 5))
     -- K5
-    ∷ watched (k1 k1Read (low 2) 1) (ends 2 0 (entry 1 0 0 0) [] (nodeLine 255 0 0 1 ++ low 2 ++ idleNode ++ low 5))
+    ∷ monitoredRow (k1 k1Read (low 2) 1) (ends 2 0 (entry 1 0 0 0) [] (nodeLine 255 0 0 1 ++ low 2 ++ idleNode ++ low 5))
     -- K6
-    ∷ watched (k1 k1Read (0xFE ∷ 0xFF ∷ 0xFF ∷ 0xFF ∷ []) 0)
+    ∷ monitoredRow (k1 k1Read (0xFE ∷ 0xFF ∷ 0xFF ∷ 0xFF ∷ []) 0)
     (ends 1 7 (entry 1 5 0 3) (k1First (0xFE ∷ 0xFF ∷ 0xFF ∷ 0xFF ∷ []) 3) (idleNode ++ nodeLine 1 3 3 0 ++ low 5))
     -- K7
-    ∷ watched k7 (ends 3 33 (entry 0 6 0 0) (line 0 1 0 1 ++ times 16 (line 0 6 0 0 ++ line 0 0 0 0)) (nodeLine 0 0 1 16 ++ times 16 (low 0)))
+    ∷ monitoredRow k7 (ends 3 33 (entry 0 6 0 0) (line 0 1 0 1 ++ times 16 (line 0 6 0 0 ++ line 0 0 0 0)) (nodeLine 0 0 1 16 ++ times 16 (low 0)))
     -- K8
-    ∷ watched [] (refused (refuse 1 0))
+    ∷ monitoredRow [] (refused (refuse 1 0))
     -- K9
-    ∷ watched (0x02 ∷ []) (refused (refuse 6 0))
+    ∷ monitoredRow (0x02 ∷ []) (refused (refuse 6 0))
     -- K10
-    ∷ watched (0x01 ∷ 0x10 ∷ []) (refused (refuse 3 1))
+    ∷ monitoredRow (0x01 ∷ 0x10 ∷ []) (refused (refuse 3 1))
     -- K11
-    ∷ watched (0x01 ∷ 0x02 ∷ 0x40 ∷ 0x00 ∷ 0x48 ∷ 0x01 ∷ []) (ends 0 0 none [] idleNode)
-    ∷ watched (0x01 ∷ 0x02 ∷ 0x40 ∷ 0x00 ∷ 0x48 ∷ 0x02 ∷ []) (refused (refuse 9 4))
+    ∷ monitoredRow (0x01 ∷ 0x02 ∷ 0x40 ∷ 0x00 ∷ 0x48 ∷ 0x01 ∷ []) (ends 0 0 noEntry [] idleNode)
+    ∷ monitoredRow (0x01 ∷ 0x02 ∷ 0x40 ∷ 0x00 ∷ 0x48 ∷ 0x02 ∷ []) (refused (refuse 9 4))
     -- 32 and 33 nodes
-    ∷ watched (0x01 ∷ times 32 (0x02 ∷ [])) (ends 0 0 none [] (times 32 idleNode))
-    ∷ watched (0x01 ∷ times 33 (0x02 ∷ [])) (refused (refuse 5 33))
+    ∷ monitoredRow (0x01 ∷ times 32 (0x02 ∷ [])) (ends 0 0 noEntry [] (times 32 idleNode))
+    ∷ monitoredRow (0x01 ∷ times 33 (0x02 ∷ [])) (refused (refuse 5 33))
     ∷ []
 
 -- one flow with one node, and so many turns of the node

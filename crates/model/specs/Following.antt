@@ -29,7 +29,10 @@ pub record Follows (rule : State → ℕ → Turned) (turns : List ℕ) (start :
   pub goesOn : (k : ℕ) → k < length (r .steps) → rule (stateAt r k) (getD turns k 0) ≡ completed (entryAt r k) (stateAt r (suc k))
   pub ends : RanOut turns r ⊎ Halted rule turns r
 
--- both runs of any turns of a program
-pub record BothFollow (P : Program) (turns : List ℕ) : Type 0 where
-  pub bare : Follows (turn P) turns (initialState P) (unmonitoredRun P turns)
-  pub watched : Follows (monitoredTurn P) turns (initialState P) (monitoredRun P turns)
+-- demand 2: both runs of any turns of a program
+pub record Demand2 (P : Program) (turns : List ℕ) : Type 0 where
+  pub unmonitoredFollows : Follows (turn P) turns (initialState P) (unmonitoredRun P turns)
+  pub monitoredFollows : Follows (monitoredTurn P) turns (initialState P) (monitoredRun P turns)
+
+abbrev pub Demand2Holds : Type 0
+Demand2Holds = (P : Program) (turns : List ℕ) → Demand2 P turns

@@ -13,6 +13,7 @@ pub record Answer : Type 0 where
   pub turns : ℕ
   pub attempted : Entry
 
+-- the answer of a run
 abbrev pub answerIn : Run → Answer
 answerIn r = record { stop = r .stop; turns = length (r .steps); attempted = r .attempted }
 

@@ -5,7 +5,7 @@ use mathlib.Core.List.{List, [], _∷_, _++_}
 use Rattle.model.specs.Turn.{entry}
 use Rattle.model.specs.Refusal.{refuse, Sizes, sizes}
 use Rattle.model.specs.Result.{Result, refused}
-use Rattle.model.specs.Examples.{Example, RowsHold, watched, times, low, line, nodeLine, idleNode, ends, none}
+use Rattle.model.specs.Examples.{Example, RowsHold, monitoredRow, unmonitoredRow, times, low, line, nodeLine, idleNode, ends, noEntry}
 
 -- a monitored row with buffers of these lengths
 unfoldable pub within : Sizes → List ℕ → Result → Example
@@ -27,55 +27,89 @@ turns k n = times k (0x60 ∷ n ∷ [])
 unfoldable pub orderRows : List Example
 orderRows =
     -- 2: an unknown last byte
-    watched (nodes 1 ++ (0xFF ∷ [])) (refused (refuse 2 2))
+    monitoredRow (nodes 1 ++ (0xFF ∷ [])) (refused (refuse 2 2))
+    -- 3 before 5: the 65th variable, cut off
+    ∷ monitoredRow (times 64 (global 0) ++ (0x10 ∷ 0x02 ∷ [])) (refused (refuse 3 448))
     -- 3 before 4: a command of a lower group that is cut off
-    ∷ watched (nodes 1 ++ turns 1 0 ++ (0x20 ∷ 0x00 ∷ [])) (refused (refuse 3 4))
+    ∷ monitoredRow (nodes 1 ++ turns 1 0 ++ (0x20 ∷ 0x00 ∷ [])) (refused (refuse 3 4))
     -- 4 before 6: a lower group and an undeclared node
-    ∷ watched (nodes 1 ++ turns 1 0 ++ (0x20 ∷ 0x05 ∷ 0x00 ∷ 0x00 ∷ [])) (refused (refuse 4 4))
+    ∷ monitoredRow (nodes 1 ++ turns 1 0 ++ (0x20 ∷ 0x05 ∷ 0x00 ∷ 0x00 ∷ [])) (refused (refuse 4 4))
     -- 5 before 6: the 65th variable, of scope 9
-    ∷ watched (times 64 (global 0) ++ 0x10 ∷ 0x09 ∷ 0x00 ∷ low 0) (refused (refuse 5 448))
+    ∷ monitoredRow (times 64 (global 0) ++ 0x10 ∷ 0x09 ∷ 0x00 ∷ low 0) (refused (refuse 5 448))
     -- 6 before 7: a variable that is not declared, and so not seen
-    ∷ watched (nodes 2 ++ (0x40 ∷ 0x01 ∷ 0x43 ∷ 0x00 ∷ [])) (refused (refuse 6 5))
+    ∷ monitoredRow (nodes 2 ++ (0x40 ∷ 0x01 ∷ 0x43 ∷ 0x00 ∷ [])) (refused (refuse 6 5))
     -- 6: a handler command before every BODY
-    ∷ watched (nodes 1 ++ (0x42 ∷ [])) (refused (refuse 6 2))
+    ∷ monitoredRow (nodes 1 ++ (0x42 ∷ [])) (refused (refuse 6 2))
+    -- 6: port 4
+    ∷ monitoredRow (nodes 1 ++ (0x20 ∷ 0x00 ∷ 0x04 ∷ 0x00 ∷ [])) (refused (refuse 6 2))
+    -- 7: a wire into another flow
+    ∷ monitoredRow (nodes 1 ++ nodes 1 ++ (0x20 ∷ 0x00 ∷ 0x00 ∷ 0x01 ∷ [])) (refused (refuse 7 4))
+    -- 7: a handler command with another node's variable
+    ∷ monitoredRow (nodes 2 ++ 0x10 ∷ 0x00 ∷ 0x01 ∷ low 0 ++ (0x40 ∷ 0x00 ∷ 0x43 ∷ 0x00 ∷ [])) (refused (refuse 7 12))
+    -- 7: READ of the node's own variable, which is not shared
+    ∷ monitoredRow (nodes 1 ++ 0x10 ∷ 0x00 ∷ 0x00 ∷ low 0 ++ (0x32 ∷ 0x00 ∷ 0x00 ∷ [])) (refused (refuse 7 9))
     -- 8 before 9: a jump out of its body, then a second BODY
-    ∷ watched (nodes 1 ++ (0x40 ∷ 0x00 ∷ 0x48 ∷ 0x05 ∷ 0x40 ∷ 0x00 ∷ [])) (refused (refuse 8 6))
+    ∷ monitoredRow (nodes 1 ++ (0x40 ∷ 0x00 ∷ 0x48 ∷ 0x05 ∷ 0x40 ∷ 0x00 ∷ [])) (refused (refuse 8 6))
+    -- 9 at the first of two such jumps
+    ∷ monitoredRow (nodes 1 ++ (0x40 ∷ 0x00 ∷ 0x48 ∷ 0x05 ∷ 0x47 ∷ 0x06 ∷ [])) (refused (refuse 9 4))
+    -- an unmonitored run refuses alike
+    ∷ unmonitoredRow (nodes 1 ++ (0x32 ∷ 0x00 ∷ 0x00 ∷ [])) (refused (refuse 6 2))
     -- 10, 11 and 12 in this order, at the job's length
     ∷ within (sizes 6 2623 16383) (nodes 1 ++ turns 1 0) (refused (refuse 10 4))
     ∷ within (sizes 7 2623 16383) (nodes 1 ++ turns 1 0) (refused (refuse 11 4))
     ∷ within (sizes 7 2624 16383) (nodes 1 ++ turns 1 0) (refused (refuse 12 4))
+    -- with no turns the trace buffer may be empty
+    ∷ within (sizes 0 2624 16384) (nodes 1) (ends 0 0 noEntry [] idleNode)
     ∷ []
 
 -- what is declared
 unfoldable pub declaredRows : List Example
 declaredRows =
+    -- 64 commands a body, and 65
+    monitoredRow (nodes 1 ++ 0x40 ∷ 0x00 ∷ times 64 (0x4B ∷ [])) (ends 0 0 noEntry [] idleNode)
+    ∷ monitoredRow (nodes 1 ++ 0x40 ∷ 0x00 ∷ times 65 (0x4B ∷ [])) (refused (refuse 5 68))
+    -- 8 flows, and 9
+    ∷ monitoredRow (times 8 (0x01 ∷ [])) (ends 0 0 noEntry [] [])
+    ∷ monitoredRow (times 9 (0x01 ∷ [])) (refused (refuse 5 8))
     -- one global variable is a job
-    watched (global 5) (ends 0 0 none [] (low 5))
+    ∷ monitoredRow (global 5) (ends 0 0 noEntry [] (low 5))
     -- ARG beside ANY and beside ARG with another argument is no repetition
-    ∷ watched
+    ∷ monitoredRow
     (nodes 1 ++ 0x11 ∷ low 0 ++ 0x30 ∷ 0x00 ∷ 0x00 ∷ 0x31 ∷ 0x00 ∷ 0x00 ∷ low 1 ++ 0x31 ∷ 0x00 ∷ 0x00 ∷ low 2)
-    (ends 0 0 none [] idleNode)
+    (ends 0 0 noEntry [] idleNode)
     -- a second START in the flow, of another node
-    ∷ watched (nodes 2 ++ 0x50 ∷ 0x00 ∷ low 1 ++ 0x50 ∷ 0x01 ∷ low 2) (refused (refuse 8 9))
+    ∷ monitoredRow (nodes 2 ++ 0x50 ∷ 0x00 ∷ low 1 ++ 0x50 ∷ 0x01 ∷ low 2) (refused (refuse 8 9))
     ∷ []
 
 -- what a turn does
 unfoldable pub turnRows : List Example
 turnRows =
     -- a node variable: GET, PUT and PLUS leave kind 0 and need no permission
-    watched
+    monitoredRow
     (nodes 1 ++ 0x10 ∷ 0x00 ∷ 0x00 ∷ low 5 ++ 0x40 ∷ 0x00 ∷ 0x43 ∷ 0x00 ∷ 0x44 ∷ 0x00 ∷ 0x46 ∷ 0x00 ∷ 0x50 ∷ 0x00 ∷ low 1 ++ turns 4 0)
-    (ends 0 4 none (line 0 1 0 1 ++ times 3 (line 0 0 0 0)) (nodeLine 3 10 1 0 ++ low 5))
+    (ends 0 4 noEntry (line 0 1 0 1 ++ times 3 (line 0 0 0 0)) (nodeLine 3 10 1 0 ++ low 5))
+    -- a flow variable that the node may read and write
+    ∷ monitoredRow
+    (nodes 1 ++ 0x10 ∷ 0x01 ∷ 0x00 ∷ low 5 ++ 0x32 ∷ 0x00 ∷ 0x00 ∷ 0x33 ∷ 0x00 ∷ 0x00 ∷ 0x40 ∷ 0x00 ∷ 0x43 ∷ 0x00 ∷ 0x45 ∷ low 1 ++ 0x44 ∷ 0x00 ∷ 0x50 ∷ 0x00 ∷ low 1 ++ turns 4 0)
+    (ends 0 4 noEntry (line 0 1 0 1 ++ line 0 3 0 5 ++ line 0 0 0 0 ++ line 0 4 0 6) (nodeLine 3 6 1 0 ++ low 6))
+    -- a call that ANY permits: the accumulator becomes the answer
+    ∷ monitoredRow
+    (nodes 1 ++ 0x11 ∷ low 9 ++ 0x30 ∷ 0x00 ∷ 0x00 ∷ 0x40 ∷ 0x00 ∷ 0x42 ∷ 0x4A ∷ 0x00 ∷ 0x50 ∷ 0x00 ∷ low 5 ++ turns 3 0)
+    (ends 0 3 noEntry (line 0 1 0 5 ++ line 0 0 0 0 ++ line 0 5 0 5) (nodeLine 2 9 5 0))
+    -- JUMPZ with 3, which goes on, and with 0, which jumps over the last SET
+    ∷ monitoredRow
+    (nodes 1 ++ 0x40 ∷ 0x00 ∷ 0x41 ∷ low 3 ++ 0x47 ∷ 0x04 ∷ 0x41 ∷ low 0 ++ 0x47 ∷ 0x05 ∷ 0x41 ∷ low 9 ++ 0x45 ∷ low 4 ++ 0x50 ∷ 0x00 ∷ low 1 ++ turns 6 0)
+    (ends 0 6 noEntry (line 0 1 0 1 ++ times 5 (line 0 0 0 0)) (nodeLine 6 4 1 0))
     -- a forbidden write: the attempted entry shows the accumulator, and the variable is not written
-    ∷ watched
+    ∷ monitoredRow
     (nodes 1 ++ global 5 ++ 0x32 ∷ 0x00 ∷ 0x00 ∷ 0x40 ∷ 0x00 ∷ 0x41 ∷ low 7 ++ 0x44 ∷ 0x00 ∷ 0x50 ∷ 0x00 ∷ low 1 ++ turns 3 0)
     (ends 1 2 (entry 0 4 0 7) (line 0 1 0 1 ++ line 0 0 0 0) (nodeLine 1 7 1 0 ++ low 5))
     -- the oldest message is taken first
-    ∷ watched
+    ∷ monitoredRow
     (nodes 2 ++ 0x20 ∷ 0x00 ∷ 0x00 ∷ 0x01 ∷ 0x40 ∷ 0x00 ∷ 0x49 ∷ 0x00 ∷ 0x42 ∷ 0x49 ∷ 0x00 ∷ 0x50 ∷ 0x00 ∷ low 9 ++ turns 4 0 ++ turns 1 1)
-    (ends 0 5 none (line 0 1 0 9 ++ line 0 6 0 0 ++ line 0 0 0 0 ++ line 0 6 0 9 ++ line 1 1 0 0) (nodeLine 3 9 9 0 ++ nodeLine 0 0 0 1 ++ low 9))
+    (ends 0 5 noEntry (line 0 1 0 9 ++ line 0 6 0 0 ++ line 0 0 0 0 ++ line 0 6 0 9 ++ line 1 1 0 0) (nodeLine 3 9 9 0 ++ nodeLine 0 0 0 1 ++ low 9))
     -- a send whose second target is full delivers to nobody
-    ∷ watched
+    ∷ monitoredRow
     (nodes 2 ++ 0x20 ∷ 0x00 ∷ 0x00 ∷ 0x00 ∷ 0x20 ∷ 0x00 ∷ 0x00 ∷ 0x01 ∷ 0x20 ∷ 0x00 ∷ 0x01 ∷ 0x01 ∷ 0x40 ∷ 0x00 ∷ times 16 (0x49 ∷ 0x01 ∷ []) ++ 0x49 ∷ 0x00 ∷ 0x50 ∷ 0x00 ∷ low 1 ++ turns 18 0)
     (ends 3 17 (entry 0 6 0 0) (line 0 1 0 1 ++ times 16 (line 0 6 1 0)) (nodeLine 16 0 1 0 ++ nodeLine 255 0 0 16 ++ times 16 (low 0)))
     ∷ []

@@ -6,7 +6,7 @@ use mathlib.Core.Option.{Option, none, some}
 use lib.Dec.{leb, ltb, eqb}
 use lib.ListN.{length}
 use Rattle.model.specs.Table.{FLOW, NODE, VAR, FUN, WIRE, READ, WRITE, BODY, GET, PUT, PLUS, JUMPZ, JUMP, START, TURN, OperandKind, scope, owner, start, answer, node, port, target, function, value, variable, jump, absent, kindAt, groupOf, Limit, largestOf, maxPort, maxHandler, maxJob}
-use Rattle.model.specs.Command.{Command, Read, whole, unknown, cutShort, is, readCommand}
+use Rattle.model.specs.Command.{Command, Parsed, whole, unknown, cutShort, is, readCommand}
 use Rattle.model.specs.Declared.{countOf, countAmong, occurs, flowOf, shared, sees, isHandler, openBody, bodyLength, startedIn}
 
 -- some test passes
@@ -39,6 +39,7 @@ pub record Counts : Type 0 where
   pub variables : ℕ
   pub functions : ℕ
 
+-- the counts of these commands
 abbrev pub countsOf : List Command → Counts
 countsOf past = record { flows = countOf FLOW past; nodes = countOf NODE past; variables = countOf VAR past; functions = countOf FUN past }
 
@@ -116,6 +117,7 @@ pub record Refusal : Type 0 where
   pub number : ℕ
   pub place : ℕ
 
+-- the refusal with these
 abbrev pub refuse : ℕ → ℕ → Refusal
 refuse number place = record { number = number; place = place }
 
@@ -130,7 +132,7 @@ decodeNext rest place past c next zero = rest next (c ∷ past)
 decodeNext rest place past c next (suc k) = rejected (refuse (suc k) place)
 
 -- 2 and 3, and then 4 to 8, by what is read at a place
-abbrev pub decodeRead : (ℕ → List Command → Decoded) → ℕ → List Command → Read → Decoded
+abbrev pub decodeRead : (ℕ → List Command → Decoded) → ℕ → List Command → Parsed → Decoded
 decodeRead rest place past unknown = rejected (refuse 2 place)
 decodeRead rest place past cutShort = rejected (refuse 3 place)
 decodeRead rest place past (whole c next) = decodeNext rest place past c next (violation past c)
@@ -140,7 +142,7 @@ unfoldable pub decodeFrom : ℕ → List ℕ → ℕ → List Command → Decode
 decodeFrom zero job place past = accepted past
 decodeFrom (suc fuel) job place past = cond (ltb place (length job)) (decodeRead (decodeFrom fuel job) place past (readCommand job place)) (accepted past)
 
--- 1 to 8
+-- the commands of a job after the tests 1 to 8, or its refusal
 unfoldable pub decode : List ℕ → Decoded
 decode job = cond (eqb (length job) 0 || ltb maxJob (length job)) (rejected (refuse 1 0)) (decodeFrom (length job) job 0 [])
 
@@ -172,7 +174,7 @@ isFarJump all past c = (is JUMPZ c || is JUMP c) && ltb (bodyLength all (openBod
 abbrev pub farJump : List Command → Option Refusal
 farJump all = refuseFirst 9 (isFarJump all) all
 
--- 1 to 9
+-- the same after the tests 1 to 9
 unfoldable pub decodeJob : List ℕ → Decoded
 decodeJob job = andThen farJump (decode job)
 
@@ -182,6 +184,7 @@ pub record Sizes : Type 0 where
   pub snapshot : ℕ
   pub work : ℕ
 
+-- the lengths with these
 abbrev pub sizes : ℕ → ℕ → ℕ → Sizes
 sizes trace snapshot work = record { trace = trace; snapshot = snapshot; work = work }
 
@@ -200,6 +203,6 @@ shortBuffer job b past =
     (cond (ltb (b .work) workSize) (some (refuse 12 (length job)))
     none))
 
--- 1 to 12
+-- the same after the tests 1 to 12, with buffers of these lengths
 unfoldable pub decodeFor : List ℕ → Sizes → Decoded
 decodeFor job b = andThen (shortBuffer job b) (decodeJob job)

@@ -6,7 +6,7 @@ use Rattle.model.specs.Declared.{turnsOf}
 use Rattle.model.specs.Program.{Program, programOf}
 use Rattle.model.specs.Run.{Run, monitoredRun, unmonitoredRun}
 use Rattle.model.specs.Output.{Answer, answerIn, traceIn, snapshotBytes}
-use Rattle.model.specs.Refusal.{Refusal, Decoded, accepted, rejected, Sizes, decodeFor, workSize}
+use Rattle.model.specs.Refusal.{Refusal, Decoded, accepted, rejected, Sizes, sizes, decodeFor, workSize}
 
 -- a refusal, or an answer with the bytes of trace and snapshot
 pub data Result : Type 0 where
@@ -30,11 +30,20 @@ monitored job b = resultOf monitoredRun (decodeFor job b)
 unfoldable pub unmonitored : List ℕ → Sizes → Result
 unmonitored job b = resultOf unmonitoredRun (decodeFor job b)
 
+-- the trace, snapshot ("picture") and work buffers with what they hold, and their lengths
+pub record Buffers : Type 0 where
+  pub trace : List ℕ
+  pub snapshot : List ℕ
+  pub work : List ℕ
+
+abbrev pub sizesOf : Buffers → Sizes
+sizesOf b = sizes (length (b .trace)) (length (b .snapshot)) (length (b .work))
+
 -- a buffer after bytes were written to its front: those beyond stay unchanged
 abbrev pub written : List ℕ → List ℕ → List ℕ
 written bytes buffer = bytes ++ drop (length bytes) buffer
 
--- the trace, snapshot and work buffers afterwards: a refusal changes none
+-- the trace, snapshot and work buffers afterwards: a refusal changes none; a run leaves its trace, its snapshot, and 16,384 zero bytes
 abbrev pub traceAfter : Result → List ℕ → List ℕ
 traceAfter (refused r) buffer = buffer
 traceAfter (ran a trace snapshot) buffer = written trace buffer

@@ -19,7 +19,7 @@ pub record Run : Type 0 where
   pub attempted : Entry
   pub final : State
 
--- the run that ends in a state
+-- the run without a completed turn: it ends in this state, with this stop and attempted entry
 abbrev pub ended : State → ℕ → Entry → Run
 ended s k e = record { steps = []; stop = k; attempted = e; final = s }
 

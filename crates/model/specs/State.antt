@@ -5,7 +5,8 @@ use lib.ListN.{length, getD, set, replicate}
 use Rattle.model.specs.Table.{maxNodes, maxVariables}
 use Rattle.model.specs.Program.{Program}
 
--- of each node the position in its handler, the accumulator ("hand"), the message being handled and the waiting messages, oldest first; of each variable the value
+-- of each of 32 nodes the position in its handler, the accumulator ("hand"), the message being handled and the waiting messages, oldest first; of each of 64 variables the value.
+-- Nodes and variables that are not declared stay as they start, and no output shows them.
 pub record State : Type 0 where
   pub position : List ℕ
   pub accumulator : List ℕ

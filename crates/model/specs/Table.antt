@@ -100,6 +100,7 @@ pub record Row : Type 0 where
   pub byte : ℕ
   pub operands : List OperandKind
 
+-- the row with these
 abbrev pub row : ℕ → List OperandKind → Row
 row b kinds = record { byte = b; operands = kinds }
 
@@ -131,10 +132,6 @@ table =
     ∷ row TURN (node ∷ [])
     ∷ []
 
--- row i of the table, counted from 0
-abbrev pub rowAt : ℕ → Row
-rowAt i = getD table i (row 0 [])
-
 -- the operands in the first row with this byte
 unfoldable pub operandsIn : List Row → ℕ → Option (List OperandKind)
 operandsIn [] b = none
@@ -148,7 +145,7 @@ operandsOf b = operandsIn table b
 abbrev pub operandAt : List OperandKind → ℕ → OperandKind
 operandAt kinds i = getD kinds i absent
 
--- the operands of a command byte; the empty list where the byte is no command
+-- the operands that were found, and none otherwise
 abbrev pub listOf : Option (List OperandKind) → List OperandKind
 listOf none = []
 listOf (some kinds) = kinds
@@ -177,8 +174,8 @@ maxFunctions = 32
 abbrev pub maxHandler : ℕ
 maxHandler = 64
 
-abbrev pub maxArguments : ℕ
-maxArguments = 256
+abbrev pub maxArgCommands : ℕ
+maxArgCommands = 256
 
 abbrev pub maxTurns : ℕ
 maxTurns = 4096
@@ -200,6 +197,7 @@ pub record Limit : Type 0 where
   pub bytes : List ℕ
   pub most : ℕ
 
+-- the largest count with these
 abbrev pub limit : List ℕ → ℕ → Limit
 limit bytes k = record { bytes = bytes; most = k }
 
@@ -210,7 +208,7 @@ largestCounts =
     ∷ limit (NODE ∷ []) maxNodes
     ∷ limit (VAR ∷ []) maxVariables
     ∷ limit (FUN ∷ []) maxFunctions
-    ∷ limit (ARG ∷ []) maxArguments
+    ∷ limit (ARG ∷ []) maxArgCommands
     ∷ limit (TURN ∷ []) maxTurns
     ∷ []
 

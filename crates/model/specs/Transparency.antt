@@ -1,20 +1,18 @@
--- Demand 3: the monitored run beside the unmonitored one ("Watched beside bare"), one statement for every job, and so for every list of turns, and for all buffers.
--- A result depends on the lengths of the buffers, and never on the bytes that they held before.
+-- Demand 3: the monitored run beside the unmonitored one ("Watched beside bare"), one claim for every job, and so for every list of turns, and for all buffers.
 use Prim.Native.Nat.{ℕ, _<_}
 use mathlib.Core.Path.{_≡_}
 use mathlib.Core.Logic.{_↔_, _⊎_}
 use mathlib.Core.Bool.{true, false}
 use mathlib.Core.List.{List}
-use mathlib.Core.Option.{none}
 use lib.ListN.{length, take}
 use Rattle.model.specs.Command.{Command}
-use Rattle.model.specs.Declared.{turnsOf}
 use Rattle.model.specs.Program.{Program, programOf}
 use Rattle.model.specs.Permission.{permitted, redacted}
-use Rattle.model.specs.Run.{Run, entriesOf, entryAt, stateAt, monitoredRun, unmonitoredRun}
+use Rattle.model.specs.Run.{Run, entriesOf, entryAt, stateAt}
 use Rattle.model.specs.Output.{traceBytes, snapshotBytes}
-use Rattle.model.specs.Refusal.{Refusal, accepted, decodeJob, Sizes, shortBuffer}
-use Rattle.model.specs.Result.{Result, refused, ran, report, monitored, unmonitored}
+use Rattle.model.specs.Refusal.{Refusal}
+use Rattle.model.specs.Result.{Result, refused, ran, report, monitored, unmonitored, Buffers, sizesOf}
+use Rattle.model.specs.Conclusion.{Accepts, monitoredOf, unmonitoredOf, Leaves}
 
 -- every completed turn of a run has a permitted entry
 abbrev pub AllPermitted : Program → Run → Type 0
@@ -37,37 +35,38 @@ stoppedAt P r n =
     (traceBytes (take n (entriesOf (r .steps))))
     (snapshotBytes P (stateAt r n))
 
--- an unmonitored ("bare") and a monitored ("watched") run of a program
-pub record Comparison (P : Program) (bare watched : Run) : Type 0 where
-  -- the bare run has a first forbidden turn, or it has none
-  pub decided : ((n : ℕ) × FirstForbidden P bare n) ⊎ AllPermitted P bare
+-- an unmonitored ("bare") run u and a monitored ("watched") run m of a program
+pub record Comparison (P : Program) (u m : Run) : Type 0 where
+  -- u has a first forbidden turn, or it has none
+  pub decided : ((n : ℕ) × FirstForbidden P u n) ⊎ AllPermitted P u
   -- if it has none, what they hand over is identical: every field of the answer, trace and snapshot
-  pub identical : AllPermitted P bare → report P watched ≡ report P bare
-  -- if it has one, the watched run hands over the bare one stopped there
-  pub stops : (n : ℕ) → FirstForbidden P bare n → report P watched ≡ stoppedAt P bare n
-  -- the watched run answers stop 1 exactly if the bare one completes a forbidden turn
-  pub stopOne : (watched .stop ≡ 1) ↔ ((n : ℕ) × Forbidden P bare n)
-  -- every entry of the watched run is permitted
-  pub safe : AllPermitted P watched
+  pub identical : AllPermitted P u → report P m ≡ report P u
+  -- if it has one, m hands over u stopped there
+  pub stops : (n : ℕ) → FirstForbidden P u n → report P m ≡ stoppedAt P u n
+  -- m answers stop 1 exactly if u completes a forbidden turn
+  pub stopOne : (m .stop ≡ 1) ↔ ((n : ℕ) × Forbidden P u n)
+  -- every entry of m is permitted
+  pub safe : AllPermitted P m
 
--- the unmonitored ("bare") and the monitored ("watched") run of a job's commands, both with the job's turns
-abbrev pub bareRun : List Command → Run
-bareRun past = unmonitoredRun (programOf past) (turnsOf past)
+-- both runs of a job with these commands: what is handed over, and how it compares
+pub record BothRun (job : List ℕ) (forMonitored forUnmonitored : Buffers) (past : List Command) : Type 0 where
+  pub unmonitoredReports : unmonitored job (sizesOf forUnmonitored) ≡ report (programOf past) (unmonitoredOf past)
+  pub monitoredReports : monitored job (sizesOf forMonitored) ≡ report (programOf past) (monitoredOf past)
+  pub comparison : Comparison (programOf past) (unmonitoredOf past) (monitoredOf past)
 
-abbrev pub watchedRun : List Command → Run
-watchedRun past = monitoredRun (programOf past) (turnsOf past)
-
--- both runs of a job with these commands, each with buffers of its own lengths: what is handed over, and how it compares
-pub record BothRun (job : List ℕ) (forMonitored forUnmonitored : Sizes) (past : List Command) : Type 0 where
-  pub bareReports : unmonitored job forUnmonitored ≡ report (programOf past) (bareRun past)
-  pub watchedReports : monitored job forMonitored ≡ report (programOf past) (watchedRun past)
-  pub comparison : Comparison (programOf past) (bareRun past) (watchedRun past)
-
--- both runs of a job, each with buffers of its own lengths
-pub record Transparent (job : List ℕ) (forMonitored forUnmonitored : Sizes) : Type 0 where
+-- demand 3: the same job for both runs, each with buffers of its own, whatever they held before
+pub record Demand3 (job : List ℕ) (forMonitored forUnmonitored : Buffers) : Type 0 where
   -- with equal buffer lengths both refuse alike, by number and place
-  pub refuseAlike : forMonitored ≡ forUnmonitored → (r : Refusal) → (monitored job forMonitored ≡ refused r) ↔ (unmonitored job forUnmonitored ≡ refused r)
-  -- where the job is accepted and no buffer is too short, both run
+  pub refuseAlike :
+      sizesOf forMonitored ≡ sizesOf forUnmonitored → (r : Refusal)
+      → (monitored job (sizesOf forMonitored) ≡ refused r) ↔ (unmonitored job (sizesOf forUnmonitored) ≡ refused r)
+  -- if the job is accepted with either buffers, both run
   pub bothRun :
-      (past : List Command) → decodeJob job ≡ accepted past → shortBuffer job forMonitored past ≡ none → shortBuffer job forUnmonitored past ≡ none
+      (past : List Command) → Accepts job (sizesOf forMonitored) past → Accepts job (sizesOf forUnmonitored) past
       → BothRun job forMonitored forUnmonitored past
+  -- what is handed over stands in the buffers afterwards, and nothing else has changed
+  pub monitoredLeaves : Leaves (monitored job (sizesOf forMonitored)) forMonitored
+  pub unmonitoredLeaves : Leaves (unmonitored job (sizesOf forUnmonitored)) forUnmonitored
+
+abbrev pub Demand3Holds : Type 0
+Demand3Holds = (job : List ℕ) (forMonitored forUnmonitored : Buffers) → Demand3 job forMonitored forUnmonitored

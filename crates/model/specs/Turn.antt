@@ -16,6 +16,7 @@ pub record Entry : Type 0 where
   pub number : ℕ
   pub value : ℕ
 
+-- the entry with these
 abbrev pub entry : ℕ → ℕ → ℕ → ℕ → Entry
 entry n kind number value = record { node = n; kind = kind; number = number; value = value }
 
@@ -33,8 +34,8 @@ abbrev pub begun : State → ℕ → State
 begun s n = withQueue (withMessage (withAccumulator (withPosition s n 0) n 0) n (oldest s n)) n (drop 1 (queueAt s n))
 
 -- the turn of an idle node: stop 2 if its queue is empty, else kind 1 with the message
-abbrev pub started : State → ℕ → Turned
-started s n = cond (eqb (waitingAt s n) 0) (stopped 2 (entry n 0 0 0)) (completed (entry n 1 0 (oldest s n)) (begun s n))
+abbrev pub idleTurn : State → ℕ → Turned
+idleTurn s n = cond (eqb (waitingAt s n) 0) (stopped 2 (entry n 0 0 0)) (completed (entry n 1 0 (oldest s n)) (begun s n))
 
 -- the node becomes idle, accumulator and message 0
 abbrev pub finished : State → ℕ → State
@@ -103,13 +104,13 @@ performed P s n i =
 abbrev pub executed : Program → State → ℕ → Instruction → Turned
 executed P s n i = cond (blocked P s n i) (stopped 3 (entryOf P s n i)) (completed (entryOf P s n i) (performed P s n i))
 
--- the command of a node's handler at a position
-abbrev pub commandOf : Program → ℕ → ℕ → Instruction
-commandOf P n i = getD (P .handler n) i (instruction 0 0)
+-- the instruction of a node's handler at a position
+abbrev pub instructionAt : Program → ℕ → ℕ → Instruction
+instructionAt P n i = getD (P .handler n) i (instruction 0 0)
 
 -- one turn of a node: idle, at a handler command, or at the end of its handler
 unfoldable pub turn : Program → State → ℕ → Turned
 turn P s n =
-    cond (eqb (positionAt s n) idle) (started s n)
-    (cond (ltb (positionAt s n) (length (P .handler n))) (executed P s n (commandOf P n (positionAt s n)))
+    cond (eqb (positionAt s n) idle) (idleTurn s n)
+    (cond (ltb (positionAt s n) (length (P .handler n))) (executed P s n (instructionAt P n (positionAt s n)))
     (completed (entry n 2 0 0) (finished s n)))

@@ -5,7 +5,7 @@ use mathlib.Core.Bool.{true, false, _&&_}
 use mathlib.Core.List.{List, [], _∷_}
 use mathlib.Core.Option.{none}
 use lib.Dec.{leb}
-use Rattle.model.specs.Table.{FLOW, NODE, VAR, FUN, ARG, SET, SKIP, TURN, OperandKind, scope, owner, start, answer, node, port, target, function, value, variable, jump, absent, operandsOf, kindAt, maxFlows, maxNodes, maxVariables, maxFunctions, maxHandler, maxArguments, maxTurns, maxPort, maxWaiting}
+use Rattle.model.specs.Table.{FLOW, NODE, VAR, FUN, ARG, SET, SKIP, TURN, OperandKind, scope, owner, start, answer, node, port, target, function, value, variable, jump, absent, operandsOf, kindAt, maxFlows, maxNodes, maxVariables, maxFunctions, maxHandler, maxArgCommands, maxTurns, maxPort, maxWaiting}
 use Rattle.model.specs.Command.{Operands, Command}
 use Rattle.model.specs.Declared.{Instruction, countOf, bodyLength}
 use Rattle.model.specs.State.{State, waitingAt}
@@ -68,7 +68,7 @@ pub record Limits (past : List Command) : Type 0 where
   pub nodes : countOf NODE past ≤ maxNodes
   pub variables : countOf VAR past ≤ maxVariables
   pub functions : countOf FUN past ≤ maxFunctions
-  pub arguments : countOf ARG past ≤ maxArguments
+  pub arguments : countOf ARG past ≤ maxArgCommands
   pub turns : countOf TURN past ≤ maxTurns
   pub handlers : (n : ℕ) → bodyLength past n ≤ maxHandler
 

@@ -1,0 +1,147 @@
+//! Cases: a job, a mode and buffer lengths.
+
+use super::buffers::{self, Lengths};
+use super::count::{self, COUNTS};
+use super::damage::{damage, Damaged};
+use super::noise;
+use super::plan::Plan;
+use super::random::Random;
+use super::reason::Reason;
+use super::valid;
+use crate::outcome::{Mode, Refusal};
+use crate::table::{MAX_JOB_BYTES, TURN};
+
+/// Which cases are wanted.
+#[derive(Clone, Copy, Debug, PartialEq, Eq)]
+pub enum Kind {
+    /// Accepted jobs with buffers that are long enough.
+    Valid,
+    /// Damaged jobs and short buffers. Blind damage may leave a job acceptable.
+    Damaged,
+    Mixed,
+}
+
+#[derive(Clone, Debug)]
+pub struct Case {
+    pub job: Vec<u8>,
+    pub mode: Mode,
+    /// Buffer lengths: trace, snapshot, work.
+    pub lengths: Lengths,
+    /// Deliberate damage and the refusal that it must bring.
+    pub damage: Option<(Reason, Refusal)>,
+}
+
+/// The case `index` of a seed, with a job of at most `max_bytes` bytes, which are at least 1.
+pub fn case(seed: u64, index: u64, kind: Kind, max_bytes: usize) -> Case {
+    let mut random = Random::for_case(seed, index);
+    let is_valid = match kind {
+        Kind::Valid => true,
+        Kind::Damaged => false,
+        Kind::Mixed => random.chance(60),
+    };
+    if is_valid {
+        return valid_case(&mut random, max_bytes);
+    }
+    match random.weighted(&[60, 15, 6, 5, 14]) {
+        0 => damaged_case(&mut random, max_bytes),
+        1 => blind_case(&mut random, max_bytes, |job, random| noise::flip(job, random)),
+        2 => blind_case(&mut random, max_bytes, noise::cut),
+        3 => soup_case(&mut random, max_bytes),
+        _ => short_case(&mut random, max_bytes),
+    }
+}
+
+fn mode(random: &mut Random) -> Mode {
+    if random.chance(65) {
+        Mode::Monitored
+    } else {
+        Mode::Unmonitored
+    }
+}
+
+fn turns(plan: &Plan) -> usize {
+    plan.indices(TURN).len()
+}
+
+fn valid_plan(random: &mut Random, max_bytes: usize) -> Plan {
+    if max_bytes > 600 && random.chance(3) {
+        if let Some(plan) = full_plan(random).filter(|plan| plan.length() <= max_bytes) {
+            return plan;
+        }
+    }
+    let mut plan = valid::valid(random, max_bytes);
+    if plan.nodes() > 0 && random.chance(4) {
+        let count = turns(&plan);
+        valid::random_turns(&mut plan, random, count);
+    }
+    plan
+}
+
+/// A job that reaches a largest count exactly.
+fn full_plan(random: &mut Random) -> Option<Plan> {
+    let mut plan = valid::medium(random);
+    match random.below(COUNTS.len() + 1) {
+        0 => count::pad(&mut plan, random, MAX_JOB_BYTES)?,
+        which => {
+            count::fill(&mut plan, random, COUNTS[which - 1])?;
+        }
+    }
+    Some(plan)
+}
+
+fn valid_case(random: &mut Random, max_bytes: usize) -> Case {
+    let plan = valid_plan(random, max_bytes);
+    let lengths = buffers::enough(random, turns(&plan));
+    Case { job: plan.bytes(), mode: mode(random), lengths, damage: None }
+}
+
+fn short_case(random: &mut Random, max_bytes: usize) -> Case {
+    let plan = valid_plan(random, max_bytes);
+    let lengths = buffers::short(random, turns(&plan));
+    Case { job: plan.bytes(), mode: mode(random), lengths, damage: None }
+}
+
+/// Lengths for a job that may be refused before the buffers matter.
+fn some_lengths(random: &mut Random, turns: usize) -> Lengths {
+    if random.chance(75) {
+        buffers::enough(random, turns)
+    } else {
+        buffers::short(random, turns)
+    }
+}
+
+/// After so many jobs that are too long or do not suit the reason, an empty job has to do.
+const TRIES: usize = 300;
+
+fn damaged_case(random: &mut Random, max_bytes: usize) -> Case {
+    for _ in 0..TRIES {
+        let reason = Reason::draw(random);
+        let small = max_bytes <= 600 || random.chance(50);
+        let mut plan = if small { valid::valid(random, max_bytes.min(600)) } else { valid::medium(random) };
+        let turns = turns(&plan);
+        let Some(Damaged { job, refusal }) = damage(reason, &mut plan, random) else { continue };
+        if job.len() <= max_bytes {
+            let lengths = some_lengths(random, turns);
+            return Case { job, mode: mode(random), lengths, damage: Some((reason, refusal)) };
+        }
+    }
+    let refusal = Refusal { number: 1, place: 0 };
+    Case { job: Vec::new(), mode: mode(random), lengths: [0; 3], damage: Some((Reason::Empty, refusal)) }
+}
+
+fn blind_case(random: &mut Random, max_bytes: usize, spoil: impl FnOnce(&mut Vec<u8>, &mut Random)) -> Case {
+    let plan = valid::valid(random, max_bytes);
+    let mut job = plan.bytes();
+    spoil(&mut job, random);
+    let lengths = some_lengths(random, turns(&plan));
+    Case { job, mode: mode(random), lengths, damage: None }
+}
+
+fn soup_case(random: &mut Random, max_bytes: usize) -> Case {
+    let most = random.pick(&[4, 12, 40]);
+    let mut job = noise::soup(random, most);
+    job.truncate(max_bytes);
+    let turns = random.below(40);
+    let lengths = some_lengths(random, turns);
+    Case { job, mode: mode(random), lengths, damage: None }
+}

@@ -1,0 +1,140 @@
+//! Largest counts: exactly reached, and one past.
+
+use super::plan::{Plan, HANDLERS};
+use super::random::Random;
+use crate::table::{self, *};
+
+#[derive(Clone, Copy, Debug, PartialEq, Eq, PartialOrd, Ord)]
+pub enum Count {
+    Flows,
+    Nodes,
+    Variables,
+    Functions,
+    BodyCommands,
+    Args,
+    Turns,
+}
+
+pub const COUNTS: [Count; 7] = [
+    Count::Flows,
+    Count::Nodes,
+    Count::Variables,
+    Count::Functions,
+    Count::BodyCommands,
+    Count::Args,
+    Count::Turns,
+];
+
+/// Where a command of the counted kind goes: group and index, one behind the last of them.
+pub struct Spot {
+    pub group: usize,
+    pub index: usize,
+}
+
+/// Adds commands until the largest count is reached. The spot is where one more would pass it.
+pub fn fill(plan: &mut Plan, random: &mut Random, count: Count) -> Option<Spot> {
+    match count {
+        Count::Flows => (plan.flows..MAX_FLOWS).for_each(|_| {
+            plan.add_flow();
+        }),
+        Count::Nodes => (plan.nodes()..MAX_NODES).for_each(|_| {
+            plan.add_node();
+        }),
+        Count::Variables => (plan.variables.len()..MAX_VARIABLES).for_each(|_| {
+            plan.add_variable(2, 0, random.value());
+        }),
+        Count::Functions => (plan.functions..MAX_FUNCTIONS).for_each(|_| {
+            plan.add_function(random.value());
+        }),
+        Count::BodyCommands => return fill_body(plan, random),
+        Count::Args => fill_args(plan, random)?,
+        Count::Turns => fill_turns(plan, random)?,
+    }
+    let group = usize::from(group(byte_of(count)));
+    Some(Spot { group, index: plan.groups[group].len() })
+}
+
+/// A command byte of the counted kind.
+pub fn byte_of(count: Count) -> u8 {
+    match count {
+        Count::Flows => FLOW,
+        Count::Nodes => NODE,
+        Count::Variables => VAR,
+        Count::Functions => FUN,
+        Count::BodyCommands => SET,
+        Count::Args => ARG,
+        Count::Turns => TURN,
+    }
+}
+
+fn fill_body(plan: &mut Plan, random: &mut Random) -> Option<Spot> {
+    let bodies = plan.bodies();
+    if bodies.is_empty() {
+        return None;
+    }
+    let body = bodies[random.below(bodies.len())].clone();
+    for _ in body.len()..MAX_BODY_COMMANDS {
+        let filler = match random.below(4) {
+            0 => table::write(ADD, &[random.value()]),
+            1 => table::write(JUMP, &[random.between(0, MAX_BODY_COMMANDS) as u32]),
+            2 => table::write(TAKE, &[]),
+            _ => table::write(SKIP, &[]),
+        };
+        plan.groups[HANDLERS].insert(body.end, filler);
+    }
+    Some(Spot { group: HANDLERS, index: body.start + MAX_BODY_COMMANDS })
+}
+
+fn fill_args(plan: &mut Plan, random: &mut Random) -> Option<()> {
+    if plan.nodes() == 0 || plan.functions == 0 {
+        return None;
+    }
+    let mut value = random.value();
+    for _ in plan.indices(ARG).len()..MAX_ARGS {
+        let permissions = &plan.groups[usize::from(group(ARG))];
+        let node = random.below(plan.nodes()) as u32;
+        let function = random.below(plan.functions) as u32;
+        let mut arg = table::write(ARG, &[node, function, value]);
+        while permissions.contains(&arg) {
+            value = value.wrapping_add(1);
+            arg = table::write(ARG, &[node, function, value]);
+        }
+        value = value.wrapping_add(random.below(2) as u32);
+        plan.groups[usize::from(group(ARG))].push(arg);
+    }
+    Some(())
+}
+
+fn fill_turns(plan: &mut Plan, random: &mut Random) -> Option<()> {
+    if plan.nodes() == 0 {
+        return None;
+    }
+    for _ in plan.indices(TURN).len()..MAX_TURNS {
+        let node = random.below(plan.nodes()) as u8;
+        plan.add_turn(node);
+    }
+    Some(())
+}
+
+/// Makes the job exactly `length` bytes long, with every other count kept: long handlers and turns.
+pub fn pad(plan: &mut Plan, random: &mut Random, length: usize) -> Option<()> {
+    fill(plan, random, Count::Nodes)?;
+    fill(plan, random, Count::Turns)?;
+    let with_body: Vec<u8> = plan.indices(BODY).iter().map(|&at| plan.groups[HANDLERS][at][1]).collect();
+    for node in (0..MAX_NODES as u8).filter(|node| !with_body.contains(node)) {
+        plan.push(BODY, &[node.into()]);
+    }
+    let mut room = length.checked_sub(plan.length())?;
+    for body in plan.bodies().into_iter().rev() {
+        for _ in body.len()..MAX_BODY_COMMANDS {
+            let filler = match room {
+                0 => return Some(()),
+                1..=4 => table::write(SKIP, &[]),
+                _ => table::write(SET, &[random.value()]),
+            };
+            room -= filler.len();
+            plan.groups[HANDLERS].insert(body.end, filler);
+        }
+    }
+    (room == 0).then_some(())
+}

@@ -1,0 +1,22 @@
+//! Seeded generator of cases: valid jobs, damaged jobs, short buffers.
+
+mod buffers;
+mod case;
+pub mod count;
+pub mod damage;
+mod declare;
+mod handler;
+mod noise;
+mod permit;
+pub mod plan;
+mod random;
+mod reason;
+mod schedule;
+mod shape;
+mod size;
+pub mod valid;
+mod wire;
+
+pub use case::{case, Case, Kind};
+pub use random::Random;
+pub use reason::Reason;

@@ -1,0 +1,107 @@
+//! A job in the making: its commands by group, and what they declare.
+
+use crate::table::{self, group, BODY, FLOW, FUN, NODE, TURN, VAR};
+
+pub const GROUPS: usize = 7;
+/// The group of handler commands.
+pub const HANDLERS: usize = group(BODY) as usize;
+
+#[derive(Clone, Debug, Default)]
+pub struct Plan {
+    pub flows: usize,
+    /// The flow of each node.
+    pub flow_of: Vec<u8>,
+    /// Scope and owner of each variable.
+    pub variables: Vec<(u8, u8)>,
+    pub functions: usize,
+    /// The bytes of each command, by group.
+    pub groups: [Vec<Vec<u8>>; GROUPS],
+}
+
+impl Plan {
+    pub fn nodes(&self) -> usize {
+        self.flow_of.len()
+    }
+
+    /// Adds a command at the end of its group.
+    pub fn push(&mut self, byte: u8, operands: &[u32]) {
+        self.groups[usize::from(group(byte))].push(table::write(byte, operands));
+    }
+
+    pub fn add_flow(&mut self) -> u8 {
+        self.push(FLOW, &[]);
+        self.flows += 1;
+        self.flows as u8 - 1
+    }
+
+    /// Adds a node to the last flow.
+    pub fn add_node(&mut self) -> u8 {
+        self.push(NODE, &[]);
+        self.flow_of.push(self.flows as u8 - 1);
+        self.nodes() as u8 - 1
+    }
+
+    pub fn add_variable(&mut self, scope: u8, owner: u8, start: u32) -> u8 {
+        self.push(VAR, &[scope.into(), owner.into(), start]);
+        self.variables.push((scope, owner));
+        self.variables.len() as u8 - 1
+    }
+
+    pub fn add_function(&mut self, answer: u32) -> u8 {
+        self.push(FUN, &[answer]);
+        self.functions += 1;
+        self.functions as u8 - 1
+    }
+
+    pub fn add_turn(&mut self, node: u8) {
+        self.push(TURN, &[node.into()]);
+    }
+
+    pub fn is_shared(&self, variable: u8) -> bool {
+        self.variables[usize::from(variable)].0 != 0
+    }
+
+    pub fn sees(&self, node: u8, variable: u8) -> bool {
+        match self.variables[usize::from(variable)] {
+            (0, owner) => owner == node,
+            (1, owner) => owner == self.flow_of[usize::from(node)],
+            _ => true,
+        }
+    }
+
+    pub fn nodes_of(&self, flow: u8) -> Vec<u8> {
+        (0..self.nodes() as u8).filter(|&node| self.flow_of[usize::from(node)] == flow).collect()
+    }
+
+    /// The commands of a group that have this byte: their indices.
+    pub fn indices(&self, byte: u8) -> Vec<usize> {
+        let commands = self.groups[usize::from(group(byte))].iter().enumerate();
+        commands.filter(|(_, command)| command[0] == byte).map(|(index, _)| index).collect()
+    }
+
+    /// The node whose body is open before the handler group's command `index`.
+    pub fn body_at(&self, index: usize) -> Option<u8> {
+        self.groups[HANDLERS][..index].iter().rev().find(|command| command[0] == BODY).map(|body| body[1])
+    }
+
+    /// The bodies: the index range of each one's commands, without BODY.
+    pub fn bodies(&self) -> Vec<std::ops::Range<usize>> {
+        let mut starts = self.indices(BODY);
+        starts.push(self.groups[HANDLERS].len());
+        starts.windows(2).map(|pair| pair[0] + 1..pair[1]).collect()
+    }
+
+    pub fn length(&self) -> usize {
+        self.groups.iter().flatten().map(Vec::len).sum()
+    }
+
+    pub fn bytes(&self) -> Vec<u8> {
+        self.groups.iter().flatten().flatten().copied().collect()
+    }
+
+    /// The offset of a group's command; its count gives the group's end.
+    pub fn offset(&self, group: usize, index: usize) -> usize {
+        let before = self.groups[..group].iter().flatten().chain(&self.groups[group][..index]);
+        before.map(Vec::len).sum()
+    }
+}

@@ -1,0 +1,131 @@
+//! Every way in which a job is damaged on purpose.
+
+use super::count::{Count, COUNTS};
+use super::random::Random;
+use crate::table::*;
+
+/// A reason for a refusal; the fields are command bytes, operand indices and counts.
+#[derive(Clone, Copy, Debug, PartialEq, Eq, PartialOrd, Ord)]
+pub enum Reason {
+    // 1
+    Empty,
+    TooLong,
+    TooLongAndBroken,
+    // 2
+    UnknownByte,
+    UnknownLastByte,
+    // 3
+    CutOperands,
+    CutInLowerGroup,
+    CutOverCount(Count),
+    // 4
+    LowerGroup,
+    LowerGroupOverCount,
+    LowerGroupUndeclared,
+    // 5
+    OverCount(Count),
+    OverCountUndeclared(Count),
+    OverCountRepeated,
+    // 6
+    NodeBeforeFlow,
+    HandlerBeforeBody(u8),
+    Undeclared(u8, usize),
+    UndeclaredOwnerNode,
+    UndeclaredOwnerFlow,
+    ScopeAboveTwo,
+    GlobalOwner,
+    // 7
+    WireAcrossFlows,
+    HandlerUnseenNodeVariable(u8),
+    HandlerUnseenFlowVariable(u8),
+    PermissionUnseen(u8),
+    PermissionNotShared(u8),
+    PermissionUnseenNotShared(u8),
+    // 8
+    Repeated(u8),
+    SecondBody,
+    SecondStartSameNode,
+    SecondStartOtherNode,
+    // 9
+    JumpOnePastEnd(u8),
+    JumpFarPastEnd(u8),
+    TwoBadJumps,
+    /// Refused for what comes after the jump.
+    BadJumpBeforeOtherRefusal,
+}
+
+use Reason::*;
+
+impl Reason {
+    pub fn all() -> Vec<Reason> {
+        let mut list = vec![Empty, TooLong, TooLongAndBroken, UnknownByte, UnknownLastByte];
+        list.extend([CutOperands, CutInLowerGroup]);
+        list.extend(with_operands().map(CutOverCount));
+        list.extend([LowerGroup, LowerGroupOverCount, LowerGroupUndeclared]);
+        list.extend(COUNTS.map(OverCount));
+        list.extend(with_operands().filter(|&count| count != Count::Functions).map(OverCountUndeclared));
+        list.extend([OverCountRepeated, NodeBeforeFlow]);
+        list.extend(
+            COMMANDS.iter().filter(|row| is_handler(row.byte)).map(|row| HandlerBeforeBody(row.byte)),
+        );
+        list.extend(undeclared());
+        list.extend([UndeclaredOwnerNode, UndeclaredOwnerFlow, ScopeAboveTwo, GlobalOwner, WireAcrossFlows]);
+        for byte in [GET, PUT, PLUS] {
+            list.extend([HandlerUnseenNodeVariable(byte), HandlerUnseenFlowVariable(byte)]);
+        }
+        for byte in [READ, WRITE] {
+            list.extend([PermissionUnseen(byte), PermissionNotShared(byte), PermissionUnseenNotShared(byte)]);
+        }
+        list.extend([WIRE, ANY, ARG, READ, WRITE].map(Repeated));
+        list.extend([SecondBody, SecondStartSameNode, SecondStartOtherNode]);
+        for byte in [JUMP, JUMPZ] {
+            list.extend([JumpOnePastEnd(byte), JumpFarPastEnd(byte)]);
+        }
+        list.extend([TwoBadJumps, BadJumpBeforeOtherRefusal]);
+        list
+    }
+}
+
+impl Reason {
+    /// The refusal's number.
+    pub fn number(self) -> u8 {
+        match self {
+            Empty | TooLong | TooLongAndBroken => 1,
+            UnknownByte | UnknownLastByte => 2,
+            CutOperands | CutInLowerGroup | CutOverCount(_) => 3,
+            LowerGroup | LowerGroupOverCount | LowerGroupUndeclared => 4,
+            OverCount(_) | OverCountUndeclared(_) | OverCountRepeated => 5,
+            NodeBeforeFlow | HandlerBeforeBody(_) | Undeclared(..) => 6,
+            UndeclaredOwnerNode | UndeclaredOwnerFlow | ScopeAboveTwo | GlobalOwner => 6,
+            WireAcrossFlows | HandlerUnseenNodeVariable(_) | HandlerUnseenFlowVariable(_) => 7,
+            PermissionUnseen(_) | PermissionNotShared(_) | PermissionUnseenNotShared(_) => 7,
+            Repeated(_) | SecondBody | SecondStartSameNode | SecondStartOtherNode => 8,
+            JumpOnePastEnd(_) | JumpFarPastEnd(_) | TwoBadJumps => 9,
+            BadJumpBeforeOtherRefusal => 6,
+        }
+    }
+
+    /// Any reason, every number about as often as the others.
+    pub fn draw(random: &mut Random) -> Reason {
+        let number = 1 + random.weighted(&[5, 8, 11, 8, 12, 20, 14, 14, 8]) as u8;
+        let reasons: Vec<Reason> = Reason::all().into_iter().filter(|r| r.number() == number).collect();
+        random.pick(&reasons)
+    }
+}
+
+/// The counted kinds whose commands have operands.
+fn with_operands() -> impl Iterator<Item = Count> {
+    COUNTS.into_iter().filter(|count| !matches!(count, Count::Flows | Count::Nodes))
+}
+
+/// Every operand that names a node, function, variable or port.
+fn undeclared() -> impl Iterator<Item = Reason> {
+    let names = |operand: &Operand| {
+        use Operand::*;
+        matches!(operand, Node | TargetNode | Function | Variable | Port)
+    };
+    COMMANDS.iter().flat_map(move |row| {
+        let operands = row.operands.iter().enumerate();
+        operands.filter(move |(_, operand)| names(operand)).map(|(index, _)| Undeclared(row.byte, index))
+    })
+}

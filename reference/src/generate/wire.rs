@@ -1,0 +1,25 @@
+//! Wires inside flows: self wires, several targets at a port, unwired ports.
+
+use super::plan::Plan;
+use super::random::Random;
+use crate::table::WIRE;
+
+pub fn wire(plan: &mut Plan, random: &mut Random, most: usize) {
+    if plan.nodes() == 0 {
+        return;
+    }
+    let mut wires: Vec<[u32; 3]> = Vec::new();
+    for _ in 0..random.between(most / 2, most) {
+        let node = random.below(plan.nodes()) as u8;
+        let port = random.pick(&[0, 0, 0, 1, 1, 2, 3]);
+        let siblings = plan.nodes_of(plan.flow_of[usize::from(node)]);
+        let target = if random.chance(15) { node } else { random.pick(&siblings) };
+        let wire = [node.into(), port, target.into()];
+        if !wires.contains(&wire) {
+            wires.push(wire);
+        }
+    }
+    for wire in wires {
+        plan.push(WIRE, &wire);
+    }
+}

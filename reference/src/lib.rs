@@ -1,0 +1,24 @@
+//! Second implementation of the flow runner, written from the paper 01 alone.
+//!
+//! `run` takes a job and three buffers; `Runner` steps through a decoded job turn by turn.
+
+mod builder;
+mod checks;
+pub mod command;
+pub mod decode;
+pub mod engine;
+pub mod generate;
+pub mod hex;
+pub mod outcome;
+pub mod output;
+pub mod print;
+pub mod program;
+pub mod run;
+pub mod state;
+pub mod table;
+
+pub use decode::decode;
+pub use outcome::{Answer, Entry, Mode, Outcome, Refusal};
+pub use program::Program;
+pub use run::{run, Runner, Step};
+pub use state::State;

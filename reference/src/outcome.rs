@@ -1,0 +1,67 @@
+//! What a run hands over: refusal or answer.
+
+/// Whether the permissions are enforced.
+#[derive(Clone, Copy, Debug, PartialEq, Eq)]
+pub enum Mode {
+    /// 01: watched.
+    Monitored,
+    /// 01: bare.
+    Unmonitored,
+}
+
+/// Kinds of trace entries.
+pub mod kind {
+    pub const OTHER: u8 = 0;
+    pub const BEGIN: u8 = 1;
+    pub const FINISH: u8 = 2;
+    pub const READ: u8 = 3;
+    pub const WRITE: u8 = 4;
+    pub const CALL: u8 = 5;
+    pub const SEND: u8 = 6;
+}
+
+/// Stops of a run.
+pub mod stop {
+    pub const TURNS_OUT: u8 = 0;
+    pub const FORBIDDEN: u8 = 1;
+    pub const NOT_READY: u8 = 2;
+    pub const QUEUE_FULL: u8 = 3;
+}
+
+/// A trace entry.
+#[derive(Clone, Copy, Debug, Default, PartialEq, Eq)]
+pub struct Entry {
+    pub node: u8,
+    pub kind: u8,
+    pub number: u8,
+    pub value: u32,
+}
+
+impl Entry {
+    /// Number and value 0.
+    pub const fn plain(node: u8, kind: u8) -> Entry {
+        Entry { node, kind, number: 0, value: 0 }
+    }
+}
+
+/// The answer of an accepted run.
+#[derive(Clone, Copy, Debug, PartialEq, Eq)]
+pub struct Answer {
+    pub stop: u8,
+    /// Completed turns.
+    pub turns: usize,
+    pub attempted: Entry,
+}
+
+/// Why a job was turned away, and at which offset.
+#[derive(Clone, Copy, Debug, PartialEq, Eq)]
+pub struct Refusal {
+    pub number: u8,
+    pub place: usize,
+}
+
+#[derive(Clone, Copy, Debug, PartialEq, Eq)]
+pub enum Outcome {
+    Refused(Refusal),
+    Ran(Answer),
+}

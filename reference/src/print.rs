@@ -1,0 +1,74 @@
+//! The printing program's text, made from the bytes that a run hands over.
+
+use std::fmt::Write;
+
+use crate::decode::decode;
+use crate::outcome::{Answer, Entry, Mode, Refusal};
+use crate::output::{entry_from_bytes, ENTRY_BYTES, SNAPSHOT_BYTES, WORK_BYTES};
+use crate::program::Program;
+use crate::run::run_program;
+
+/// Runs a job with buffers of its own and gives the text to print.
+pub fn print(job: &[u8], mode: Mode) -> String {
+    match decode(job) {
+        Err(Refusal { number, place }) => format!("refused {number} {place}\n"),
+        Ok(program) => print_run(&program, mode),
+    }
+}
+
+fn print_run(program: &Program, mode: Mode) -> String {
+    let mut trace = vec![0; ENTRY_BYTES * program.turns.len()];
+    let mut snapshot = vec![0; SNAPSHOT_BYTES];
+    let mut work = vec![0; WORK_BYTES];
+    let answer = run_program(program, mode, &mut trace, &mut snapshot, &mut work);
+    let mut text = String::new();
+    for bytes in trace.chunks_exact(ENTRY_BYTES).take(answer.turns) {
+        push_entry(&mut text, &entry_from_bytes(bytes));
+    }
+    push_answer(&mut text, &answer);
+    push_snapshot(&mut text, program, &snapshot);
+    text
+}
+
+// Writing into a string never fails, so the results below are dropped.
+
+fn push_entry(text: &mut String, entry: &Entry) {
+    let Entry { node, kind, number, value } = entry;
+    let _ = writeln!(text, "{node} {kind} {number} {value}");
+}
+
+fn push_answer(text: &mut String, answer: &Answer) {
+    let _ = write!(text, "end {} {} ", answer.stop, answer.turns);
+    push_entry(text, &answer.attempted);
+}
+
+/// Reads bytes one after another.
+struct Reader<'a>(&'a [u8]);
+
+impl Reader<'_> {
+    fn byte(&mut self) -> u8 {
+        let byte = self.0[0];
+        self.0 = &self.0[1..];
+        byte
+    }
+
+    fn number(&mut self) -> u32 {
+        u32::from_le_bytes([self.byte(), self.byte(), self.byte(), self.byte()])
+    }
+}
+
+fn push_snapshot(text: &mut String, program: &Program, snapshot: &[u8]) {
+    let mut reader = Reader(snapshot);
+    for node in 0..program.nodes.len() {
+        let (position, accumulator, message) = (reader.byte(), reader.number(), reader.number());
+        let waiting = reader.byte();
+        let _ = write!(text, "node {node} {position} {accumulator} {message} {waiting}");
+        for _ in 0..waiting {
+            let _ = write!(text, " {}", reader.number());
+        }
+        text.push('\n');
+    }
+    for variable in 0..program.variables.len() {
+        let _ = writeln!(text, "var {variable} {}", reader.number());
+    }
+}

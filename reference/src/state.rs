@@ -1,0 +1,90 @@
+//! The run's state: nodes, queues and variables in flat arrays.
+
+use crate::program::Program;
+use crate::table::{MAX_NODES, MAX_VARIABLES, QUEUE_CAPACITY};
+
+/// Position of an idle node.
+pub const IDLE: u8 = 255;
+
+#[derive(Clone, Copy, Debug)]
+pub struct NodeState {
+    pub position: u8,
+    /// Slot of the oldest waiting message in the node's ring.
+    head: u8,
+    waiting: u8,
+    /// The node's working value. 01: hand.
+    pub accumulator: u32,
+    /// The message being handled.
+    pub message: u32,
+}
+
+#[derive(Clone, Debug)]
+pub struct State {
+    pub nodes: [NodeState; MAX_NODES],
+    pub variables: [u32; MAX_VARIABLES],
+    /// One ring of 16 slots a node.
+    queues: [u32; MAX_NODES * QUEUE_CAPACITY],
+}
+
+impl State {
+    /// The state before the first turn.
+    pub fn new(program: &Program) -> State {
+        let idle = NodeState { position: IDLE, head: 0, waiting: 0, accumulator: 0, message: 0 };
+        let mut state = State {
+            nodes: [idle; MAX_NODES],
+            variables: [0; MAX_VARIABLES],
+            queues: [0; MAX_NODES * QUEUE_CAPACITY],
+        };
+        for (value, variable) in state.variables.iter_mut().zip(&program.variables) {
+            *value = variable.start;
+        }
+        for &(node, value) in &program.starts {
+            state.push(node, value);
+        }
+        state
+    }
+
+    /// How many messages wait at a node.
+    pub fn waiting(&self, node: u8) -> usize {
+        usize::from(self.nodes[usize::from(node)].waiting)
+    }
+
+    pub fn is_full(&self, node: u8) -> bool {
+        self.waiting(node) == QUEUE_CAPACITY
+    }
+
+    /// The slot of the waiting message `age` places behind the oldest.
+    fn slot(&self, node: u8, age: usize) -> usize {
+        let head = usize::from(self.nodes[usize::from(node)].head);
+        usize::from(node) * QUEUE_CAPACITY + (head + age) % QUEUE_CAPACITY
+    }
+
+    /// Puts a message at the back of a queue that is not full.
+    pub fn push(&mut self, node: u8, value: u32) {
+        let slot = self.slot(node, self.waiting(node));
+        self.queues[slot] = value;
+        self.nodes[usize::from(node)].waiting += 1;
+    }
+
+    /// Takes the oldest message.
+    pub fn pop(&mut self, node: u8) -> Option<u32> {
+        if self.waiting(node) == 0 {
+            return None;
+        }
+        let value = self.queues[self.slot(node, 0)];
+        let node = &mut self.nodes[usize::from(node)];
+        node.head = (node.head + 1) % QUEUE_CAPACITY as u8;
+        node.waiting -= 1;
+        Some(value)
+    }
+
+    /// The waiting messages, oldest first.
+    pub fn messages(&self, node: u8) -> impl Iterator<Item = u32> + '_ {
+        (0..self.waiting(node)).map(move |age| self.queues[self.slot(node, age)])
+    }
+
+    /// A turn of this node would not stop with 2.
+    pub fn is_ready(&self, node: u8) -> bool {
+        self.nodes[usize::from(node)].position != IDLE || self.waiting(node) > 0
+    }
+}

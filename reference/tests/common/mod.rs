@@ -1,0 +1,93 @@
+//! What several tests need.
+
+#![allow(dead_code)]
+
+use std::collections::HashSet;
+
+use flow_reference::{hex, Mode, Outcome};
+
+pub const MODES: [Mode; 2] = [Mode::Monitored, Mode::Unmonitored];
+
+pub fn bytes(text: &str) -> Vec<u8> {
+    hex::decode(text).expect("hexadecimal text")
+}
+
+/// K1 of the paper, 65 bytes.
+pub fn k1() -> Vec<u8> {
+    let mut job = bytes(
+        "01 02 02  10 02 00 05 00 00 00  11 09 00 00 00  20 00 00 01  32 00 00  31 01 00 07 00 00 00
+         40 00 42 46 00 49 00  40 01 42 4A 00  50 00 02 00 00 00",
+    );
+    job.extend([0x60, 0].repeat(5));
+    job.extend([0x60, 1].repeat(4));
+    job
+}
+
+/// What a run left in its buffers.
+#[derive(Clone, Debug, PartialEq, Eq)]
+pub struct Ran {
+    pub outcome: Outcome,
+    pub trace: Vec<u8>,
+    pub snapshot: Vec<u8>,
+    pub work: Vec<u8>,
+}
+
+/// Runs with buffers of these lengths, filled with the byte `dirt`.
+pub fn run_dirty(job: &[u8], mode: Mode, lengths: [usize; 3], dirt: u8) -> Ran {
+    let [mut trace, mut snapshot, mut work] = lengths.map(|length| vec![dirt; length]);
+    let outcome = flow_reference::run(job, mode, &mut trace, &mut snapshot, &mut work);
+    Ran { outcome, trace, snapshot, work }
+}
+
+/// A job of pieces in hexadecimal, each so often.
+pub fn job(pieces: &[(&str, usize)]) -> Vec<u8> {
+    pieces.iter().flat_map(|&(piece, times)| bytes(piece).repeat(times)).collect()
+}
+
+/// The commands of a valid job, with widths written down here once more.
+pub fn commands(mut job: &[u8]) -> Vec<&[u8]> {
+    let mut list = Vec::new();
+    while let Some(byte) = job.first() {
+        let length = match byte {
+            0x01 | 0x02 | 0x42 | 0x4B => 1,
+            0x40 | 0x43 | 0x44 | 0x46..=0x4A | 0x60 => 2,
+            0x30 | 0x32 | 0x33 => 3,
+            0x20 => 4,
+            0x11 | 0x41 | 0x45 => 5,
+            0x50 => 6,
+            _ => 7,
+        };
+        let (command, rest) = job.split_at(length);
+        list.push(command);
+        job = rest;
+    }
+    list
+}
+
+/// The 32-bit number at the end of a command.
+pub fn number(command: &[u8]) -> u32 {
+    u32::from_le_bytes(command[command.len() - 4..].try_into().unwrap())
+}
+
+/// The permissions of a job: the bytes of its commands ANY, ARG, READ and WRITE.
+pub struct Permissions(HashSet<Vec<u8>>);
+
+impl Permissions {
+    pub fn of(job: &[u8]) -> Permissions {
+        let permissions = commands(job).into_iter().filter(|command| command[0] / 16 == 3);
+        Permissions(permissions.map(<[u8]>::to_vec).collect())
+    }
+
+    /// Whether an entry of this kind is permitted.
+    pub fn permit(&self, node: u8, kind: u8, number: u8, value: u32) -> bool {
+        let has = |byte: u8| self.0.contains(&vec![byte, node, number]);
+        let mut arg = vec![0x31, node, number];
+        arg.extend(value.to_le_bytes());
+        match kind {
+            3 => has(0x32),
+            4 => has(0x33),
+            5 => has(0x30) || self.0.contains(&arg),
+            _ => true,
+        }
+    }
+}

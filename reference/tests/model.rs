@@ -1,0 +1,166 @@
+//! A plain model of the run, on the job's bytes and growing lists, against the engine's printed text.
+
+mod common;
+
+use std::collections::VecDeque;
+
+use common::{commands, number, Permissions};
+use flow_reference::generate::{case, Kind};
+use flow_reference::print::print;
+use flow_reference::Mode;
+
+#[derive(Clone, Default)]
+struct Node {
+    body: Vec<Vec<u8>>,
+    /// None: idle.
+    position: Option<usize>,
+    accumulator: u32,
+    message: u32,
+    queue: VecDeque<u32>,
+}
+
+#[derive(Default)]
+struct Model {
+    nodes: Vec<Node>,
+    /// Whether it is shared, and its value.
+    variables: Vec<(bool, u32)>,
+    answers: Vec<u32>,
+    wires: Vec<[u8; 3]>,
+    turns: Vec<u8>,
+}
+
+/// Kind, number, value.
+type Event = (u8, u8, u32);
+
+fn load(job: &[u8]) -> Model {
+    let mut model = Model::default();
+    let mut open = 0;
+    for command in commands(job) {
+        match *command {
+            [0x01] => {}
+            [0x02] => model.nodes.push(Node::default()),
+            [0x10, scope, ..] => model.variables.push((scope > 0, number(command))),
+            [0x11, ..] => model.answers.push(number(command)),
+            [0x20, node, port, target] => model.wires.push([node, port, target]),
+            [0x30..=0x33, ..] => {}
+            [0x40, node] => open = usize::from(node),
+            [0x50, node, ..] => model.nodes[usize::from(node)].queue.push_back(number(command)),
+            [0x60, node] => model.turns.push(node),
+            _ => model.nodes[open].body.push(command.to_vec()),
+        }
+    }
+    model
+}
+
+impl Model {
+    fn targets(&self, node: u8, port: u8) -> Vec<usize> {
+        let from_port = self.wires.iter().filter(|wire| wire[..2] == [node, port]);
+        from_port.map(|wire| usize::from(wire[2])).collect()
+    }
+
+    /// The event that a command would leave.
+    fn event(&self, node: u8, command: &[u8]) -> Event {
+        let accumulator = self.nodes[usize::from(node)].accumulator;
+        let operand = command.get(1).copied().unwrap_or(0);
+        let shared = |variable: u8| self.variables[usize::from(variable)].0;
+        match command[0] {
+            0x43 | 0x46 if shared(operand) => (3, operand, self.variables[usize::from(operand)].1),
+            0x44 if shared(operand) => (4, operand, accumulator),
+            0x4A => (5, operand, accumulator),
+            0x49 => (6, operand, accumulator),
+            _ => (0, 0, 0),
+        }
+    }
+
+    fn perform(&mut self, node: u8, command: &[u8]) {
+        let own = &mut self.nodes[usize::from(node)];
+        let accumulator = own.accumulator;
+        let position = own.position.unwrap();
+        own.position = Some(position + 1);
+        let operand = usize::from(command.get(1).copied().unwrap_or(0));
+        match command[0] {
+            0x41 => own.accumulator = number(command),
+            0x42 => own.accumulator = own.message,
+            0x43 => own.accumulator = self.variables[operand].1,
+            0x44 => self.variables[operand].1 = accumulator,
+            0x45 => own.accumulator = ((accumulator as u64 + number(command) as u64) % (1 << 32)) as u32,
+            0x46 => {
+                let sum = accumulator as u64 + self.variables[operand].1 as u64;
+                own.accumulator = (sum % (1 << 32)) as u32;
+            }
+            0x47 if accumulator == 0 => own.position = Some(operand),
+            0x48 => own.position = Some(operand),
+            0x49 => {
+                for target in self.targets(node, operand as u8) {
+                    self.nodes[target].queue.push_back(accumulator);
+                }
+            }
+            0x4A => own.accumulator = self.answers[operand],
+            _ => {}
+        }
+    }
+
+    /// One turn: its event, or the stop and the attempted event. No permissions: unmonitored.
+    fn turn(&mut self, node: u8, permissions: Option<&Permissions>) -> Result<Event, (u8, Event)> {
+        let own = &mut self.nodes[usize::from(node)];
+        let Some(position) = own.position else {
+            let message = own.queue.pop_front().ok_or((2, (0, 0, 0)))?;
+            (own.position, own.accumulator, own.message) = (Some(0), 0, message);
+            return Ok((1, 0, message));
+        };
+        let Some(command) = own.body.get(position).cloned() else {
+            (own.position, own.accumulator, own.message) = (None, 0, 0);
+            return Ok((2, 0, 0));
+        };
+        let event = self.event(node, &command);
+        let (kind, number, value) = event;
+        if permissions.is_some_and(|lists| !lists.permit(node, kind, number, value)) {
+            return Err((1, (kind, number, if kind == 3 { 0 } else { value })));
+        }
+        let is_full = |target: usize| self.nodes[target].queue.len() == 16;
+        if kind == 6 && self.targets(node, number).into_iter().any(is_full) {
+            return Err((3, event));
+        }
+        self.perform(node, &command);
+        Ok(event)
+    }
+
+    fn run(mut self, permissions: Option<&Permissions>) -> String {
+        let mut lines = Vec::new();
+        let mut end = String::new();
+        for node in self.turns.clone() {
+            match self.turn(node, permissions) {
+                Ok((kind, number, value)) => lines.push(format!("{node} {kind} {number} {value}")),
+                Err((stop, (kind, number, value))) => {
+                    end = format!("end {stop} {} {node} {kind} {number} {value}", lines.len());
+                    break;
+                }
+            }
+        }
+        if end.is_empty() {
+            end = format!("end 0 {} 0 0 0 0", lines.len());
+        }
+        lines.push(end);
+        for (number, node) in self.nodes.iter().enumerate() {
+            let (position, waiting) = (node.position.unwrap_or(255), node.queue.len());
+            let mut line =
+                format!("node {number} {position} {} {} {waiting}", node.accumulator, node.message);
+            node.queue.iter().for_each(|message| line += &format!(" {message}"));
+            lines.push(line);
+        }
+        lines.extend(
+            self.variables.iter().enumerate().map(|(number, (_, value))| format!("var {number} {value}")),
+        );
+        lines.join("\n") + "\n"
+    }
+}
+
+#[test]
+fn engine_against_model() {
+    for index in 0..2_500 {
+        let job = case(12, index, Kind::Valid, usize::MAX).job;
+        let permissions = Permissions::of(&job);
+        assert_eq!(print(&job, Mode::Monitored), load(&job).run(Some(&permissions)), "case {index}");
+        assert_eq!(print(&job, Mode::Unmonitored), load(&job).run(None), "case {index}");
+    }
+}

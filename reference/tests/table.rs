@@ -1,0 +1,54 @@
+//! The command table against the paper's.
+
+use flow_reference::table::{group, row, write, COMMANDS};
+
+/// Byte, name, operand bytes.
+const PAPER: [(u8, &str, usize); 23] = [
+    (0x01, "FLOW", 0),
+    (0x02, "NODE", 0),
+    (0x10, "VAR", 6),
+    (0x11, "FUN", 4),
+    (0x20, "WIRE", 3),
+    (0x30, "ANY", 2),
+    (0x31, "ARG", 6),
+    (0x32, "READ", 2),
+    (0x33, "WRITE", 2),
+    (0x40, "BODY", 1),
+    (0x41, "SET", 4),
+    (0x42, "TAKE", 0),
+    (0x43, "GET", 1),
+    (0x44, "PUT", 1),
+    (0x45, "ADD", 4),
+    (0x46, "PLUS", 1),
+    (0x47, "JUMPZ", 1),
+    (0x48, "JUMP", 1),
+    (0x49, "SEND", 1),
+    (0x4A, "CALL", 1),
+    (0x4B, "SKIP", 0),
+    (0x50, "START", 5),
+    (0x60, "TURN", 1),
+];
+
+#[test]
+fn rows() {
+    let rows: Vec<_> = COMMANDS.iter().map(|row| (row.byte, row.name, row.width)).collect();
+    assert_eq!(rows, PAPER);
+}
+
+#[test]
+fn bytes_outside_the_table() {
+    for byte in 0..=255 {
+        let expected = PAPER.iter().find(|line| line.0 == byte).map(|line| line.1);
+        assert_eq!(row(byte).map(|row| row.name), expected);
+    }
+}
+
+#[test]
+fn groups() {
+    assert_eq!([0x02, 0x10, 0x20, 0x33, 0x4B, 0x50, 0x60].map(group), [0, 1, 2, 3, 4, 5, 6]);
+}
+
+#[test]
+fn operands_lowest_byte_first() {
+    assert_eq!(write(0x31, &[1, 2, 0x0A0B_0C0D]), [0x31, 1, 2, 0x0D, 0x0C, 0x0B, 0x0A]);
+}
