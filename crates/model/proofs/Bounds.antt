@@ -40,6 +40,15 @@ length-numbers (v ∷ vs) = omega (arith, length-numbers vs)
 pub length-node : (s : State) (n : ℕ) → length (nodeBytes s n) ≡ 10 + 4 * waitingAt s n
 length-node s n = omega (arith, length-numbers (queueAt s n))
 
+-- one node and one variable more in the snapshot
+pub nodes-next : (s : State) (k : ℕ) → nodesBytes s (suc k) ≡ nodesBytes s k ++ nodeBytes s k
+unfolding nodesBytes
+nodes-next s k = refl
+
+pub variables-next : (s : State) (k : ℕ) → variablesBytes s (suc k) ≡ variablesBytes s k ++ bytes4 (variableAt s k)
+unfolding variablesBytes
+variables-next s k = refl
+
 -- the variables in the snapshot
 pub length-variables : (s : State) (k : ℕ) → length (variablesBytes s k) ≡ 4 * k
 unfolding variablesBytes

@@ -23,7 +23,7 @@ module _ (rule : State → ℕ → Turned) (turns : List ℕ) (n : ℕ) (s : Sta
       each (suc k) h = f .goesOn k (le-of-suc-le-suc h)
 
       last : RanOut turns r ⊎ Halted rule turns r → RanOut (n ∷ turns) (after s e r) ⊎ Halted rule (n ∷ turns) (after s e r)
-      last (inl o) = inl (record { all = ap suc (o .all); stop = o .stop; attempted = o .attempted })
+      last (inl o) = inl (record { completedAll = ap suc (o .completedAll); stop = o .stop; attempted = o .attempted })
       last (inr h) = inr (record { next = suc-le-suc (h .next); stopping = h .stopping; nonzero = h .nonzero })
 
   -- one turn and what follows it, by what the turn comes to
@@ -41,7 +41,7 @@ pub follows :
     (rule : State → ℕ → Turned) → ((s : State) (n : ℕ) → StopsBy (λ k. ¬ (k ≡ 0)) (rule s n))
     → (turns : List ℕ) (s : State) → Follows rule turns s (runFrom rule turns s)
 unfolding runFrom
-follows rule stops [] s = record { begins = refl; goesOn = λ k h. absurd (not-suc-le-zero h); ends = inl (record { all = refl; stop = refl; attempted = refl }) }
+follows rule stops [] s = record { begins = refl; goesOn = λ k h. absurd (not-suc-le-zero h); ends = inl (record { completedAll = refl; stop = refl; attempted = refl }) }
 follows rule stops (n ∷ turns) s = proceeds rule turns n s (runFrom rule turns) (rule s n) refl (stops s n) (follows rule stops turns)
 
 -- demand 2

@@ -7,9 +7,9 @@ use native.Mathlib.Omega.{arith}
 use lib.Dec.{ltb, eqb}
 use lib.ListN.{length}
 use borrow.Author.Tests.{ltb-true, ltb-false, lt-ltb, le-ltb, eq-eqb, ne-eqb}
-use Rattle.model.specs.Table.{TURN, groupOf}
-use Rattle.model.specs.Command.{Command, is}
-use Rattle.model.specs.Declared.{countOf, countAmong, declared, belongs, bodyLength, instruction, handlerOf, turnsOf}
+use Rattle.model.specs.Table.{BODY, START, TURN, groupOf}
+use Rattle.model.specs.Command.{Operands, Command, is}
+use Rattle.model.specs.Declared.{countOf, countAmong, declared, belongs, bodyLength, instruction, handlerOf, turnsOf, only, isSame, occurs, flowOf, openBody, startsOf, startedIn}
 use Rattle.model.specs.Refusal.{groupFalls}
 use Rattle.model.proofs.Lists.{length-only}
 
@@ -113,3 +113,29 @@ pub length-turns : (past : List Command) → length (turnsOf past) ≡ countOf T
 unfolding turnsOf countOf
 length-turns [] = refl
 length-turns (c ∷ past) = length-only (turnsOf past) (is TURN c) (c .operands .first) ∙ rw (length-turns past)
+
+-- each other value by one more command
+module _ (c : Command) (past : List Command) where
+  pub occurs-next : (b : ℕ) (x : Operands) → occurs b x (c ∷ past) ≡ (isSame b x c || occurs b x past)
+  unfolding occurs
+  occurs-next b x = refl
+
+  pub open-next : openBody (c ∷ past) ≡ cond (is BODY c) (c .operands .first) (openBody past)
+  unfolding openBody
+  open-next = refl
+
+  pub body-next : (n : ℕ) → bodyLength (c ∷ past) n ≡ cond (belongs past c n) (bodyLength past n + 1) (bodyLength past n)
+  unfolding bodyLength
+  body-next n = refl
+
+  pub starts-next : (n : ℕ) → startsOf (c ∷ past) n ≡ startsOf past n ++ only (is START c && eqb (c .operands .first) n) (c .operands .second)
+  unfolding startsOf
+  starts-next n = refl
+
+  pub started-next : (flow : ℕ) → startedIn (c ∷ past) flow ≡ ((is START c && eqb (flowOf past (c .operands .first)) flow) || startedIn past flow)
+  unfolding startedIn
+  started-next flow = refl
+
+  pub turns-next : turnsOf (c ∷ past) ≡ turnsOf past ++ only (is TURN c) (c .operands .first)
+  unfolding turnsOf
+  turns-next = refl

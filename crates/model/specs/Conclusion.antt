@@ -115,5 +115,6 @@ pub record Demand1 (job : List ℕ) (b : Buffers) : Type 0 where
   pub monitoredLeaves : Leaves (monitored job (sizesOf b)) b
   pub unmonitoredLeaves : Leaves (unmonitored job (sizesOf b)) b
 
+-- demand 1 holds of every job and all buffers
 abbrev pub Demand1Holds : Type 0
 Demand1Holds = (job : List ℕ) (b : Buffers) → Demand1 job b

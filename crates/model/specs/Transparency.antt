@@ -68,5 +68,6 @@ pub record Demand3 (job : List ℕ) (forMonitored forUnmonitored : Buffers) : Ty
   pub monitoredLeaves : Leaves (monitored job (sizesOf forMonitored)) forMonitored
   pub unmonitoredLeaves : Leaves (unmonitored job (sizesOf forUnmonitored)) forUnmonitored
 
+-- demand 3 holds of every job and all buffers
 abbrev pub Demand3Holds : Type 0
 Demand3Holds = (job : List ℕ) (forMonitored forUnmonitored : Buffers) → Demand3 job forMonitored forUnmonitored
