@@ -40,14 +40,6 @@ orderRows =
     ∷ monitoredRow (nodes 2 ++ (0x40 ∷ 0x01 ∷ 0x43 ∷ 0x00 ∷ [])) (refused (refuse 6 5))
     -- 6: a handler command before every BODY
     ∷ monitoredRow (nodes 1 ++ (0x42 ∷ [])) (refused (refuse 6 2))
-    -- 6: port 4
-    ∷ monitoredRow (nodes 1 ++ (0x20 ∷ 0x00 ∷ 0x04 ∷ 0x00 ∷ [])) (refused (refuse 6 2))
-    -- 7: a wire into another flow
-    ∷ monitoredRow (nodes 1 ++ nodes 1 ++ (0x20 ∷ 0x00 ∷ 0x00 ∷ 0x01 ∷ [])) (refused (refuse 7 4))
-    -- 7: a handler command with another node's variable
-    ∷ monitoredRow (nodes 2 ++ 0x10 ∷ 0x00 ∷ 0x01 ∷ low 0 ++ (0x40 ∷ 0x00 ∷ 0x43 ∷ 0x00 ∷ [])) (refused (refuse 7 12))
-    -- 7: READ of the node's own variable, which is not shared
-    ∷ monitoredRow (nodes 1 ++ 0x10 ∷ 0x00 ∷ 0x00 ∷ low 0 ++ (0x32 ∷ 0x00 ∷ 0x00 ∷ [])) (refused (refuse 7 9))
     -- 8 before 9: a jump out of its body, then a second BODY
     ∷ monitoredRow (nodes 1 ++ (0x40 ∷ 0x00 ∷ 0x48 ∷ 0x05 ∷ 0x40 ∷ 0x00 ∷ [])) (refused (refuse 8 6))
     -- 9 at the first of two such jumps
@@ -60,6 +52,32 @@ orderRows =
     ∷ within (sizes 7 2624 16383) (nodes 1 ++ turns 1 0) (refused (refuse 12 4))
     -- with no turns the trace buffer may be empty
     ∷ within (sizes 0 2624 16384) (nodes 1) (ends 0 0 noEntry [] idleNode)
+    ∷ []
+
+-- a variable of this scope and owner, with start 0
+unfoldable pub variable : ℕ → ℕ → List ℕ
+variable scope owner = 0x10 ∷ scope ∷ owner ∷ low 0
+
+-- what a node names and sees
+unfoldable pub sightRows : List Example
+sightRows =
+    -- 6: port 4, though there is a node 4
+    monitoredRow (nodes 5 ++ (0x20 ∷ 0x00 ∷ 0x04 ∷ 0x00 ∷ [])) (refused (refuse 6 6))
+    -- 7: a wire into another flow
+    ∷ monitoredRow (nodes 1 ++ nodes 1 ++ (0x20 ∷ 0x00 ∷ 0x00 ∷ 0x01 ∷ [])) (refused (refuse 7 4))
+    -- 7: GET, PUT and PLUS of another node's variable
+    ∷ monitoredRow (nodes 2 ++ variable 0 1 ++ (0x40 ∷ 0x00 ∷ 0x43 ∷ 0x00 ∷ [])) (refused (refuse 7 12))
+    ∷ monitoredRow (nodes 2 ++ variable 0 1 ++ (0x40 ∷ 0x00 ∷ 0x44 ∷ 0x00 ∷ [])) (refused (refuse 7 12))
+    ∷ monitoredRow (nodes 2 ++ variable 0 1 ++ (0x40 ∷ 0x00 ∷ 0x46 ∷ 0x00 ∷ [])) (refused (refuse 7 12))
+    -- 7: READ and WRITE of another flow's variable
+    ∷ monitoredRow (nodes 1 ++ nodes 1 ++ variable 1 0 ++ (0x32 ∷ 0x01 ∷ 0x00 ∷ [])) (refused (refuse 7 11))
+    ∷ monitoredRow (nodes 1 ++ nodes 1 ++ variable 1 0 ++ (0x33 ∷ 0x01 ∷ 0x00 ∷ [])) (refused (refuse 7 11))
+    -- 7: READ of the node's own variable, which is not shared
+    ∷ monitoredRow (nodes 1 ++ variable 2 0 ++ variable 0 0 ++ (0x32 ∷ 0x00 ∷ 0x01 ∷ [])) (refused (refuse 7 16))
+    -- the variable of the second flow, read by its node
+    ∷ monitoredRow
+    (nodes 1 ++ nodes 1 ++ variable 1 1 ++ 0x32 ∷ 0x01 ∷ 0x00 ∷ 0x40 ∷ 0x01 ∷ 0x43 ∷ 0x00 ∷ 0x50 ∷ 0x01 ∷ low 5 ++ turns 2 1)
+    (ends 0 2 noEntry (line 1 1 0 5 ++ line 1 3 0 0) (idleNode ++ nodeLine 1 0 5 0 ++ low 0))
     ∷ []
 
 -- what is declared
@@ -116,4 +134,4 @@ turnRows =
 
 -- every row holds
 abbrev pub ReadingsHold : Type 0
-ReadingsHold = RowsHold (orderRows ++ declaredRows ++ turnRows)
+ReadingsHold = RowsHold (orderRows ++ sightRows ++ declaredRows ++ turnRows)
