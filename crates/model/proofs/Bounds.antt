@@ -20,7 +20,7 @@ use Rattle.model.specs.Valid.{Valid, Bounded}
 use Rattle.model.proofs.Logic.{and-false}
 use Rattle.model.proofs.Valid.{limits}
 use Rattle.model.proofs.Lists.{set-each, tabulate-each}
-use Rattle.model.proofs.Ways.{performed-by, turn-by, monitored-by}
+use Rattle.model.proofs.Ways.{Keeps, performed-by, turn-by, monitored-by}
 use Rattle.model.proofs.Ranges.{starts-one}
 use Rattle.model.proofs.Turns.{some-none, delivered-later}
 
@@ -94,27 +94,23 @@ delivered-short target v qs b (suc k) room = by-target (target k) refl (delivere
 -- a handler command that is not blocked
 performed-bounded : (P : Program) (s : State) (n : ℕ) (i : Instruction) → Bounded s → blocked P s n i ≡ false → Bounded (performed P s n i)
 performed-bounded P s n i b free =
-    performed-by Bounded P s n i (λ a v. b) (λ j. b) (λ e. delivered-short (P .wired n (i .operand)) (accumulatorAt s n) (s .queue) b maxNodes (room e))
+    performed-by Bounded P s n i (λ a. b) (λ x a. b) b (λ j. b) (λ e. delivered-short (P .wired n (i .operand)) (accumulatorAt s n) (s .queue) b maxNodes (room e))
   where
     room : eqb (i .byte) SEND ≡ true → (t : ℕ) → t < 32 → P .wired n (i .operand) t ≡ true → waitingAt s t < 16
     room e t h w =
         let none : someBelow (isFull P s n (i .operand)) 32 ≡ false = and-false (eqb (i .byte) SEND) _ e free in
         leb-false 16 (waitingAt s t) (and-false (P .wired n (i .operand) t) _ w (some-none (isFull P s n (i .operand)) 32 none t h))
 
--- what a turn comes to keeps the bound
-abbrev pub Keeps : Turned → Type 0
-Keeps (completed e s) = Bounded s
-Keeps (stopped k e) = Unit {0}
-
-pub turn-bounded : (P : Program) (s : State) (n : ℕ) → Bounded s → Keeps (turn P s n)
+-- a turn keeps the bound
+pub turn-bounded : (P : Program) (s : State) (n : ℕ) → Bounded s → Keeps Bounded (turn P s n)
 turn-bounded P s n b =
-    turn-by Keeps P s n (λ p w. tt) (λ p w. set-short (s .queue) n (drop 1 (queueAt s n)) (omega (arith, length-drop 1 (queueAt s n), b n)) b)
+    turn-by (Keeps Bounded) P s n (λ p w. tt) (λ p w. set-short (s .queue) n (drop 1 (queueAt s n)) (omega (arith, length-drop 1 (queueAt s n), b n)) b)
     (λ l f. tt)
     (λ l. performed-bounded P s n (instructionAt P n (positionAt s n)) b)
     (λ l. b)
 
-pub monitored-bounded : (P : Program) (s : State) (n : ℕ) → Bounded s → Keeps (monitoredTurn P s n)
-monitored-bounded P s n b = monitored-by Keeps P s n (turn-bounded P s n b) (λ e. tt)
+pub monitored-bounded : (P : Program) (s : State) (n : ℕ) → Bounded s → Keeps Bounded (monitoredTurn P s n)
+monitored-bounded P s n b = monitored-by (Keeps Bounded) P s n (turn-bounded P s n b) (λ e. tt)
 
 -- a run keeps the bound and completes at most its turns
 pub record RunBounded (k : ℕ) (r : Run) : Type 0 where
@@ -122,13 +118,13 @@ pub record RunBounded (k : ℕ) (r : Run) : Type 0 where
   pub steps : length (r .steps) ≤ k
 
 proceed-bounded :
-    (k : ℕ) (rest : State → Run) (s : State) (t : Turned) → Bounded s → Keeps t
+    (k : ℕ) (rest : State → Run) (s : State) (t : Turned) → Bounded s → Keeps Bounded t
     → ((s′ : State) → Bounded s′ → RunBounded k (rest s′)) → RunBounded (suc k) (proceed rest s t)
 proceed-bounded k rest s (completed e s′) b h ih = record { final = ih s′ h .final; steps = suc-le-suc (ih s′ h .steps) }
 proceed-bounded k rest s (stopped n e) b h ih = record { final = b; steps = zero-le }
 
 pub run-bounded :
-    (rule : State → ℕ → Turned) → ((s : State) (n : ℕ) → Bounded s → Keeps (rule s n))
+    (rule : State → ℕ → Turned) → ((s : State) (n : ℕ) → Bounded s → Keeps Bounded (rule s n))
     → (turns : List ℕ) (s : State) → Bounded s → RunBounded (length turns) (runFrom rule turns s)
 unfolding runFrom
 run-bounded rule keeps [] s b = record { final = b; steps = zero-le }

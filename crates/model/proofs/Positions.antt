@@ -15,12 +15,12 @@ use Rattle.model.specs.Declared.{Instruction, instruction, isHandler, op
 use Rattle.model.specs.Refusal.{Refusal, refuse, firstOf, refuseFirst, isFarJump}
 use Rattle.model.specs.Program.{Program, programOf}
 use Rattle.model.specs.State.{State, idle, positionAt, initialState}
-use Rattle.model.specs.Turn.{Turned, completed, stopped, performed, instructionAt, turn}
+use Rattle.model.specs.Turn.{performed, instructionAt, turn}
 use Rattle.model.specs.Permission.{monitoredTurn}
 use Rattle.model.specs.Valid.{ValidJob}
 use Rattle.model.proofs.Logic.{and-right, and-false}
 use Rattle.model.proofs.Lists.{only-each, set-each, replicate-each}
-use Rattle.model.proofs.Ways.{isJump, performed-by, turn-by, monitored-by}
+use Rattle.model.proofs.Ways.{Keeps, isJump, performed-by, turn-by, monitored-by}
 use Rattle.model.proofs.Growth.{length-handler}
 
 -- no refusal at the first command of two: none at either
@@ -75,26 +75,21 @@ module _ (P : Program) (s : State) (n : ℕ) (i : Instruction) (placed : Placed 
   on = moved (positionAt s n + 1) (omega arith)
 
   performed-placed : Placed P (performed P s n i)
-  performed-placed = performed-by (Placed P) P s n i (λ a v. on) (λ j. moved (i .operand) (stays j)) (λ e. on)
-
--- what a turn comes to leaves every node at a place
-abbrev pub KeepsPlaces : Program → Turned → Type 0
-KeepsPlaces P (completed e s) = Placed P s
-KeepsPlaces P (stopped k e) = Unit {0}
+  performed-placed = performed-by (Placed P) P s n i (λ a. on) (λ x a. on) on (λ j. moved (i .operand) (stays j)) (λ e. on)
 
 -- every jump of the program stays inside its handler
 abbrev pub JumpsInside : Program → Type 0
 JumpsInside P = (n i : ℕ) → i < length (P .handler n) → StaysInside (length (P .handler n)) (instructionAt P n i)
 
-pub turn-placed : (P : Program) → JumpsInside P → (s : State) (n : ℕ) → Placed P s → KeepsPlaces P (turn P s n)
+pub turn-placed : (P : Program) → JumpsInside P → (s : State) (n : ℕ) → Placed P s → Keeps (Placed P) (turn P s n)
 turn-placed P j s n placed =
-    turn-by (KeepsPlaces P) P s n (λ p w. tt) (λ p w. set-each (AtPlace P) 0 (s .position) n 0 (inr (omega arith)) placed)
+    turn-by (Keeps (Placed P)) P s n (λ p w. tt) (λ p w. set-each (AtPlace P) 0 (s .position) n 0 (inr (omega arith)) placed)
     (λ l b. tt)
     (λ l b. performed-placed P s n (instructionAt P n (positionAt s n)) placed l (j n (positionAt s n) l))
     (λ l. set-each (AtPlace P) 0 (s .position) n idle (inl refl) placed)
 
-pub monitored-placed : (P : Program) → JumpsInside P → (s : State) (n : ℕ) → Placed P s → KeepsPlaces P (monitoredTurn P s n)
-monitored-placed P j s n placed = monitored-by (KeepsPlaces P) P s n (turn-placed P j s n placed) (λ e. tt)
+pub monitored-placed : (P : Program) → JumpsInside P → (s : State) (n : ℕ) → Placed P s → Keeps (Placed P) (monitoredTurn P s n)
+monitored-placed P j s n placed = monitored-by (Keeps (Placed P)) P s n (turn-placed P j s n placed) (λ e. tt)
 
 pub initial-placed : (P : Program) → Placed P (initialState P)
 unfolding initialState

@@ -1,5 +1,5 @@
 -- A run by a loop over its turns, and the trace that grows with it.
-use Prim.Native.Nat.{ℕ, _+_, _≤_, _<_}
+use Prim.Native.Nat.{ℕ, zero, suc, _+_, _≤_, _<_}
 use mathlib.Core.Path.{_≡_, refl, sym, ap, _∙_}
 use mathlib.Core.List.{List, [], _∷_, _++_, append-assoc, append-nil}
 use native.Mathlib.Numerals.{add-one}
@@ -7,8 +7,9 @@ use lib.ListN.{length, getD, drop, drop-of-length-le}
 use lib.Seq.{drop-cons}
 use Rattle.model.specs.State.{State}
 use Rattle.model.specs.Turn.{Entry, entry, Turned, completed, stopped}
-use Rattle.model.specs.Run.{Step, Run, runFrom, entriesOf}
+use Rattle.model.specs.Run.{Step, Run, proceed, runFrom, entriesOf, stateAt}
 use Rattle.model.specs.Output.{entryBytes, traceBytes}
+use Rattle.model.proofs.Ways.{Keeps}
 
 -- one entry more at the end of the trace
 pub trace-snoc : (es : List Entry) (e : Entry) → traceBytes (es ++ (e ∷ [])) ≡ traceBytes es ++ entryBytes e
@@ -49,3 +50,17 @@ module _ (rule : State → ℕ → Turned) (turns : List ℕ) (done : List Step)
   pub behind-ended : length turns ≤ k → behind done (runFrom rule (drop k turns) s) ≡ record { steps = done; stop = 0; attempted = entry 0 0 0 0; final = s }
   unfolding behind runFrom
   behind-ended h = ap (λ (l : List ℕ). behind done (runFrom rule l s)) (drop-of-length-le turns h) ∙ simp append-nil
+
+-- what every turn keeps holds of every state of a run
+module _ (Q : State → Type 0) (rule : State → ℕ → Turned) (keeps : (s : State) (n : ℕ) → Q s → Keeps Q (rule s n)) where
+  proceed-each :
+      (rest : State → Run) → ((s : State) → Q s → (k : ℕ) → Q (stateAt (rest s) k))
+      → (s : State) → Q s → (t : Turned) → Keeps Q t → (k : ℕ) → Q (stateAt (proceed rest s t) k)
+  proceed-each rest ih s q (stopped j e) h k = q
+  proceed-each rest ih s q (completed e s′) h zero = q
+  proceed-each rest ih s q (completed e s′) h (suc k) = ih s′ h k
+
+  pub run-each : (turns : List ℕ) (s : State) → Q s → (k : ℕ) → Q (stateAt (runFrom rule turns s) k)
+  unfolding runFrom
+  run-each [] s q k = q
+  run-each (n ∷ turns) s q k = proceed-each (runFrom rule turns) (run-each turns) s q (rule s n) (keeps s n q) k

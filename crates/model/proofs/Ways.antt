@@ -2,14 +2,13 @@
 use Prim.Native.Nat.{ℕ, _≤_, _<_}
 use mathlib.Core.Path.{_≡_, refl, sym}
 use mathlib.Core.Bool.{Bool, true, false, cond, _||_}
-use mathlib.Core.List.{List}
 use lib.Dec.{ltb, eqb}
 use lib.ListN.{length}
 use borrow.Author.Tests.{ltb-true, ltb-false, eqb-true, eqb-false}
 use Rattle.model.specs.Table.{SET, TAKE, GET, PUT, ADD, PLUS, JUMPZ, JUMP, SEND, CALL, maxNodes}
 use Rattle.model.specs.Declared.{Instruction}
 use Rattle.model.specs.Program.{Program}
-use Rattle.model.specs.State.{State, idle, positionAt, accumulatorAt, waitingAt, withPosition, withQueues}
+use Rattle.model.specs.State.{State, idle, positionAt, accumulatorAt, waitingAt, withPosition, withAccumulator, withQueues, withVariable}
 use Rattle.model.specs.Turn.{Entry, entry, Turned, completed, stopped, oldest, begun, finished, delivered, performed, advanced, entryOf, blocked, instructionAt, turn}
 use Rattle.model.specs.Permission.{permitted, redacted, enforced, monitoredTurn}
 use Rattle.model.proofs.Logic.{true-false}
@@ -18,6 +17,11 @@ use Rattle.model.proofs.Logic.{true-false}
 pub either : {A : Type 0} (Q : A → Type 0) (b : Bool) (x y : A) → (b ≡ true → Q x) → (b ≡ false → Q y) → Q (cond b x y)
 either Q true x y p q = p refl
 either Q false x y p q = q refl
+
+-- a completed turn leaves a state with this property
+abbrev pub Keeps : (State → Type 0) → Turned → Type 0
+Keeps Q (completed e s) = Q s
+Keeps Q (stopped k e) = Unit {0}
 
 -- the command is a jump
 abbrev pub isJump : Instruction → Bool
@@ -31,29 +35,27 @@ or-second : (a b : Bool) → b ≡ true → (a || b) ≡ true
 or-second true b e = refl
 or-second false b e = e
 
--- the state with other accumulators and other variables
-abbrev pub withMemory : State → List ℕ → List ℕ → State
-withMemory s accumulators variables = record { position = s .position; accumulator = accumulators; message = s .message; queue = s .queue; variable = variables }
-
--- a handler command changes accumulators or variables, jumps, or sends
+-- a handler command changes the node's accumulator, writes a variable, changes neither, jumps, or sends
 pub performed-by :
     (Q : State → Type 0) (P : Program) (s : State) (n : ℕ) (i : Instruction)
-    → ((accumulators variables : List ℕ) → Q (advanced (withMemory s accumulators variables) n))
+    → ((a : ℕ) → Q (advanced (withAccumulator s n a) n))
+    → ((x a : ℕ) → Q (advanced (withVariable s x a) n))
+    → Q (advanced s n)
     → (isJump i ≡ true → Q (withPosition s n (i .operand)))
     → (eqb (i .byte) SEND ≡ true → Q (advanced (withQueues s (delivered (P .wired n (i .operand)) (accumulatorAt s n) (s .queue) maxNodes)) n))
     → Q (performed P s n i)
-performed-by Q P s n i on jumps sends =
-    either Q (eqb (i .byte) SET) _ _ (λ _. on _ _) λ _.
-    either Q (eqb (i .byte) TAKE) _ _ (λ _. on _ _) λ _.
-    either Q (eqb (i .byte) GET) _ _ (λ _. on _ _) λ _.
-    either Q (eqb (i .byte) PUT) _ _ (λ _. on _ _) λ _.
-    either Q (eqb (i .byte) ADD) _ _ (λ _. on _ _) λ _.
-    either Q (eqb (i .byte) PLUS) _ _ (λ _. on _ _) λ _.
+performed-by Q P s n i sets writes on jumps sends =
+    either Q (eqb (i .byte) SET) _ _ (λ _. sets _) λ _.
+    either Q (eqb (i .byte) TAKE) _ _ (λ _. sets _) λ _.
+    either Q (eqb (i .byte) GET) _ _ (λ _. sets _) λ _.
+    either Q (eqb (i .byte) PUT) _ _ (λ _. writes _ _) λ _.
+    either Q (eqb (i .byte) ADD) _ _ (λ _. sets _) λ _.
+    either Q (eqb (i .byte) PLUS) _ _ (λ _. sets _) λ _.
     either Q (eqb (i .byte) JUMPZ) _ _
-    (λ e. either Q (eqb (accumulatorAt s n) 0) _ _ (λ _. jumps (or-first (eqb (i .byte) JUMPZ) (eqb (i .byte) JUMP) e)) (λ _. on (s .accumulator) (s .variable))) λ _.
+    (λ e. either Q (eqb (accumulatorAt s n) 0) _ _ (λ _. jumps (or-first (eqb (i .byte) JUMPZ) (eqb (i .byte) JUMP) e)) (λ _. on)) λ _.
     either Q (eqb (i .byte) JUMP) _ _ (λ e. jumps (or-second (eqb (i .byte) JUMPZ) (eqb (i .byte) JUMP) e)) λ _.
     either Q (eqb (i .byte) SEND) _ _ sends λ _.
-    either Q (eqb (i .byte) CALL) _ _ (λ _. on _ _) (λ _. on (s .accumulator) (s .variable))
+    either Q (eqb (i .byte) CALL) _ _ (λ _. sets _) (λ _. on)
 
 -- the node is not ready, takes a message, is stopped at a full target, carries out a command, or becomes idle
 pub turn-by :

@@ -5,6 +5,7 @@ use mathlib.Core.Bool.{true, false, _&&_}
 use mathlib.Core.List.{List, [], _∷_}
 use mathlib.Core.Option.{none}
 use lib.Dec.{leb}
+use lib.ListN.{length}
 use Rattle.model.specs.Table.{FLOW, NODE, VAR, FUN, ARG, SET, SKIP, TURN, OperandKind, scope, owner, start, answer, node, port, target, function, value, variable, jump, absent, operandsOf, kindAt, maxFlows, maxNodes, maxVariables, maxFunctions, maxHandler, maxArgCommands, maxTurns, maxPort, maxWaiting}
 use Rattle.model.specs.Command.{Operands, Command}
 use Rattle.model.specs.Declared.{Instruction, countOf, bodyLength}
@@ -75,3 +76,11 @@ pub record Limits (past : List Command) : Type 0 where
 -- at most 16 messages wait at a node
 abbrev pub Bounded : State → Type 0
 Bounded s = (n : ℕ) → waitingAt s n ≤ maxWaiting
+
+-- there are 32 nodes and 64 variables
+pub record Sized (s : State) : Type 0 where
+  pub position : length (s .position) ≡ maxNodes
+  pub accumulator : length (s .accumulator) ≡ maxNodes
+  pub message : length (s .message) ≡ maxNodes
+  pub queue : length (s .queue) ≡ maxNodes
+  pub variable : length (s .variable) ≡ maxVariables
