@@ -1,7 +1,7 @@
 -- The proof of `Demand1` for every job and all buffers.
 use Prim.Native.Nat.{ℕ, _*_, _≤_}
 use mathlib.Core.Path.{_≡_, refl, ap, _∙_}
-use mathlib.Core.Logic.{_⊎_, inl, inr}
+use mathlib.Core.Logic.{_↔_, _⊎_, inl, inr}
 use mathlib.Core.List.{List}
 use native.Mathlib.Omega.{arith}
 use lib.ListN.{length, drop, replicate, length-map, length-append, length-drop, length-replicate}
@@ -16,7 +16,7 @@ use Rattle.model.specs.Run.{Run, Step, entriesOf, monitoredRun, unmonito
 use Rattle.model.specs.Output.{traceIn, snapshotBytes}
 use Rattle.model.specs.Refusal.{Refusal, Decoded, accepted, rejected, Sizes, workSize, decodeFor}
 use Rattle.model.specs.Result.{Result, refused, report, resultOf, monitored, unmonitored, Buffers, sizesOf, written}
-use Rattle.model.specs.Conclusion.{Refuses, Accepts, Ends, BothEnd, Concluded, Filled, Leaves, Demand1Holds}
+use Rattle.model.specs.Conclusion.{Refuses, Accepts, Ends, monitoredOf, unmonitoredOf, BothEnd, Concluded, Filled, Leaves, Demand1Holds}
 use Rattle.model.proofs.Walking.{Decides, decode-for-walked}
 use Rattle.model.proofs.Retracing.{accepts-decodes, refuses-decodes}
 use Rattle.model.proofs.Valid.{reads-valid, limits}
@@ -122,28 +122,27 @@ ran-leaves P b r e =
           (written-filled (traceIn r) (b .trace) (e .traceFits), written-filled (snapshotBytes P (r .final)) (b .snapshot) fits, written-filled (replicate workSize 0) (b .work) (rw (length-replicate {A = ℕ} workSize 0) (e .workFits)));
     }
 
--- the buffers after both runs of every job
+-- the buffers after a run of every job, by what it hands over
 module _ (job : List ℕ) (b : Buffers) where
-  by-conclusion :
-      (result : Result) → ((r : Refusal) → Refuses job (sizesOf b) r → result ≡ refused r)
-      → ((past : List Command) → Accepts job (sizesOf b) past → Leaves result b)
-      → ((r : Refusal) × Refuses job (sizesOf b) r) ⊎ ((past : List Command) × Accepts job (sizesOf b) past) → Leaves result b
-  by-conclusion result refuses runs (inl (r, q)) = rw (refuses r q) (refused-leaves r b)
-  by-conclusion result refuses runs (inr (past, a)) = runs past a
+  leaves :
+      (result : Result) (run : List Command → Run) → ((r : Refusal) → (result ≡ refused r) ↔ Refuses job (sizesOf b) r)
+      → ((past : List Command) → Accepts job (sizesOf b) past → (result ≡ report (programOf past) (run past)) × Ends (programOf past) (sizesOf b) (run past))
+      → Leaves result b
+  leaves result run refuses runs = by-case (concluded job (sizesOf b) .decided)
+    where
+      by-case : ((r : Refusal) × Refuses job (sizesOf b) r) ⊎ ((past : List Command) × Accepts job (sizesOf b) past) → Leaves result b
+      by-case (inl (r, q)) = rw (refuses r .1 q) (refused-leaves r b)
+      by-case (inr (past, a)) = let e = runs past a in rw (e .0) (ran-leaves (programOf past) b (run past) (e .1))
 
   pub monitored-leaves : Leaves (monitored job (sizesOf b)) b
   monitored-leaves =
-      let c = concluded job (sizesOf b) in
-      by-conclusion (monitored job (sizesOf b)) (λ r. c .monitoredRefuses r .1)
-      (λ past a. let e = both-end job (sizesOf b) past a in rw (e .monitoredReports) (ran-leaves (programOf past) b _ (e .monitoredEnds)))
-      (c .decided)
+      leaves (monitored job (sizesOf b)) monitoredOf (concluded job (sizesOf b) .monitoredRefuses)
+      (λ past a. let e = both-end job (sizesOf b) past a in (e .monitoredReports, e .monitoredEnds))
 
   pub unmonitored-leaves : Leaves (unmonitored job (sizesOf b)) b
   unmonitored-leaves =
-      let c = concluded job (sizesOf b) in
-      by-conclusion (unmonitored job (sizesOf b)) (λ r. c .unmonitoredRefuses r .1)
-      (λ past a. let e = both-end job (sizesOf b) past a in rw (e .unmonitoredReports) (ran-leaves (programOf past) b _ (e .unmonitoredEnds)))
-      (c .decided)
+      leaves (unmonitored job (sizesOf b)) unmonitoredOf (concluded job (sizesOf b) .unmonitoredRefuses)
+      (λ past a. let e = both-end job (sizesOf b) past a in (e .unmonitoredReports, e .unmonitoredEnds))
 
 -- demand 1
 pub demand1 : Demand1Holds
