@@ -99,3 +99,14 @@ fn several_counts_at_once() {
     let counts = (program.flows, program.nodes.len(), program.variables.len(), program.functions.len());
     assert_eq!(counts, (8, 32, 64, 32));
 }
+
+/// BODY has no largest count: behind 32 of them the next names no node, or one that has a body.
+#[test]
+fn thirty_third_body() {
+    let mut full = job(&[("01", 1), ("02", 32)]);
+    full.extend((0..32).flat_map(|node| [0x40, node]));
+    assert!(decode(&full).is_ok());
+    let with = |node| [&full[..], &[0x40, node]].concat();
+    refused(&with(0), 8, full.len());
+    refused(&with(32), 6, full.len());
+}

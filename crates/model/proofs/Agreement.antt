@@ -12,7 +12,7 @@ use Rattle.model.specs.Output.{traceBytes, numbersBytes, nodesBytes, var
 use Rattle.model.specs.Refusal.{anyOf, groupFalls, violation, decodeFrom, decode, refuseFirst, decodeJob, decodeFor}
 use Rattle.model.specs.Result.{report, monitored, unmonitored}
 use Rattle.model.specs.Examples.{outcome, enough, monitoredRow, unmonitoredRow, times, k1, k1Read, k7, low, line, nodeLine, idleNode, ends, noEntry, k1First, k1Last, examples, ExamplesHold}
-use Rattle.model.specs.Readings.{within, nodes, global, turns, orderRows, variable, sightRows, declaredRows, turnRows, ReadingsHold}
+use Rattle.model.specs.Readings.{within, nodes, global, turns, orderRows, variable, undeclaredRows, sightRows, declaredRows, turnRows, ReadingsHold}
 
 rows-hold : ExamplesHold × ReadingsHold
 unfolding operandsIn operandsOf isAmong largestIn largestOf
@@ -26,7 +26,7 @@ unfolding operandsIn operandsOf isAmong largestIn largestOf
     report monitored unmonitored
     outcome enough monitoredRow unmonitoredRow times low line nodeLine idleNode ends noEntry
     k1 k1Read k7 k1First k1Last examples
-    within nodes global turns orderRows variable sightRows declaredRows turnRows
+    within nodes global turns orderRows variable undeclaredRows sightRows declaredRows turnRows
 rows-hold = (refl, refl)
 
 -- K1 to K11, and 32 and 33 nodes

@@ -94,7 +94,7 @@ delivered-short target v qs b (suc k) room = by-target (target k) refl (delivere
 -- a handler command that is not blocked
 performed-bounded : (P : Program) (s : State) (n : ℕ) (i : Instruction) → Bounded s → blocked P s n i ≡ false → Bounded (performed P s n i)
 performed-bounded P s n i b free =
-    performed-by Bounded P s n i (λ a. b) (λ x a. b) b (λ j. b) (λ e. delivered-short (P .wired n (i .operand)) (accumulatorAt s n) (s .queue) b maxNodes (room e))
+    performed-by Bounded P s n i (λ a. b) (λ x. b) b (λ j. b) (λ e. delivered-short (P .wired n (i .operand)) (accumulatorAt s n) (s .queue) b maxNodes (room e))
   where
     room : eqb (i .byte) SEND ≡ true → (t : ℕ) → t < 32 → P .wired n (i .operand) t ≡ true → waitingAt s t < 16
     room e t h w =

@@ -75,7 +75,7 @@ module _ (P : Program) (s : State) (n : ℕ) (i : Instruction) (placed : Placed 
   on = moved (positionAt s n + 1) (omega arith)
 
   performed-placed : Placed P (performed P s n i)
-  performed-placed = performed-by (Placed P) P s n i (λ a. on) (λ x a. on) on (λ j. moved (i .operand) (stays j)) (λ e. on)
+  performed-placed = performed-by (Placed P) P s n i (λ a. on) (λ x. on) on (λ j. moved (i .operand) (stays j)) (λ e. on)
 
 -- every jump of the program stays inside its handler
 abbrev pub JumpsInside : Program → Type 0

@@ -30,7 +30,7 @@ performed-sized : (P : Program) (s : State) (n : ℕ) (i : Instruction) → Size
 performed-sized P s n i z =
     performed-by Sized P s n i
     (λ a. record { position = simp length-set (z .position); accumulator = simp length-set (z .accumulator); message = z .message; queue = z .queue; variable = z .variable })
-    (λ x a. record { position = simp length-set (z .position); accumulator = z .accumulator; message = z .message; queue = z .queue; variable = simp length-set (z .variable) })
+    (λ x. record { position = simp length-set (z .position); accumulator = z .accumulator; message = z .message; queue = z .queue; variable = simp length-set (z .variable) })
     (record { position = simp length-set (z .position); accumulator = z .accumulator; message = z .message; queue = z .queue; variable = z .variable })
     (λ j. record { position = simp length-set (z .position); accumulator = z .accumulator; message = z .message; queue = z .queue; variable = z .variable })
     (λ e. record { position = simp length-set (z .position); accumulator = z .accumulator; message = z .message; queue = length-delivered _ _ (s .queue) maxNodes ∙ z .queue; variable = z .variable })

@@ -8,8 +8,8 @@ use borrow.Author.Tests.{ltb-true, ltb-false, eqb-true, eqb-false}
 use Rattle.model.specs.Table.{SET, TAKE, GET, PUT, ADD, PLUS, JUMPZ, JUMP, SEND, CALL, maxNodes}
 use Rattle.model.specs.Declared.{Instruction}
 use Rattle.model.specs.Program.{Program}
-use Rattle.model.specs.State.{State, idle, positionAt, accumulatorAt, waitingAt, withPosition, withAccumulator, withQueues, withVariable}
-use Rattle.model.specs.Turn.{Entry, entry, Turned, completed, stopped, oldest, begun, finished, delivered, performed, advanced, entryOf, blocked, instructionAt, turn}
+use Rattle.model.specs.State.{State, idle, positionAt, accumulatorAt, messageAt, waitingAt, variableAt, withPosition, withAccumulator, withQueues, withVariable}
+use Rattle.model.specs.Turn.{Entry, entry, Turned, completed, stopped, oldest, begun, finished, delivered, sum32, performed, advanced, entryOf, blocked, instructionAt, turn}
 use Rattle.model.specs.Permission.{permitted, redacted, enforced, monitoredTurn}
 use Rattle.model.proofs.Logic.{true-false}
 
@@ -35,27 +35,46 @@ or-second : (a b : Bool) → b ≡ true → (a || b) ≡ true
 or-second true b e = refl
 or-second false b e = e
 
--- a handler command changes the node's accumulator, writes a variable, changes neither, jumps, or sends
-pub performed-by :
-    (Q : State → Type 0) (P : Program) (s : State) (n : ℕ) (i : Instruction)
-    → ((a : ℕ) → Q (advanced (withAccumulator s n a) n))
-    → ((x a : ℕ) → Q (advanced (withVariable s x a) n))
+-- the values that a handler command may put into the accumulator have a property
+pub record NewValues (R : ℕ → Type 0) (P : Program) (s : State) (n : ℕ) (i : Instruction) : Type 0 where
+  pub operand : R (i .operand)
+  pub message : R (messageAt s n)
+  pub variable : R (variableAt s (i .operand))
+  pub sum : (a b : ℕ) → R (sum32 a b)
+  pub answer : R (P .answer (i .operand) (accumulatorAt s n))
+
+-- a handler command changes the node's accumulator, writes it to a variable, changes neither, jumps, or sends
+pub performed-with :
+    (R : ℕ → Type 0) (Q : State → Type 0) (P : Program) (s : State) (n : ℕ) (i : Instruction) → NewValues R P s n i
+    → ((a : ℕ) → R a → Q (advanced (withAccumulator s n a) n))
+    → ((x : ℕ) → Q (advanced (withVariable s x (accumulatorAt s n)) n))
     → Q (advanced s n)
     → (isJump i ≡ true → Q (withPosition s n (i .operand)))
     → (eqb (i .byte) SEND ≡ true → Q (advanced (withQueues s (delivered (P .wired n (i .operand)) (accumulatorAt s n) (s .queue) maxNodes)) n))
     → Q (performed P s n i)
-performed-by Q P s n i sets writes on jumps sends =
-    either Q (eqb (i .byte) SET) _ _ (λ _. sets _) λ _.
-    either Q (eqb (i .byte) TAKE) _ _ (λ _. sets _) λ _.
-    either Q (eqb (i .byte) GET) _ _ (λ _. sets _) λ _.
-    either Q (eqb (i .byte) PUT) _ _ (λ _. writes _ _) λ _.
-    either Q (eqb (i .byte) ADD) _ _ (λ _. sets _) λ _.
-    either Q (eqb (i .byte) PLUS) _ _ (λ _. sets _) λ _.
+performed-with R Q P s n i new sets writes on jumps sends =
+    either Q (eqb (i .byte) SET) _ _ (λ _. sets _ (new .operand)) λ _.
+    either Q (eqb (i .byte) TAKE) _ _ (λ _. sets _ (new .message)) λ _.
+    either Q (eqb (i .byte) GET) _ _ (λ _. sets _ (new .variable)) λ _.
+    either Q (eqb (i .byte) PUT) _ _ (λ _. writes _) λ _.
+    either Q (eqb (i .byte) ADD) _ _ (λ _. sets _ (new .sum _ _)) λ _.
+    either Q (eqb (i .byte) PLUS) _ _ (λ _. sets _ (new .sum _ _)) λ _.
     either Q (eqb (i .byte) JUMPZ) _ _
     (λ e. either Q (eqb (accumulatorAt s n) 0) _ _ (λ _. jumps (or-first (eqb (i .byte) JUMPZ) (eqb (i .byte) JUMP) e)) (λ _. on)) λ _.
     either Q (eqb (i .byte) JUMP) _ _ (λ e. jumps (or-second (eqb (i .byte) JUMPZ) (eqb (i .byte) JUMP) e)) λ _.
     either Q (eqb (i .byte) SEND) _ _ sends λ _.
-    either Q (eqb (i .byte) CALL) _ _ (λ _. sets _) (λ _. on)
+    either Q (eqb (i .byte) CALL) _ _ (λ _. sets _ (new .answer)) (λ _. on)
+
+-- the same, whatever the values
+pub performed-by :
+    (Q : State → Type 0) (P : Program) (s : State) (n : ℕ) (i : Instruction)
+    → ((a : ℕ) → Q (advanced (withAccumulator s n a) n))
+    → ((x : ℕ) → Q (advanced (withVariable s x (accumulatorAt s n)) n))
+    → Q (advanced s n)
+    → (isJump i ≡ true → Q (withPosition s n (i .operand)))
+    → (eqb (i .byte) SEND ≡ true → Q (advanced (withQueues s (delivered (P .wired n (i .operand)) (accumulatorAt s n) (s .queue) maxNodes)) n))
+    → Q (performed P s n i)
+performed-by Q P s n i sets = performed-with (λ a. Unit {0}) Q P s n i (record { operand = tt; message = tt; variable = tt; sum = λ a b. tt; answer = tt }) (λ a v. sets a)
 
 -- the node is not ready, takes a message, is stopped at a full target, carries out a command, or becomes idle
 pub turn-by :

@@ -58,17 +58,34 @@ orderRows =
 unfoldable pub variable : ℕ → ℕ → List ℕ
 variable scope owner = 0x10 ∷ scope ∷ owner ∷ low 0
 
--- what a node names and sees
+-- 6: what is not declared before, and numbers that are not allowed
+unfoldable pub undeclaredRows : List Example
+undeclaredRows =
+    -- the owner of a variable: a node that is declared behind it, and 1 for a global one; scope 3
+    monitoredRow (0x01 ∷ variable 0 0 ++ (0x02 ∷ [])) (refused (refuse 6 1))
+    ∷ monitoredRow (nodes 2 ++ variable 2 1) (refused (refuse 6 3))
+    ∷ monitoredRow (nodes 1 ++ variable 3 0) (refused (refuse 6 2))
+    -- a function, in a permission and in a handler
+    ∷ monitoredRow (nodes 1 ++ (0x30 ∷ 0x00 ∷ 0x00 ∷ [])) (refused (refuse 6 2))
+    ∷ monitoredRow (nodes 1 ++ (0x40 ∷ 0x00 ∷ 0x4A ∷ 0x00 ∷ [])) (refused (refuse 6 4))
+    -- the node of a BODY, of a START and of a TURN
+    ∷ monitoredRow (nodes 1 ++ (0x40 ∷ 0x01 ∷ [])) (refused (refuse 6 2))
+    ∷ monitoredRow (nodes 1 ++ 0x50 ∷ 0x01 ∷ low 0) (refused (refuse 6 2))
+    ∷ monitoredRow (nodes 1 ++ turns 1 1) (refused (refuse 6 2))
+    -- port 4, though there is a node 4, of a wire and of a SEND
+    ∷ monitoredRow (nodes 5 ++ (0x20 ∷ 0x00 ∷ 0x04 ∷ 0x00 ∷ [])) (refused (refuse 6 6))
+    ∷ monitoredRow (nodes 5 ++ (0x40 ∷ 0x00 ∷ 0x49 ∷ 0x04 ∷ [])) (refused (refuse 6 8))
+    ∷ []
+
+-- what a node sees
 unfoldable pub sightRows : List Example
 sightRows =
-    -- 6: port 4, though there is a node 4
-    monitoredRow (nodes 5 ++ (0x20 ∷ 0x00 ∷ 0x04 ∷ 0x00 ∷ [])) (refused (refuse 6 6))
     -- 7: a wire into another flow
-    ∷ monitoredRow (nodes 1 ++ nodes 1 ++ (0x20 ∷ 0x00 ∷ 0x00 ∷ 0x01 ∷ [])) (refused (refuse 7 4))
+    monitoredRow (nodes 1 ++ nodes 1 ++ (0x20 ∷ 0x00 ∷ 0x00 ∷ 0x01 ∷ [])) (refused (refuse 7 4))
     -- 7: GET, PUT and PLUS of another node's variable
-    ∷ monitoredRow (nodes 2 ++ variable 0 1 ++ (0x40 ∷ 0x00 ∷ 0x43 ∷ 0x00 ∷ [])) (refused (refuse 7 12))
-    ∷ monitoredRow (nodes 2 ++ variable 0 1 ++ (0x40 ∷ 0x00 ∷ 0x44 ∷ 0x00 ∷ [])) (refused (refuse 7 12))
-    ∷ monitoredRow (nodes 2 ++ variable 0 1 ++ (0x40 ∷ 0x00 ∷ 0x46 ∷ 0x00 ∷ [])) (refused (refuse 7 12))
+    ∷ monitoredRow (nodes 2 ++ variable 2 0 ++ variable 0 1 ++ (0x40 ∷ 0x00 ∷ 0x43 ∷ 0x01 ∷ [])) (refused (refuse 7 19))
+    ∷ monitoredRow (nodes 2 ++ variable 2 0 ++ variable 0 1 ++ (0x40 ∷ 0x00 ∷ 0x44 ∷ 0x01 ∷ [])) (refused (refuse 7 19))
+    ∷ monitoredRow (nodes 2 ++ variable 2 0 ++ variable 0 1 ++ (0x40 ∷ 0x00 ∷ 0x46 ∷ 0x01 ∷ [])) (refused (refuse 7 19))
     -- 7: READ and WRITE of another flow's variable
     ∷ monitoredRow (nodes 1 ++ nodes 1 ++ variable 1 0 ++ (0x32 ∷ 0x01 ∷ 0x00 ∷ [])) (refused (refuse 7 11))
     ∷ monitoredRow (nodes 1 ++ nodes 1 ++ variable 1 0 ++ (0x33 ∷ 0x01 ∷ 0x00 ∷ [])) (refused (refuse 7 11))
@@ -95,6 +112,16 @@ declaredRows =
     ∷ monitoredRow
     (nodes 1 ++ 0x11 ∷ low 0 ++ 0x30 ∷ 0x00 ∷ 0x00 ∷ 0x31 ∷ 0x00 ∷ 0x00 ∷ low 1 ++ 0x31 ∷ 0x00 ∷ 0x00 ∷ low 2)
     (ends 0 0 noEntry [] idleNode)
+    -- 8: the same WIRE, ANY, ARG, READ or WRITE again
+    ∷ monitoredRow (nodes 1 ++ times 2 (0x20 ∷ 0x00 ∷ 0x03 ∷ 0x00 ∷ [])) (refused (refuse 8 6))
+    ∷ monitoredRow (nodes 1 ++ 0x11 ∷ low 0 ++ times 2 (0x30 ∷ 0x00 ∷ 0x00 ∷ [])) (refused (refuse 8 10))
+    ∷ monitoredRow (nodes 1 ++ 0x11 ∷ low 0 ++ times 2 (0x31 ∷ 0x00 ∷ 0x00 ∷ low 1)) (refused (refuse 8 14))
+    ∷ monitoredRow (nodes 1 ++ global 0 ++ times 2 (0x32 ∷ 0x00 ∷ 0x00 ∷ [])) (refused (refuse 8 12))
+    ∷ monitoredRow (nodes 1 ++ global 0 ++ times 2 (0x33 ∷ 0x00 ∷ 0x00 ∷ [])) (refused (refuse 8 12))
+    -- a START in each of two flows
+    ∷ monitoredRow
+    (nodes 1 ++ nodes 1 ++ 0x50 ∷ 0x00 ∷ low 1 ++ 0x50 ∷ 0x01 ∷ low 2)
+    (ends 0 0 noEntry [] (nodeLine 255 0 0 1 ++ low 1 ++ nodeLine 255 0 0 1 ++ low 2))
     -- a second START in the flow, of another node
     ∷ monitoredRow (nodes 2 ++ 0x50 ∷ 0x00 ∷ low 1 ++ 0x50 ∷ 0x01 ∷ low 2) (refused (refuse 8 9))
     ∷ []
@@ -122,16 +149,20 @@ turnRows =
     ∷ monitoredRow
     (nodes 1 ++ global 5 ++ 0x32 ∷ 0x00 ∷ 0x00 ∷ 0x40 ∷ 0x00 ∷ 0x41 ∷ low 7 ++ 0x44 ∷ 0x00 ∷ 0x50 ∷ 0x00 ∷ low 1 ++ turns 3 0)
     (ends 1 2 (entry 0 4 0 7) (line 0 1 0 1 ++ line 0 0 0 0) (nodeLine 1 7 1 0 ++ low 5))
+    -- a send to two targets, and one to a port that is not wired
+    ∷ monitoredRow
+    (nodes 3 ++ 0x20 ∷ 0x00 ∷ 0x02 ∷ 0x01 ∷ 0x20 ∷ 0x00 ∷ 0x02 ∷ 0x02 ∷ 0x40 ∷ 0x00 ∷ 0x42 ∷ 0x49 ∷ 0x02 ∷ 0x49 ∷ 0x03 ∷ 0x50 ∷ 0x00 ∷ low 9 ++ turns 4 0)
+    (ends 0 4 noEntry (line 0 1 0 9 ++ line 0 0 0 0 ++ line 0 6 2 9 ++ line 0 6 3 9) (nodeLine 3 9 9 0 ++ times 2 (nodeLine 255 0 0 1 ++ low 9)))
     -- the oldest message is taken first
     ∷ monitoredRow
     (nodes 2 ++ 0x20 ∷ 0x00 ∷ 0x00 ∷ 0x01 ∷ 0x40 ∷ 0x00 ∷ 0x49 ∷ 0x00 ∷ 0x42 ∷ 0x49 ∷ 0x00 ∷ 0x50 ∷ 0x00 ∷ low 9 ++ turns 4 0 ++ turns 1 1)
     (ends 0 5 noEntry (line 0 1 0 9 ++ line 0 6 0 0 ++ line 0 0 0 0 ++ line 0 6 0 9 ++ line 1 1 0 0) (nodeLine 3 9 9 0 ++ nodeLine 0 0 0 1 ++ low 9))
     -- a send whose second target is full delivers to nobody
     ∷ monitoredRow
-    (nodes 2 ++ 0x20 ∷ 0x00 ∷ 0x00 ∷ 0x00 ∷ 0x20 ∷ 0x00 ∷ 0x00 ∷ 0x01 ∷ 0x20 ∷ 0x00 ∷ 0x01 ∷ 0x01 ∷ 0x40 ∷ 0x00 ∷ times 16 (0x49 ∷ 0x01 ∷ []) ++ 0x49 ∷ 0x00 ∷ 0x50 ∷ 0x00 ∷ low 1 ++ turns 18 0)
-    (ends 3 17 (entry 0 6 0 0) (line 0 1 0 1 ++ times 16 (line 0 6 1 0)) (nodeLine 16 0 1 0 ++ nodeLine 255 0 0 16 ++ times 16 (low 0)))
+    (nodes 2 ++ 0x20 ∷ 0x00 ∷ 0x00 ∷ 0x00 ∷ 0x20 ∷ 0x00 ∷ 0x00 ∷ 0x01 ∷ 0x20 ∷ 0x00 ∷ 0x01 ∷ 0x01 ∷ 0x40 ∷ 0x00 ∷ times 16 (0x49 ∷ 0x01 ∷ []) ++ 0x42 ∷ 0x49 ∷ 0x00 ∷ 0x50 ∷ 0x00 ∷ low 3 ++ turns 19 0)
+    (ends 3 18 (entry 0 6 0 3) (line 0 1 0 3 ++ times 16 (line 0 6 1 0) ++ line 0 0 0 0) (nodeLine 17 3 3 0 ++ nodeLine 255 0 0 16 ++ times 16 (low 0)))
     ∷ []
 
 -- every row holds
 abbrev pub ReadingsHold : Type 0
-ReadingsHold = RowsHold (orderRows ++ sightRows ++ declaredRows ++ turnRows)
+ReadingsHold = RowsHold (orderRows ++ undeclaredRows ++ sightRows ++ declaredRows ++ turnRows)

@@ -126,7 +126,7 @@ pub data Decoded : Type 0 where
   accepted : List Command → Decoded
   rejected : Refusal → Decoded
 
--- decoding goes on by `rest` behind a command without violation
+-- decoding goes on by `rest` behind a command without violation; one with a violation is refused at its place
 abbrev pub decodeNext : (ℕ → List Command → Decoded) → ℕ → List Command → Command → ℕ → ℕ → Decoded
 decodeNext rest place past c next zero = rest next (c ∷ past)
 decodeNext rest place past c next (suc k) = rejected (refuse (suc k) place)
@@ -174,7 +174,7 @@ isFarJump all past c = (is JUMPZ c || is JUMP c) && ltb (bodyLength all (openBod
 abbrev pub farJump : List Command → Option Refusal
 farJump all = refuseFirst 9 (isFarJump all) all
 
--- the same after the tests 1 to 9
+-- the commands of a job after the tests 1 to 9, or its refusal
 unfoldable pub decodeJob : List ℕ → Decoded
 decodeJob job = andThen farJump (decode job)
 
@@ -203,6 +203,6 @@ shortBuffer job b past =
     (cond (ltb (b .work) workSize) (some (refuse 12 (length job)))
     none))
 
--- the same after the tests 1 to 12, with buffers of these lengths
+-- the commands of a job after the tests 1 to 12, with buffers of these lengths, or its refusal
 unfoldable pub decodeFor : List ℕ → Sizes → Decoded
 decodeFor job b = andThen (shortBuffer job b) (decodeJob job)

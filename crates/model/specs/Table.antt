@@ -145,7 +145,7 @@ operandsOf b = operandsIn table b
 abbrev pub operandAt : List OperandKind → ℕ → OperandKind
 operandAt kinds i = getD kinds i absent
 
--- the operands that were found, and none otherwise
+-- the operands that were found, or the empty list
 abbrev pub listOf : Option (List OperandKind) → List OperandKind
 listOf none = []
 listOf (some kinds) = kinds

@@ -60,7 +60,7 @@ pub record Demand3 (job : List ℕ) (forMonitored forUnmonitored : Buffers) : Ty
   pub refuseAlike :
       sizesOf forMonitored ≡ sizesOf forUnmonitored → (r : Refusal)
       → (monitored job (sizesOf forMonitored) ≡ refused r) ↔ (unmonitored job (sizesOf forUnmonitored) ≡ refused r)
-  -- if the job is accepted with either buffers, both run
+  -- if the job is accepted with both buffers, both run
   pub bothRun :
       (past : List Command) → Accepts job (sizesOf forMonitored) past → Accepts job (sizesOf forUnmonitored) past
       → BothRun job forMonitored forUnmonitored past

@@ -1,15 +1,17 @@
 -- What holds of the commands of every accepted job, and of every state of its runs: what proofs about code rest on. No definition above uses it.
-use Prim.Native.Nat.{ℕ, _≤_, _<_}
+use Prim.Native.Nat.{ℕ, _^_, _≤_, _<_}
 use mathlib.Core.Path.{_≡_}
 use mathlib.Core.Bool.{true, false, _&&_}
 use mathlib.Core.List.{List, [], _∷_}
 use mathlib.Core.Option.{none}
 use lib.Dec.{leb}
-use lib.ListN.{length}
+use lib.ListN.{length, getD}
 use Rattle.model.specs.Table.{FLOW, NODE, VAR, FUN, ARG, SET, SKIP, TURN, OperandKind, scope, owner, start, answer, node, port, target, function, value, variable, jump, absent, operandsOf, kindAt, maxFlows, maxNodes, maxVariables, maxFunctions, maxHandler, maxArgCommands, maxTurns, maxPort, maxWaiting}
 use Rattle.model.specs.Command.{Operands, Command}
 use Rattle.model.specs.Declared.{Instruction, countOf, bodyLength}
-use Rattle.model.specs.State.{State, waitingAt}
+use Rattle.model.specs.Program.{Program}
+use Rattle.model.specs.State.{State, accumulatorAt, messageAt, queueAt, waitingAt, variableAt}
+use Rattle.model.specs.Turn.{instructionAt}
 use Rattle.model.specs.Refusal.{groupFalls, exceedsCount, undeclared, outOfReach, repeated, violation, farJump}
 
 -- an operand is in the range of what it names; one that is absent is 0
@@ -34,7 +36,7 @@ pub record Plain (c : Command) : Type 0 where
   pub second : kindAt (c .byte) 1 ≡ absent → c .operands .second ≡ 0
   pub third : kindAt (c .byte) 2 ≡ absent → c .operands .third ≡ 0
 
--- each command of the list, the latest first, passes the tests 2 to 8 behind those before it
+-- each command of the list, the latest first, is plain and passes the tests 4 to 8 behind those before it
 abbrev pub Valid : List Command → Type 0
 Valid [] = Unit {0}
 Valid (c ∷ past) = Valid past × Plain c × (violation past c ≡ 0)
@@ -84,3 +86,21 @@ pub record Sized (s : State) : Type 0 where
   pub message : length (s .message) ≡ maxNodes
   pub queue : length (s .queue) ≡ maxNodes
   pub variable : length (s .variable) ≡ maxVariables
+
+-- a job is bytes
+abbrev pub Bytes : List ℕ → Type 0
+Bytes job = (i : ℕ) → getD job i 0 < 256
+
+-- every number that a program fixes for accumulators, messages and variables is below 2^32
+pub record ProgramFits (P : Program) : Type 0 where
+  pub startValue : (x : ℕ) → P .startValue x < 2 ^ 32
+  pub answer : (f argument : ℕ) → P .answer f argument < 2 ^ 32
+  pub operand : (n i : ℕ) → instructionAt P n i .operand < 2 ^ 32
+  pub firstMessage : (n i : ℕ) → getD (P .firstMessages n) i 0 < 2 ^ 32
+
+-- every accumulator ("hand"), message, waiting message and variable is below 2^32
+pub record Fits (s : State) : Type 0 where
+  pub accumulator : (n : ℕ) → accumulatorAt s n < 2 ^ 32
+  pub message : (n : ℕ) → messageAt s n < 2 ^ 32
+  pub queue : (n i : ℕ) → getD (queueAt s n) i 0 < 2 ^ 32
+  pub variable : (x : ℕ) → variableAt s x < 2 ^ 32

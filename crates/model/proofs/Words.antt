@@ -1,0 +1,198 @@
+-- Every accumulator, message and variable stays below 2^32, in every run of a job of bytes; so no output loses anything of them.
+use Prim.Native.Nat.{ℕ, zero, suc, _+_, _^_, _<_}
+use mathlib.Core.Path.{_≡_, refl}
+use mathlib.Core.Bool.{Bool, true, false, cond, _&&_}
+use mathlib.Core.List.{List, [], _∷_, _++_}
+use native.Mathlib.Omega.{arith}
+use lib.Dec.{ltb, eqb}
+use lib.ListN.{length, getD, set, drop, List·getD-eq-default}
+use borrow.Author.Tests.{ltb-true, ltb-false}
+use Rattle.model.specs.Table.{VAR, FUN, START, OperandKind, scope, owner, start, answer, node, port, target, function, value, variable, jump, absent, width, operandAt, maxNodes, maxVariables}
+use Rattle.model.specs.Command.{Operands, Command, is, numberAt, firstAt, secondAt, thirdAt, operandsAt}
+use Rattle.model.specs.Declared.{countOf, declared, belongs, Instruction, instruction, handlerOf, startsOf, turnsOf}
+use Rattle.model.specs.Program.{Program, programOf}
+use Rattle.model.specs.State.{State, positionAt, accumulatorAt, queueAt, initialState}
+use Rattle.model.specs.Turn.{delivered, sum32, performed, instructionAt, turn}
+use Rattle.model.specs.Permission.{monitoredTurn}
+use Rattle.model.specs.Run.{stateAt, monitoredRun, unmonitoredRun}
+use Rattle.model.specs.Refusal.{Sizes}
+use Rattle.model.specs.Conclusion.{Reads, begin, further, Accepts, monitoredOf, unmonitoredOf}
+use Rattle.model.specs.Valid.{Bytes, ProgramFits, Fits}
+use Rattle.model.proofs.Lists.{only-each, set-each, tabulate-each, replicate-each}
+use Rattle.model.proofs.Reading.{read-at, number-four, number-one, number-none}
+use Rattle.model.proofs.Ways.{Keeps, performed-with, turn-by, monitored-by}
+use Rattle.model.proofs.Runs.{run-each}
+
+-- an operand is below 2^32
+module _ (job : List ℕ) (bytes : Bytes job) (at : ℕ) where
+  four-fit : numberAt job at 4 < 2 ^ 32
+  four-fit = rw (number-four job at) (omega (arith, bytes at, bytes (at + 1), bytes (at + 2), bytes (at + 3)))
+
+  one-fits : numberAt job at 1 < 2 ^ 32
+  one-fits = rw (number-one job at) (omega (arith, bytes at))
+
+  none-fits : numberAt job at 0 < 2 ^ 32
+  none-fits = rw (number-none job at) (omega arith)
+
+  number-fits : (k : OperandKind) → numberAt job at (width k) < 2 ^ 32
+  number-fits scope = one-fits
+  number-fits owner = one-fits
+  number-fits start = four-fit
+  number-fits answer = four-fit
+  number-fits node = one-fits
+  number-fits port = one-fits
+  number-fits target = one-fits
+  number-fits function = one-fits
+  number-fits value = four-fit
+  number-fits variable = one-fits
+  number-fits jump = one-fits
+  number-fits absent = none-fits
+
+-- the operands of every command are
+record OperandsFit (x : Operands) : Type 0 where
+  pub first : x .first < 2 ^ 32
+  pub second : x .second < 2 ^ 32
+  pub third : x .third < 2 ^ 32
+
+abbrev CommandsFit : List Command → Type 0
+CommandsFit [] = Unit {0}
+CommandsFit (c ∷ past) = CommandsFit past × OperandsFit (c .operands)
+
+reads-fit : {job : List ℕ} {place : ℕ} {past : List Command} → Bytes job → Reads job place past → CommandsFit past
+reads-fit bytes begin = tt
+reads-fit {job} bytes (further place past c next reads h e v) =
+    let r = read-at job place c next e in
+    let small : OperandsFit (operandsAt job place (r .kinds)) = record { first = number-fits job bytes (firstAt place) (operandAt (r .kinds) 0); second = number-fits job bytes (secondAt place (r .kinds)) (operandAt (r .kinds) 1); third = number-fits job bytes (thirdAt place (r .kinds)) (operandAt (r .kinds) 2) } in
+    (reads-fit bytes reads, rw (← r .command) small)
+
+-- a declared value, the elements of a handler, the first messages
+declared-fits :
+    (f : Command → List Command → ℕ) → ((c : Command) (before : List Command) → OperandsFit (c .operands) → f c before < 2 ^ 32)
+    → (b : ℕ) (past : List Command) → CommandsFit past → (x : ℕ) → declared f b past x < 2 ^ 32
+unfolding declared
+declared-fits f small b [] fit x = omega arith
+declared-fits f small b (c ∷ past) fit x = by-test (is b c && eqb (countOf b past) x) (declared-fits f small b past (fit .0) x)
+  where
+    by-test : (t : Bool) → declared f b past x < 2 ^ 32 → cond t (f c past) (declared f b past x) < 2 ^ 32
+    by-test true h = small c past (fit .1)
+    by-test false h = h
+
+-- a property of the elements of a list, and of the default outside
+anywhere : {A : Type 0} (Q : A → Type 0) (d : A) (l : List A) → Q d → ((i : ℕ) → i < length l → Q (getD l i d)) → (i : ℕ) → Q (getD l i d)
+anywhere {A} Q d l z h i = by-range (ltb i (length l)) refl
+  where
+    by-range : (t : Bool) → ltb i (length l) ≡ t → Q (getD l i d)
+    by-range true e = h i (ltb-true i (length l) e)
+    by-range false e = rw (List·getD-eq-default l d (ltb-false i (length l) e)) z
+
+handler-fits : (past : List Command) → CommandsFit past → (n i : ℕ) → i < length (handlerOf past n) → getD (handlerOf past n) i (instruction 0 0) .operand < 2 ^ 32
+unfolding handlerOf
+handler-fits [] fit n = λ i h. absurd (omega arith)
+handler-fits (c ∷ past) fit n =
+    only-each (λ (i : Instruction). i .operand < 2 ^ 32) (instruction 0 0) (handlerOf past n) (belongs past c n) (instruction (c .byte) (c .operands .first))
+    (handler-fits past (fit .0) n) (λ _. fit .1 .first)
+
+starts-fit : (past : List Command) → CommandsFit past → (n i : ℕ) → i < length (startsOf past n) → getD (startsOf past n) i 0 < 2 ^ 32
+unfolding startsOf
+starts-fit [] fit n = λ i h. absurd (omega arith)
+starts-fit (c ∷ past) fit n =
+    only-each (λ m. m < 2 ^ 32) 0 (startsOf past n) (is START c && eqb (c .operands .first) n) (c .operands .second) (starts-fit past (fit .0) n) (λ _. fit .1 .second)
+
+program-fits : (past : List Command) → CommandsFit past → ProgramFits (programOf past)
+unfolding programOf
+program-fits past fit =
+    record {
+      startValue = declared-fits (λ c before. c .operands .third) (λ c before o. o .third) VAR past fit;
+      answer = λ f argument. declared-fits (λ c before. c .operands .first) (λ c before o. o .first) FUN past fit f;
+      operand = λ n. anywhere (λ (i : Instruction). i .operand < 2 ^ 32) (instruction 0 0) (handlerOf past n) (omega arith) (handler-fits past fit n);
+      firstMessage = λ n. anywhere (λ m. m < 2 ^ 32) 0 (startsOf past n) (omega arith) (starts-fit past fit n);
+    }
+
+-- the start
+initial-fits : (P : Program) → ProgramFits P → Fits (initialState P)
+unfolding initialState
+initial-fits P fit =
+    record {
+      accumulator = replicate-each (λ n a. a < 2 ^ 32) 0 maxNodes 0 (λ n. omega arith) (λ n. omega arith);
+      message = replicate-each (λ n a. a < 2 ^ 32) 0 maxNodes 0 (λ n. omega arith) (λ n. omega arith);
+      queue = tabulate-each (λ n (q : List ℕ). (i : ℕ) → getD q i 0 < 2 ^ 32) [] maxNodes (P .firstMessages) (fit .firstMessage) (λ n i. omega arith);
+      variable = tabulate-each (λ x a. a < 2 ^ 32) 0 maxVariables (P .startValue) (fit .startValue) (λ x. omega arith);
+    }
+
+-- a queue with one value more, and without its first
+snoc-fits : (q : List ℕ) (a : ℕ) → a < 2 ^ 32 → ((i : ℕ) → getD q i 0 < 2 ^ 32) → (i : ℕ) → getD (q ++ (a ∷ [])) i 0 < 2 ^ 32
+snoc-fits [] a l h zero = l
+snoc-fits [] a l h (suc i) = omega arith
+snoc-fits (b ∷ q) a l h zero = h zero
+snoc-fits (b ∷ q) a l h (suc i) = snoc-fits q a l (λ k. h (suc k)) i
+
+rest-fits : (q : List ℕ) → ((i : ℕ) → getD q i 0 < 2 ^ 32) → (i : ℕ) → getD (drop 1 q) i 0 < 2 ^ 32
+rest-fits [] h i = omega arith
+rest-fits (b ∷ q) h i = h (suc i)
+
+delivered-fits :
+    (to : ℕ → Bool) (a : ℕ) (qs : List (List ℕ)) → a < 2 ^ 32 → ((n i : ℕ) → getD (getD qs n []) i 0 < 2 ^ 32)
+    → (k n i : ℕ) → getD (getD (delivered to a qs k) n []) i 0 < 2 ^ 32
+unfolding delivered
+delivered-fits to a qs l h zero = h
+delivered-fits to a qs l h (suc k) = by-target (to k) (delivered-fits to a qs l h k)
+  where
+    by-target :
+        (t : Bool) → ((n i : ℕ) → getD (getD (delivered to a qs k) n []) i 0 < 2 ^ 32)
+        → (n i : ℕ) → getD (getD (cond t (set (delivered to a qs k) k (getD (delivered to a qs k) k [] ++ (a ∷ []))) (delivered to a qs k)) n []) i 0 < 2 ^ 32
+    by-target false ih = ih
+    by-target true ih = set-each (λ n (q : List ℕ). (i : ℕ) → getD q i 0 < 2 ^ 32) [] (delivered to a qs k) k (getD (delivered to a qs k) k [] ++ (a ∷ [])) (snoc-fits (getD (delivered to a qs k) k []) a l (ih k)) ih
+
+-- a turn
+module _ (P : Program) (fit : ProgramFits P) (s : State) (n : ℕ) (h : Fits s) where
+  set-fits : (l : List ℕ) (a : ℕ) → a < 2 ^ 32 → ((m : ℕ) → getD l m 0 < 2 ^ 32) → (k m : ℕ) → getD (set l k a) m 0 < 2 ^ 32
+  set-fits l a small all k = set-each (λ m b. b < 2 ^ 32) 0 l k a small all
+
+  performed-fits : (i : Instruction) → i .operand < 2 ^ 32 → Fits (performed P s n i)
+  performed-fits i small =
+      performed-with (λ a. a < 2 ^ 32) Fits P s n i
+      (record { operand = small; message = h .message n; variable = h .variable (i .operand); sum = λ a b. sum-fits a b; answer = fit .answer (i .operand) (accumulatorAt s n) })
+      (λ a l. record { accumulator = set-fits (s .accumulator) a l (h .accumulator) n; message = h .message; queue = h .queue; variable = h .variable })
+      (λ x. record { accumulator = h .accumulator; message = h .message; queue = h .queue; variable = set-fits (s .variable) (accumulatorAt s n) (h .accumulator n) (h .variable) x })
+      (record { accumulator = h .accumulator; message = h .message; queue = h .queue; variable = h .variable })
+      (λ j. record { accumulator = h .accumulator; message = h .message; queue = h .queue; variable = h .variable })
+      (λ e. record { accumulator = h .accumulator; message = h .message; queue = delivered-fits (P .wired n (i .operand)) (accumulatorAt s n) (s .queue) (h .accumulator n) (h .queue) maxNodes; variable = h .variable })
+    where
+      sum-fits : (a b : ℕ) → sum32 a b < 2 ^ 32
+      sum-fits a b = omega arith
+
+  pub turn-fits : Keeps Fits (turn P s n)
+  turn-fits =
+      turn-by (Keeps Fits) P s n (λ p w. tt)
+      (λ p w.
+      record {
+        accumulator = set-fits (s .accumulator) 0 (omega arith) (h .accumulator) n;
+        message = set-fits (s .message) _ (h .queue n 0) (h .message) n;
+        queue = set-each (λ m (q : List ℕ). (i : ℕ) → getD q i 0 < 2 ^ 32) [] (s .queue) n _ (rest-fits (queueAt s n) (h .queue n)) (h .queue);
+        variable = h .variable;
+      })
+      (λ l f. tt)
+      (λ l f. performed-fits (instructionAt P n (positionAt s n)) (fit .operand n (positionAt s n)))
+      (λ l.
+      record {
+        accumulator = set-fits (s .accumulator) 0 (omega arith) (h .accumulator) n;
+        message = set-fits (s .message) 0 (omega arith) (h .message) n;
+        queue = h .queue;
+        variable = h .variable;
+      })
+
+  pub monitored-turn-fits : Keeps Fits (monitoredTurn P s n)
+  monitored-turn-fits = monitored-by (Keeps Fits) P s n turn-fits (λ e. tt)
+
+-- every state of both runs of a job of bytes
+module _ (job : List ℕ) (b : Sizes) (past : List Command) (bytes : Bytes job) (a : Accepts job b past) where
+  fitting : ProgramFits (programOf past)
+  fitting = program-fits past (reads-fit bytes (a .reads))
+
+  pub unmonitored-words : (k : ℕ) → Fits (stateAt (unmonitoredOf past) k)
+  unfolding unmonitoredRun
+  unmonitored-words = run-each Fits (turn (programOf past)) (turn-fits (programOf past) fitting) (turnsOf past) (initialState (programOf past)) (initial-fits (programOf past) fitting)
+
+  pub monitored-words : (k : ℕ) → Fits (stateAt (monitoredOf past) k)
+  unfolding monitoredRun
+  monitored-words = run-each Fits (monitoredTurn (programOf past)) (monitored-turn-fits (programOf past) fitting) (turnsOf past) (initialState (programOf past)) (initial-fits (programOf past) fitting)
