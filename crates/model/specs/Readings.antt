@@ -106,6 +106,8 @@ declaredRows =
     -- 8 flows, and 9
     ∷ monitoredRow (times 8 (0x01 ∷ [])) (ends 0 0 noEntry [] [])
     ∷ monitoredRow (times 9 (0x01 ∷ [])) (refused (refuse 5 8))
+    -- 33 functions
+    ∷ monitoredRow (times 33 (0x11 ∷ low 9)) (refused (refuse 5 160))
     -- one global variable is a job
     ∷ monitoredRow (global 5) (ends 0 0 noEntry [] (low 5))
     -- ARG beside ANY and beside ARG with another argument is no repetition
