@@ -85,10 +85,10 @@ sightRows =
     -- 7: GET, PUT and PLUS of another node's variable
     ∷ monitoredRow (nodes 2 ++ variable 2 0 ++ variable 0 1 ++ (0x40 ∷ 0x00 ∷ 0x43 ∷ 0x01 ∷ [])) (refused (refuse 7 19))
     ∷ monitoredRow (nodes 2 ++ variable 2 0 ++ variable 0 1 ++ (0x40 ∷ 0x00 ∷ 0x44 ∷ 0x01 ∷ [])) (refused (refuse 7 19))
-    ∷ monitoredRow (nodes 2 ++ variable 2 0 ++ variable 0 1 ++ (0x40 ∷ 0x00 ∷ 0x46 ∷ 0x01 ∷ [])) (refused (refuse 7 19))
+    ∷ monitoredRow (nodes 2 ++ variable 2 0 ++ variable 0 0 ++ (0x40 ∷ 0x01 ∷ 0x46 ∷ 0x01 ∷ [])) (refused (refuse 7 19))
     -- 7: READ and WRITE of another flow's variable
-    ∷ monitoredRow (nodes 1 ++ nodes 1 ++ variable 1 0 ++ (0x32 ∷ 0x01 ∷ 0x00 ∷ [])) (refused (refuse 7 11))
-    ∷ monitoredRow (nodes 1 ++ nodes 1 ++ variable 1 0 ++ (0x33 ∷ 0x01 ∷ 0x00 ∷ [])) (refused (refuse 7 11))
+    ∷ monitoredRow (nodes 1 ++ nodes 1 ++ variable 2 0 ++ variable 1 0 ++ (0x32 ∷ 0x01 ∷ 0x01 ∷ [])) (refused (refuse 7 18))
+    ∷ monitoredRow (nodes 1 ++ nodes 1 ++ variable 2 0 ++ variable 1 0 ++ (0x33 ∷ 0x01 ∷ 0x01 ∷ [])) (refused (refuse 7 18))
     -- 7: READ of the node's own variable, which is not shared
     ∷ monitoredRow (nodes 1 ++ variable 2 0 ++ variable 0 0 ++ (0x32 ∷ 0x00 ∷ 0x01 ∷ [])) (refused (refuse 7 16))
     -- the variable of the second flow, read by its node
@@ -131,8 +131,12 @@ declaredRows =
 -- what a turn does
 unfoldable pub turnRows : List Example
 turnRows =
-    -- a node variable: GET, PUT and PLUS leave kind 0 and need no permission
+    -- numbers in trace and snapshot, lowest byte first
     monitoredRow
+    (nodes 1 ++ 0x50 ∷ 0x00 ∷ 0x01 ∷ 0x02 ∷ 0x03 ∷ 0x04 ∷ turns 1 0)
+    (ends 0 1 noEntry (0 ∷ 1 ∷ 0 ∷ 1 ∷ 2 ∷ 3 ∷ 4 ∷ []) (0 ∷ low 0 ++ (1 ∷ 2 ∷ 3 ∷ 4 ∷ 0 ∷ [])))
+    -- a node variable: GET, PUT and PLUS leave kind 0 and need no permission
+    ∷ monitoredRow
     (nodes 1 ++ 0x10 ∷ 0x00 ∷ 0x00 ∷ low 5 ++ 0x40 ∷ 0x00 ∷ 0x43 ∷ 0x00 ∷ 0x44 ∷ 0x00 ∷ 0x46 ∷ 0x00 ∷ 0x50 ∷ 0x00 ∷ low 1 ++ turns 4 0)
     (ends 0 4 noEntry (line 0 1 0 1 ++ times 3 (line 0 0 0 0)) (nodeLine 3 10 1 0 ++ low 5))
     -- a flow variable that the node may read and write
