@@ -1,9 +1,10 @@
 -- Every accumulator, message and variable stays below 2^32, in every run of a job of bytes; so no output loses anything of them.
-use Prim.Native.Nat.{ℕ, zero, suc, _+_, _^_, _<_}
-use mathlib.Core.Path.{_≡_, refl}
+use Prim.Native.Nat.{ℕ, zero, suc, _+_, _^_, _<_, _/_, _*_, _%_}
+use mathlib.Core.Path.{_≡_, refl, _∙_}
 use mathlib.Core.Bool.{Bool, true, false, cond, _&&_}
 use mathlib.Core.List.{List, [], _∷_, _++_}
 use native.Mathlib.Omega.{arith}
+use native.Mathlib.Nat.{div-div-eq-div-mul, div-add-mod', mod-eq-of-lt}
 use lib.Dec.{ltb, eqb}
 use lib.ListN.{length, getD, set, drop, List·getD-eq-default}
 use borrow.Author.Tests.{ltb-true, ltb-false}
@@ -15,6 +16,7 @@ use Rattle.model.specs.State.{State, positionAt, accumulatorAt, queueAt,
 use Rattle.model.specs.Turn.{delivered, sum32, performed, instructionAt, turn}
 use Rattle.model.specs.Permission.{monitoredTurn}
 use Rattle.model.specs.Run.{stateAt, monitoredRun, unmonitoredRun}
+use Rattle.model.specs.Output.{bytes4}
 use Rattle.model.specs.Refusal.{Sizes}
 use Rattle.model.specs.Conclusion.{Reads, begin, further, Accepts, monitoredOf, unmonitoredOf}
 use Rattle.model.specs.Valid.{Bytes, ProgramFits, Fits}
@@ -196,3 +198,25 @@ module _ (job : List ℕ) (b : Sizes) (past : List Command) (bytes : Bytes job) 
   pub monitored-words : (k : ℕ) → Fits (stateAt (monitoredOf past) k)
   unfolding monitoredRun
   monitored-words = run-each Fits (monitoredTurn (programOf past)) (monitored-turn-fits (programOf past) fitting) (turnsOf past) (initialState (programOf past)) (initial-fits (programOf past) fitting)
+
+-- the 4 bytes of a number below 2^32 are bytes, and spell it again
+pub bytes-below : (v i : ℕ) → getD (bytes4 v) i 0 < 256
+bytes-below v zero = omega arith
+bytes-below v (suc zero) = omega arith
+bytes-below v (suc (suc zero)) = omega arith
+bytes-below v (suc (suc (suc zero))) = omega arith
+bytes-below v (suc (suc (suc (suc i)))) = omega arith
+
+spelled : (v a b c p q r s : ℕ) → a * 256 + p ≡ v → b * 256 + q ≡ a → c * 256 + r ≡ b → s ≡ c → p + q * 256 + r * 65536 + s * 16777216 ≡ v
+spelled v a b c p q r s e f g h = omega arith
+
+pub bytes-spell : (v : ℕ) → v < 2 ^ 32 → numberAt (bytes4 v) 0 4 ≡ v
+bytes-spell v h =
+    let second : v / 256 / 256 ≡ v / 65536 = div-div-eq-div-mul v 256 256 in
+    let third : v / 65536 / 256 ≡ v / 16777216 = div-div-eq-div-mul v 65536 256 in
+    let low : v / 16777216 < 256 = omega arith in
+    number-four (bytes4 v) 0
+    ∙ spelled v (v / 256) (v / 65536) (v / 16777216) (v % 256) (v / 256 % 256) (v / 65536 % 256) (v / 16777216 % 256) (div-add-mod' v 256)
+    (rw second at (div-add-mod' (v / 256) 256))
+    (rw third at (div-add-mod' (v / 65536) 256))
+    (mod-eq-of-lt low)
