@@ -1,7 +1,7 @@
 -- A TURN behind an accepted job: accepted up to the 4,096th, refused by 5 behind it.
 use Prim.Native.Nat.{ℕ, zero, suc, _+_, _≤_, _<_, zero-le}
 use mathlib.Core.Path.{_≡_, refl, ap, _∙_}
-use mathlib.Core.Bool.{Bool, true, false, cond, _&&_, _||_}
+use mathlib.Core.Bool.{Bool, true, false, cond, _&&_, or-false}
 use mathlib.Core.List.{List, [], _∷_, _++_}
 use mathlib.Core.Option.{Option, none, some}
 use native.Mathlib.Omega.{arith}
@@ -109,11 +109,7 @@ violation-turn : (past : List Command) → Valid past → (place n : ℕ) → n 
 unfolding violation anyOf operandsOf operandsIn largestOf largestIn isAmong
 violation-turn past v place n h =
     let g = group-falls past (turnAt place n) ∙ le-ltb 6 (highestGroup past) (highest-low past v) in
-    rw (g, among-one TURN past, lt-leb (countOf NODE past) n h) (by-count (leb maxTurns (countOf TURN past)))
-  where
-    by-count : (t : Bool) → cond (t || false) 5 0 ≡ cond {A = ℕ} t 5 0
-    by-count true = refl
-    by-count false = refl
+    rw (g, among-one TURN past, lt-leb (countOf NODE past) n h) (rw (or-false (leb maxTurns (countOf TURN past))))
 
 -- what stands behind the job is read as this TURN
 module _ (job : List ℕ) (n : ℕ) where
@@ -149,13 +145,13 @@ module _ (job : List ℕ) (past : List Command) (e : decode job ≡ accepted pas
       (λ z. omega arith)
 
 -- a TURN is no jump and stands in no body, so test 9 stays as it was
-first-none : (o : Option Refusal) → firstOf o none ≡ o
-first-none none = refl
-first-none (some r) = refl
+first-of-none : (o : Option Refusal) → firstOf o none ≡ o
+first-of-none none = refl
+first-of-none (some r) = refl
 
 far-jump-turn : (past : List Command) (place n : ℕ) → farJump (turnAt place n ∷ past) ≡ farJump past
 unfolding refuseFirst bodyLength
-far-jump-turn past place n = first-none (refuseFirst 9 (isFarJump past) past)
+far-jump-turn past place n = first-of-none (refuseFirst 9 (isFarJump past) past)
 
 -- one turn more behind an accepted job
 pub turn-appended :

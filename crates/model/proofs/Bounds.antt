@@ -17,7 +17,7 @@ use Rattle.model.specs.Permission.{monitoredTurn}
 use Rattle.model.specs.Run.{Run, proceed, runFrom, monitoredRun, unmonitoredRun}
 use Rattle.model.specs.Output.{bytes4, traceBytes, numbersBytes, nodeBytes, nodesBytes, variablesBytes, snapshotBytes}
 use Rattle.model.specs.Valid.{Valid, Bounded}
-use Rattle.model.proofs.Logic.{and-false}
+use Rattle.model.proofs.Logic.{and-rest}
 use Rattle.model.proofs.Valid.{limits}
 use Rattle.model.proofs.Lists.{set-each, tabulate-each}
 use Rattle.model.proofs.Ways.{Keeps, performed-by, turn-by, monitored-by}
@@ -98,8 +98,8 @@ performed-bounded P s n i b free =
   where
     room : eqb (i .byte) SEND ≡ true → (t : ℕ) → t < 32 → P .wired n (i .operand) t ≡ true → waitingAt s t < 16
     room e t h w =
-        let none : someBelow (isFull P s n (i .operand)) 32 ≡ false = and-false (eqb (i .byte) SEND) _ e free in
-        leb-false 16 (waitingAt s t) (and-false (P .wired n (i .operand) t) _ w (some-none (isFull P s n (i .operand)) 32 none t h))
+        let none : someBelow (isFull P s n (i .operand)) 32 ≡ false = and-rest (eqb (i .byte) SEND) _ e free in
+        leb-false 16 (waitingAt s t) (and-rest (P .wired n (i .operand) t) _ w (some-none (isFull P s n (i .operand)) 32 none t h))
 
 -- a turn keeps the bound
 pub turn-bounded : (P : Program) (s : State) (n : ℕ) → Bounded s → Keeps Bounded (turn P s n)

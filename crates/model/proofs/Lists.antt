@@ -5,7 +5,7 @@ use mathlib.Core.Bool.{Bool, true, false, cond}
 use mathlib.Core.List.{List, [], _∷_, _++_, append-nil}
 use native.Mathlib.Omega.{arith}
 use lib.Dec.{ltb, eqb}
-use lib.ListN.{length, getD, set, replicate, length-append, List·getD-append, List·getD-eq-default}
+use lib.ListN.{length, getD, set, replicate, length-append, List·getD-append, List·getD-eq-default, length-replicate, getD-replicate}
 use lib.Seq.{getD-at}
 use borrow.Author.Tests.{ltb-true, ltb-false, eqb-true, eqb-false}
 use Rattle.model.specs.Declared.{only}
@@ -61,16 +61,17 @@ set-each Q d (a ∷ l) zero p q h (suc m) = h (suc m)
 set-each Q d (a ∷ l) (suc n) p q h zero = h zero
 set-each Q d (a ∷ l) (suc n) p q h (suc m) = set-each (λ k. Q (suc k)) d l n p q (λ k. h (suc k)) m
 
--- a table whose elements have a property, and the default outside
-pub tabulate-each : {A : Type 0} (Q : ℕ → A → Type 0) (d : A) (k : ℕ) (f : ℕ → A) → ((m : ℕ) → Q m (f m)) → ((m : ℕ) → Q m d) → (m : ℕ) → Q m (getD (tabulate k f) m d)
-tabulate-each {A} Q d k f h z m = by-range (ltb m k) refl
+-- a property of the elements of a list, and of the default outside
+pub getD-each : {A : Type 0} (Q : ℕ → A → Type 0) (d : A) (l : List A) → ((i : ℕ) → i < length l → Q i (getD l i d)) → ((i : ℕ) → Q i d) → (i : ℕ) → Q i (getD l i d)
+getD-each {A} Q d l h z i = by-range (ltb i (length l)) refl
   where
-    by-range : (b : Bool) → ltb m k ≡ b → Q m (getD (tabulate k f) m d)
-    by-range true e = rw (getD-tabulate k m f d (ltb-true m k e)) (h m)
-    by-range false e = rw (getD-tabulate-out k m f d (ltb-false m k e)) (z m)
+    by-range : (t : Bool) → ltb i (length l) ≡ t → Q i (getD l i d)
+    by-range true e = h i (ltb-true i (length l) e)
+    by-range false e = rw (List·getD-eq-default l d (ltb-false i (length l) e)) (z i)
 
--- the same of a list of one value
+-- the same of a table, and of a list of one value
+pub tabulate-each : {A : Type 0} (Q : ℕ → A → Type 0) (d : A) (k : ℕ) (f : ℕ → A) → ((m : ℕ) → Q m (f m)) → ((m : ℕ) → Q m d) → (m : ℕ) → Q m (getD (tabulate k f) m d)
+tabulate-each Q d k f h z = getD-each Q d (tabulate k f) (λ i l. rw (getD-tabulate k i f d (omega (arith, length-tabulate k f))) (h i)) z
+
 pub replicate-each : {A : Type 0} (Q : ℕ → A → Type 0) (d : A) (k : ℕ) (a : A) → ((m : ℕ) → Q m a) → ((m : ℕ) → Q m d) → (m : ℕ) → Q m (getD (replicate k a) m d)
-replicate-each Q d zero a q z m = z m
-replicate-each Q d (suc k) a q z zero = q zero
-replicate-each Q d (suc k) a q z (suc m) = replicate-each (λ j. Q (suc j)) d k a (λ j. q (suc j)) (λ j. z (suc j)) m
+replicate-each Q d k a q z = getD-each Q d (replicate k a) (λ i l. rw (getD-replicate k i a d (omega (arith, length-replicate k a))) (q i)) z

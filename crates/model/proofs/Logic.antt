@@ -1,7 +1,7 @@
 -- Small laws of tests.
 use Prim.Native.Nat.{ℕ, zero, suc}
 use mathlib.Core.Path.{_≡_, refl, sym, _∙_}
-use mathlib.Core.Bool.{Bool, true, false, _&&_, _||_}
+use mathlib.Core.Bool.{Bool, true, false, _&&_, _||_, or-false}
 use mathlib.Core.List.{List, [], _∷_}
 use native.Mathlib.Omega.{arith}
 use lib.ListN.{getD}
@@ -22,17 +22,17 @@ pub or-right : (a b : Bool) → (a || b) ≡ false → b ≡ false
 or-right true b e = true-false e
 or-right false b e = e
 
-pub or-false : (a b : Bool) → a ≡ false → b ≡ false → (a || b) ≡ false
-or-false true b p q = p
-or-false false b p q = q
+pub or-first : (a b : Bool) → a ≡ true → (a || b) ≡ true
+or-first true b e = refl
+or-first false b e = true-false (sym e)
 
-pub or-none : (a : Bool) → (a || false) ≡ a
-or-none true = refl
-or-none false = refl
+pub or-second : (a b : Bool) → b ≡ true → (a || b) ≡ true
+or-second true b e = refl
+or-second false b e = e
 
-pub and-false : (a b : Bool) → a ≡ true → (a && b) ≡ false → b ≡ false
-and-false true b p e = e
-and-false false b p e = true-false (sym p)
+pub and-rest : (a b : Bool) → a ≡ true → (a && b) ≡ false → b ≡ false
+and-rest true b p e = e
+and-rest false b p e = true-false (sym p)
 
 pub and-left : (a b : Bool) → (a && b) ≡ true → a ≡ true
 and-left true b e = refl
@@ -49,15 +49,11 @@ none-of k [] e = refl
 none-of zero (b ∷ tests) e = or-left b (anyOf tests) e
 none-of (suc k) (b ∷ tests) e = none-of k tests (or-right b (anyOf tests) e)
 
--- a program's test of as many parts
-pub any-2 : (a b : Bool) → anyOf (a ∷ b ∷ []) ≡ (a || b)
+-- a program's test of several parts: one part and the rest, and the last part
+pub any-next : (b : Bool) (tests : List Bool) → anyOf (b ∷ tests) ≡ (b || anyOf tests)
 unfolding anyOf
-any-2 a b = rw (or-none b)
+any-next b tests = refl
 
-pub any-4 : (a b c d : Bool) → anyOf (a ∷ b ∷ c ∷ d ∷ []) ≡ (a || (b || (c || d)))
+pub any-last : (b : Bool) → anyOf (b ∷ []) ≡ b
 unfolding anyOf
-any-4 a b c d = rw (or-none d)
-
-pub any-5 : (a b c d e : Bool) → anyOf (a ∷ b ∷ c ∷ d ∷ e ∷ []) ≡ (a || (b || (c || (d || e))))
-unfolding anyOf
-any-5 a b c d e = rw (or-none e)
+any-last b = or-false b

@@ -18,7 +18,7 @@ use Rattle.model.specs.State.{State, idle, positionAt, initialState}
 use Rattle.model.specs.Turn.{performed, instructionAt, turn}
 use Rattle.model.specs.Permission.{monitoredTurn}
 use Rattle.model.specs.Valid.{ValidJob}
-use Rattle.model.proofs.Logic.{and-right, and-false}
+use Rattle.model.proofs.Logic.{and-right, and-rest}
 use Rattle.model.proofs.Lists.{only-each, set-each, replicate-each}
 use Rattle.model.proofs.Ways.{Keeps, isJump, performed-by, turn-by, monitored-by}
 use Rattle.model.proofs.Growth.{length-handler}
@@ -55,7 +55,7 @@ jumps-inside all (c ∷ past) e n =
   where
     here : belongs past c n ≡ true → StaysInside (bodyLength all n) (instruction (c .byte) (c .operands .first))
     here p j =
-        let near : ltb (bodyLength all (openBody past)) (c .operands .first) ≡ false = and-false (is JUMPZ c || is JUMP c) _ j (first-none 9 (isFarJump all) c past e .1) in
+        let near : ltb (bodyLength all (openBody past)) (c .operands .first) ≡ false = and-rest (is JUMPZ c || is JUMP c) _ j (first-none 9 (isFarJump all) c past e .1) in
         let node : openBody past ≡ n = eqb-true (openBody past) n (and-right (isHandler c) _ p) in
         ltb-false (bodyLength all n) (c .operands .first) (rw node at near)
 

@@ -12,7 +12,7 @@ use Rattle.model.specs.Command.{Operands, Command, is}
 use Rattle.model.specs.Declared.{only, countOf, isSame, occurs, flowOf, isHandler, openBody, belongs, instruction, handlerOf, startsOf, startedIn, turnsOf}
 use Rattle.model.specs.Refusal.{countsOf, namesNothing}
 use Rattle.model.specs.Valid.{Valid, Named, NamedInstruction}
-use Rattle.model.proofs.Logic.{true-false, or-left, or-right, and-false, and-left, and-right, none-of}
+use Rattle.model.proofs.Logic.{true-false, or-left, or-right, and-rest, and-left, and-right, none-of}
 use Rattle.model.proofs.Lists.{only-each}
 use Rattle.model.proofs.Growth.{count-grows, declared-older}
 use Rattle.model.proofs.Valid.{passes, named}
@@ -123,7 +123,7 @@ no-starts (c ∷ past) v n e = rw (fresh (is START c && eqb (c .operands .first)
     fresh true p =
         let here : c .operands .first ≡ n = eqb-true (c .operands .first) n (and-right (is START c) _ p) in
         let same = declared-older (λ c before. countOf FLOW before - 1) NODE c past n (start-inside past c v n p) in
-        let miss : eqb (flowOf past (c .operands .first)) (flowOf (c ∷ past) n) ≡ false = and-false (is START c) _ (and-left (is START c) _ p) (or-left _ _ e) in
+        let miss : eqb (flowOf past (c .operands .first)) (flowOf (c ∷ past) n) ≡ false = and-rest (is START c) _ (and-left (is START c) _ p) (or-left _ _ e) in
         absurd (eqb-false _ _ miss (ap (flowOf past) here ∙ sym same))
 
     older : (t : Bool) → ltb n (countOf NODE past) ≡ t → (startedIn past (flowOf past n) ≡ false → startsOf past n ≡ []) → startsOf past n ≡ []
@@ -142,6 +142,6 @@ starts-one (c ∷ past) v n = by-start (is START c && eqb (c .operands .first) n
     by-start false p ih = omega (arith, length-append (startsOf past n) [])
     by-start true p ih =
         let here : c .operands .first ≡ n = eqb-true (c .operands .first) n (and-right (is START c) _ p) in
-        let none : startedIn past (flowOf past (c .operands .first)) ≡ false = and-false (is START c) _ (and-left (is START c) _ p) (none-of 1 _ (passes past c (v .2) .fresh)) in
+        let none : startedIn past (flowOf past (c .operands .first)) ≡ false = and-rest (is START c) _ (and-left (is START c) _ p) (none-of 1 _ (passes past c (v .2) .fresh)) in
         let empty : startsOf past n ≡ [] = no-starts past (v .0) n (rw here at none) in
         rw empty (omega arith)

@@ -1,7 +1,7 @@
 -- A run by a loop over its turns, and the trace that grows with it.
 use Prim.Native.Nat.{ℕ, zero, suc, _+_, _≤_, _<_}
 use mathlib.Core.Path.{_≡_, refl, sym, ap, _∙_}
-use mathlib.Core.List.{List, [], _∷_, _++_, append-assoc, append-nil}
+use mathlib.Core.List.{List, [], _∷_, _++_, append-assoc, append-nil, map-append}
 use native.Mathlib.Numerals.{add-one}
 use lib.ListN.{length, getD, drop, drop-of-length-le}
 use lib.Seq.{drop-cons}
@@ -18,8 +18,7 @@ trace-snoc [] e = append-nil (entryBytes e)
 trace-snoc (f ∷ es) e = ap (λ (l : List ℕ). entryBytes f ++ l) (trace-snoc es e) ∙ sym (append-assoc (entryBytes f) (traceBytes es) (entryBytes e))
 
 pub entries-snoc : (steps : List Step) (t : Step) → entriesOf (steps ++ (t ∷ [])) ≡ entriesOf steps ++ (t .made ∷ [])
-entries-snoc [] t = refl
-entries-snoc (u ∷ steps) t = ap {B = List Entry} (λ es. u .made ∷ es) (entries-snoc steps t)
+entries-snoc steps t = map-append (λ (u : Step). u .made) steps (t ∷ [])
 
 -- a run behind turns that are done already: what a loop over the turns keeps
 unfoldable pub behind : List Step → Run → Run

@@ -1,7 +1,7 @@
 -- What a turn comes to, from the tests that lead there; sends by a loop over the targets.
 use Prim.Native.Nat.{ℕ, zero, suc, _+_, _≤_, _<_}
 use mathlib.Core.Path.{_≡_, refl, ap, _∙_}
-use mathlib.Core.Bool.{Bool, true, false, cond, _||_}
+use mathlib.Core.Bool.{Bool, true, false, cond, _||_, or-true}
 use mathlib.Core.List.{List, [], _∷_, _++_}
 use native.Mathlib.Omega.{arith}
 use lib.Dec.{eqb}
@@ -36,10 +36,6 @@ unfolding someBelow
 some-found test zero t h e = absurd (omega arith)
 some-found test (suc k) t h e = by-last (eqb t k) refl (some-found test k t)
   where
-    or-true : (a : Bool) → (a || true) ≡ true
-    or-true true = refl
-    or-true false = refl
-
     by-last : (b : Bool) → eqb t k ≡ b → (t < k → test t ≡ true → someBelow test k ≡ true) → (someBelow test k || test k) ≡ true
     by-last true p ih = let f : test k ≡ true = rw (eqb-true t k p) at e in rw f (or-true (someBelow test k))
     by-last false p ih = rw (ih (omega (arith, eqb-false t k p)) e)

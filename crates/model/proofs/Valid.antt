@@ -15,7 +15,7 @@ use Rattle.model.specs.Conclusion.{Reads, begin, further, Refuses}
 use Rattle.model.specs.Valid.{InRange, Valid, Passes, ValidJob, Named, Limits}
 use Rattle.model.proofs.Reading.{read-at}
 use Rattle.model.proofs.Walking.{Decides, PassedEight, PassedNine, decode-walked, decode-job-walked}
-use Rattle.model.proofs.Logic.{true-false, and-false, and-left, and-right, none-of}
+use Rattle.model.proofs.Logic.{true-false, and-rest, and-left, and-right, none-of}
 
 -- no refusal: the test is false, and the later tests refuse nothing
 cond-false : (b : Bool) (k m : ℕ) → cond b (suc k) m ≡ 0 → (b ≡ false) × (m ≡ 0)
@@ -72,7 +72,7 @@ handler-step past c n h e false p = h
 handler-step past c n h e true p =
     let here : openBody past ≡ n = eqb-true (openBody past) n (and-right (isHandler c) _ p) in
     let r : (isHandler c && leb 64 (bodyLength past (openBody past))) ≡ false = none-of 1 _ e in
-    let room : leb 64 (bodyLength past n) ≡ false = rw here at (and-false (isHandler c) _ (and-left (isHandler c) _ p) r) in
+    let room : leb 64 (bodyLength past n) ≡ false = rw here at (and-rest (isHandler c) _ (and-left (isHandler c) _ p) r) in
     omega (arith, leb-false 64 (bodyLength past n) room)
 
 pub handler-limit : (past : List Command) → Valid past → (n : ℕ) → bodyLength past n ≤ 64

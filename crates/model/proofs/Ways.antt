@@ -1,6 +1,6 @@
 -- Every way that a turn goes: a property of its outcome follows from the property of each way.
 use Prim.Native.Nat.{ℕ, _≤_, _<_}
-use mathlib.Core.Path.{_≡_, refl, sym}
+use mathlib.Core.Path.{_≡_, refl}
 use mathlib.Core.Bool.{Bool, true, false, cond, _||_}
 use lib.Dec.{ltb, eqb}
 use lib.ListN.{length}
@@ -11,7 +11,7 @@ use Rattle.model.specs.Program.{Program}
 use Rattle.model.specs.State.{State, idle, positionAt, accumulatorAt, messageAt, waitingAt, variableAt, withPosition, withAccumulator, withQueues, withVariable}
 use Rattle.model.specs.Turn.{Entry, entry, Turned, completed, stopped, oldest, begun, finished, delivered, sum32, performed, advanced, entryOf, blocked, instructionAt, turn}
 use Rattle.model.specs.Permission.{permitted, redacted, enforced, monitoredTurn}
-use Rattle.model.proofs.Logic.{true-false}
+use Rattle.model.proofs.Logic.{or-first, or-second}
 
 -- by either outcome of a test
 pub either : {A : Type 0} (Q : A → Type 0) (b : Bool) (x y : A) → (b ≡ true → Q x) → (b ≡ false → Q y) → Q (cond b x y)
@@ -26,14 +26,6 @@ Keeps Q (stopped k e) = Unit {0}
 -- the command is a jump
 abbrev pub isJump : Instruction → Bool
 isJump i = eqb (i .byte) JUMPZ || eqb (i .byte) JUMP
-
-or-first : (a b : Bool) → a ≡ true → (a || b) ≡ true
-or-first true b e = refl
-or-first false b e = true-false (sym e)
-
-or-second : (a b : Bool) → b ≡ true → (a || b) ≡ true
-or-second true b e = refl
-or-second false b e = e
 
 -- the values that a handler command may put into the accumulator have a property
 pub record NewValues (R : ℕ → Type 0) (P : Program) (s : State) (n : ℕ) (i : Instruction) : Type 0 where

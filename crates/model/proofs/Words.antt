@@ -1,13 +1,12 @@
 -- Every accumulator, message and variable stays below 2^32, in every run of a job of bytes; so no output loses anything of them.
 use Prim.Native.Nat.{ℕ, zero, suc, _+_, _^_, _<_, _/_, _*_, _%_}
-use mathlib.Core.Path.{_≡_, refl, _∙_}
+use mathlib.Core.Path.{_≡_, _∙_}
 use mathlib.Core.Bool.{Bool, true, false, cond, _&&_}
 use mathlib.Core.List.{List, [], _∷_, _++_}
 use native.Mathlib.Omega.{arith}
 use native.Mathlib.Nat.{div-div-eq-div-mul, div-add-mod', mod-eq-of-lt}
-use lib.Dec.{ltb, eqb}
-use lib.ListN.{length, getD, set, drop, List·getD-eq-default}
-use borrow.Author.Tests.{ltb-true, ltb-false}
+use lib.Dec.{eqb}
+use lib.ListN.{length, getD, set, drop}
 use Rattle.model.specs.Table.{VAR, FUN, START, OperandKind, scope, owner, start, answer, node, port, target, function, value, variable, jump, absent, width, operandAt, maxNodes, maxVariables}
 use Rattle.model.specs.Command.{Operands, Command, is, numberAt, firstAt, secondAt, thirdAt, operandsAt}
 use Rattle.model.specs.Declared.{countOf, declared, belongs, Instruction, instruction, handlerOf, startsOf, turnsOf}
@@ -20,7 +19,7 @@ use Rattle.model.specs.Output.{bytes4}
 use Rattle.model.specs.Refusal.{Sizes}
 use Rattle.model.specs.Conclusion.{Reads, begin, further, Accepts, monitoredOf, unmonitoredOf}
 use Rattle.model.specs.Valid.{Bytes, ProgramFits, Fits}
-use Rattle.model.proofs.Lists.{only-each, set-each, tabulate-each, replicate-each}
+use Rattle.model.proofs.Lists.{getD-each, only-each, set-each, tabulate-each, replicate-each}
 use Rattle.model.proofs.Reading.{read-at, number-four, number-one, number-none}
 use Rattle.model.proofs.Ways.{Keeps, performed-with, turn-by, monitored-by}
 use Rattle.model.proofs.Runs.{run-each}
@@ -67,7 +66,7 @@ reads-fit {job} bytes (further place past c next reads h e v) =
     let small : OperandsFit (operandsAt job place (r .kinds)) = record { first = number-fits job bytes (firstAt place) (operandAt (r .kinds) 0); second = number-fits job bytes (secondAt place (r .kinds)) (operandAt (r .kinds) 1); third = number-fits job bytes (thirdAt place (r .kinds)) (operandAt (r .kinds) 2) } in
     (reads-fit bytes reads, rw (← r .command) small)
 
--- a declared value, the elements of a handler, the first messages
+-- a declared value
 declared-fits :
     (f : Command → List Command → ℕ) → ((c : Command) (before : List Command) → OperandsFit (c .operands) → f c before < 2 ^ 32)
     → (b : ℕ) (past : List Command) → CommandsFit past → (x : ℕ) → declared f b past x < 2 ^ 32
@@ -79,14 +78,7 @@ declared-fits f small b (c ∷ past) fit x = by-test (is b c && eqb (countOf b p
     by-test true h = small c past (fit .1)
     by-test false h = h
 
--- a property of the elements of a list, and of the default outside
-anywhere : {A : Type 0} (Q : A → Type 0) (d : A) (l : List A) → Q d → ((i : ℕ) → i < length l → Q (getD l i d)) → (i : ℕ) → Q (getD l i d)
-anywhere {A} Q d l z h i = by-range (ltb i (length l)) refl
-  where
-    by-range : (t : Bool) → ltb i (length l) ≡ t → Q (getD l i d)
-    by-range true e = h i (ltb-true i (length l) e)
-    by-range false e = rw (List·getD-eq-default l d (ltb-false i (length l) e)) z
-
+-- the operands of a handler, and the first messages
 handler-fits : (past : List Command) → CommandsFit past → (n i : ℕ) → i < length (handlerOf past n) → getD (handlerOf past n) i (instruction 0 0) .operand < 2 ^ 32
 unfolding handlerOf
 handler-fits [] fit n = λ i h. absurd (omega arith)
@@ -106,8 +98,8 @@ program-fits past fit =
     record {
       startValue = declared-fits (λ c before. c .operands .third) (λ c before o. o .third) VAR past fit;
       answer = λ f argument. declared-fits (λ c before. c .operands .first) (λ c before o. o .first) FUN past fit f;
-      operand = λ n. anywhere (λ (i : Instruction). i .operand < 2 ^ 32) (instruction 0 0) (handlerOf past n) (omega arith) (handler-fits past fit n);
-      firstMessage = λ n. anywhere (λ m. m < 2 ^ 32) 0 (startsOf past n) (omega arith) (starts-fit past fit n);
+      operand = λ n. getD-each (λ k (i : Instruction). i .operand < 2 ^ 32) (instruction 0 0) (handlerOf past n) (handler-fits past fit n) (λ k. omega arith);
+      firstMessage = λ n. getD-each (λ k m. m < 2 ^ 32) 0 (startsOf past n) (starts-fit past fit n) (λ k. omega arith);
     }
 
 -- the start
