@@ -80,8 +80,9 @@ undeclaredRows =
 -- what a node sees
 unfoldable pub sightRows : List Example
 sightRows =
-    -- 7: a wire into another flow
-    monitoredRow (nodes 1 ++ nodes 1 ++ (0x20 ∷ 0x01 ∷ 0x00 ∷ 0x00 ∷ [])) (refused (refuse 7 4))
+    -- 7: a wire into another flow, either way
+    monitoredRow (nodes 1 ++ nodes 1 ++ (0x20 ∷ 0x00 ∷ 0x00 ∷ 0x01 ∷ [])) (refused (refuse 7 4))
+    ∷ monitoredRow (nodes 1 ++ nodes 1 ++ (0x20 ∷ 0x01 ∷ 0x00 ∷ 0x00 ∷ [])) (refused (refuse 7 4))
     -- 7: GET, PUT and PLUS of another node's variable
     ∷ monitoredRow (nodes 2 ++ variable 2 0 ++ variable 0 1 ++ (0x40 ∷ 0x00 ∷ 0x43 ∷ 0x01 ∷ [])) (refused (refuse 7 19))
     ∷ monitoredRow (nodes 2 ++ variable 2 0 ++ variable 0 1 ++ (0x40 ∷ 0x00 ∷ 0x44 ∷ 0x01 ∷ [])) (refused (refuse 7 19))
