@@ -5,6 +5,7 @@
 mod builder;
 mod checks;
 pub mod command;
+pub mod corpus;
 pub mod decode;
 pub mod engine;
 pub mod generate;

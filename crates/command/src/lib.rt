@@ -1,4 +1,5 @@
-// The commands of a job: the table of their bytes, the countings that their operands name, and reading one of them.
+// The commands of a job: their bytes, the table of their operands, the countings that operands name, and reading one of them.
+pub mod bytes;
 pub mod numbers;
 pub mod read;
 pub mod table;

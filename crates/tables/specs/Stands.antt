@@ -1,0 +1,31 @@
+-- The tables stand for the commands read so far: every cell's name has the value that the model gives it, also where nothing is declared.
+use Prim.Native.Nat.{ℕ, _<_}
+use mathlib.Core.Path.{_≡_}
+use mathlib.Core.List.{List}
+use lib.Dec.{ltb}
+use lib.ListN.{length}
+use Rattle.model.specs.Table.{WIRE, ANY, ARG, READ, WRITE, BODY, groupOf}
+use Rattle.model.specs.Command.{Command, ternary, binary}
+use Rattle.model.specs.Declared.{countOf, occurs, flowOf, scopeOf, ownerOf, startOf, answerOf, openBody, bodyLength, startsOf, startedIn}
+use Rattle.model.specs.Refusal.{groupFalls}
+use Rattle.tables.specs.Tables.{countIn, groupIn, openIn, flowIn, scopeIn, ownerIn, startIn, answerIn, lengthIn, bodyIn, startedAt, firstsIn, wiredIn, readIn, writeIn, anyIn, listedIn}
+
+pub record Stands (t : List ℕ) (past : List Command) : Type 0 where
+  pub size : length t ≡ 15936
+  pub counts : (b : ℕ) → b < 128 → countIn t b ≡ countOf b past
+  pub group : (c : Command) → groupFalls past c ≡ ltb (groupOf (c .byte)) (groupIn t)
+  pub opened : openIn t ≡ openBody past
+  pub flow : (n : ℕ) → flowIn t n ≡ flowOf past n
+  pub scope : (x : ℕ) → scopeIn t x ≡ scopeOf past x
+  pub owner : (x : ℕ) → ownerIn t x ≡ ownerOf past x
+  pub startValue : (x : ℕ) → startIn t x ≡ startOf past x
+  pub answer : (f : ℕ) → answerIn t f ≡ answerOf past f
+  pub lengths : (n : ℕ) → lengthIn t n ≡ bodyLength past n
+  pub bodies : (n : ℕ) → bodyIn t n ≡ occurs BODY (binary n 0) past
+  pub started : (f : ℕ) → startedAt t f ≡ startedIn past f
+  pub firsts : (n : ℕ) → firstsIn t n ≡ startsOf past n
+  pub wires : (n p m : ℕ) → wiredIn t n p m ≡ occurs WIRE (ternary n p m) past
+  pub reads : (n x : ℕ) → readIn t n x ≡ occurs READ (binary n x) past
+  pub writes : (n x : ℕ) → writeIn t n x ≡ occurs WRITE (binary n x) past
+  pub anys : (n f : ℕ) → anyIn t n f ≡ occurs ANY (binary n f) past
+  pub arguments : (n f v : ℕ) → listedIn t (countIn t ARG) n f v ≡ occurs ARG (ternary n f v) past

@@ -1,0 +1,144 @@
+-- What the tables say: the sections, and the value of each name that a job declares, by the cells.
+use Prim.Native.Nat.{ℕ, zero, suc, _+_, _*_}
+use mathlib.Core.Bool.{Bool, false, _&&_, _||_}
+use mathlib.Core.List.{List}
+use lib.Dec.{ltb, eqb}
+use Rattle.model.specs.Table.{FLOW, NODE, VAR, FUN, ARG, BODY, TURN}
+use Rattle.model.specs.Declared.{only, isShared, isSeen}
+use Rattle.tables.specs.declared.cells.Section.{Section}
+use Rattle.tables.specs.Cells.{section, entryIn, markIn, gridIn}
+
+-- the sections, in the program's order
+abbrev pub countCells : Section
+countCells = section 0 128
+
+abbrev pub progressCells : Section
+progressCells = section 128 64
+
+abbrev pub flowCells : Section
+flowCells = section 192 64
+
+abbrev pub scopeCells : Section
+scopeCells = section 256 64
+
+abbrev pub ownerCells : Section
+ownerCells = section 320 64
+
+abbrev pub startCells : Section
+startCells = section 384 64
+
+abbrev pub answerCells : Section
+answerCells = section 448 64
+
+abbrev pub lengthCells : Section
+lengthCells = section 512 64
+
+abbrev pub bodyCells : Section
+bodyCells = section 576 64
+
+abbrev pub startedCells : Section
+startedCells = section 640 64
+
+abbrev pub firstCells : Section
+firstCells = section 704 64
+
+abbrev pub messageCells : Section
+messageCells = section 768 64
+
+abbrev pub argNodeCells : Section
+argNodeCells = section 832 256
+
+abbrev pub argFunctionCells : Section
+argFunctionCells = section 1088 256
+
+abbrev pub argValueCells : Section
+argValueCells = section 1344 256
+
+abbrev pub readCells : Section
+readCells = section 1600 2048
+
+abbrev pub writeCells : Section
+writeCells = section 3648 2048
+
+abbrev pub anyCells : Section
+anyCells = section 5696 2048
+
+abbrev pub wireCells : Section
+wireCells = section 7744 8192
+
+-- how many commands have this byte
+abbrev pub countIn : List ℕ → ℕ → ℕ
+countIn t b = entryIn t countCells b
+
+-- the highest group so far
+abbrev pub groupIn : List ℕ → ℕ
+groupIn t = entryIn t progressCells 0
+
+-- the node whose handler was opened last
+abbrev pub openIn : List ℕ → ℕ
+openIn t = entryIn t progressCells 1
+
+-- the flow of a node
+abbrev pub flowIn : List ℕ → ℕ → ℕ
+flowIn t n = entryIn t flowCells n
+
+-- scope, owner and start of a variable
+abbrev pub scopeIn : List ℕ → ℕ → ℕ
+scopeIn t x = entryIn t scopeCells x
+
+abbrev pub ownerIn : List ℕ → ℕ → ℕ
+ownerIn t x = entryIn t ownerCells x
+
+abbrev pub startIn : List ℕ → ℕ → ℕ
+startIn t x = entryIn t startCells x
+
+-- the answer of a function
+abbrev pub answerIn : List ℕ → ℕ → ℕ
+answerIn t f = entryIn t answerCells f
+
+-- the variable is shared
+abbrev pub sharedIn : List ℕ → ℕ → Bool
+sharedIn t x = isShared (scopeIn t x)
+
+-- the node sees the variable
+abbrev pub seesIn : List ℕ → ℕ → ℕ → Bool
+seesIn t n x = isSeen (scopeIn t x) (ownerIn t x) n (flowIn t n)
+
+-- how many commands the handler of a node has
+abbrev pub lengthIn : List ℕ → ℕ → ℕ
+lengthIn t n = entryIn t lengthCells n
+
+-- the node has a BODY
+abbrev pub bodyIn : List ℕ → ℕ → Bool
+bodyIn t n = markIn t bodyCells n
+
+-- some node of the flow has a START
+abbrev pub startedAt : List ℕ → ℕ → Bool
+startedAt t f = markIn t startedCells f
+
+-- the first messages of a node
+abbrev pub firstsIn : List ℕ → ℕ → List ℕ
+firstsIn t n = only (markIn t firstCells n) (entryIn t messageCells n)
+
+-- the port is wired to the target
+abbrev pub wiredIn : List ℕ → ℕ → ℕ → ℕ → Bool
+wiredIn t n p m = ltb p 4 && gridIn t wireCells (n * 4 + p) m
+
+-- reading is permitted, writing is, the call with all arguments is
+abbrev pub readIn : List ℕ → ℕ → ℕ → Bool
+readIn t n x = gridIn t readCells n x
+
+abbrev pub writeIn : List ℕ → ℕ → ℕ → Bool
+writeIn t n x = gridIn t writeCells n x
+
+abbrev pub anyIn : List ℕ → ℕ → ℕ → Bool
+anyIn t n f = gridIn t anyCells n f
+
+-- one of the first ARG commands, so many of them, permits the call with this argument
+unfoldable pub listedIn : List ℕ → ℕ → ℕ → ℕ → ℕ → Bool
+listedIn t zero n f v = false
+listedIn t (suc i) n f v = (eqb (entryIn t argNodeCells i) n && (eqb (entryIn t argFunctionCells i) f && eqb (entryIn t argValueCells i) v)) || listedIn t i n f v
+
+-- the call with this argument is permitted
+abbrev pub callIn : List ℕ → ℕ → ℕ → ℕ → Bool
+callIn t n f v = anyIn t n f || listedIn t (countIn t ARG) n f v

@@ -1,0 +1,120 @@
+// All tables lie in one array of cells, a section each. A cell that was not noted is 0, and so is what lies outside a section.
+ghost use mathlib.Core.Path.{_≡_};
+ghost use Prim.Native.Nat.{_+_, _≤_};
+ghost use lib.ListN.{length};
+ghost use Rattle.tables.specs.Cells.{entryIn, putIn, markIn, gridIn, markAt, blank};
+
+pub const CELLS: usize = 15936;
+
+// A section: its first cell, and how many cells it has.
+pub struct Section(pub usize, pub usize);
+
+// By command byte: how many commands.
+pub const COUNTS: Section = Section(0, 128);
+// The highest group so far, and the node of the open handler.
+pub const PROGRESS: Section = Section(128, 64);
+// By node: its flow.
+pub const FLOW: Section = Section(192, 64);
+// By variable: its scope, owner and start.
+pub const SCOPE: Section = Section(256, 64);
+pub const OWNER: Section = Section(320, 64);
+pub const INITIAL: Section = Section(384, 64);
+// By function: its answer.
+pub const ANSWER: Section = Section(448, 64);
+// By node: how many commands its handler has, and 1 if it has a BODY.
+pub const LENGTH: Section = Section(512, 64);
+pub const BODY: Section = Section(576, 64);
+// By flow: 1 if it has a START.
+pub const STARTED: Section = Section(640, 64);
+// By node: 1 if it has a START, and its first message.
+pub const FIRST: Section = Section(704, 64);
+pub const MESSAGE: Section = Section(768, 64);
+// By ARG command: node, function and argument.
+pub const ARG_NODE: Section = Section(832, 256);
+pub const ARG_FUNCTION: Section = Section(1088, 256);
+pub const ARG_VALUE: Section = Section(1344, 256);
+// 64 cells a node, by variable or function: 1 if there is a READ, a WRITE, an ANY.
+pub const READS: Section = Section(1600, 2048);
+pub const WRITES: Section = Section(3648, 2048);
+pub const CALLS: Section = Section(5696, 2048);
+// 64 cells a port, 4 ports a node, by target: 1 if there is a WIRE.
+pub const WIRES: Section = Section(7744, 8192);
+
+// Cell i of a section.
+pub fn entry(t: &[u32], s: Section, i: usize) -> u32
+    requires { ⌜ s .0 + s .1 ≤ 15936 ⌝ }
+    ensures { λ r. ⌜ r ≡ entryIn (now (t .entry)) s i ⌝ }
+{
+    let base = s.0;
+    let size = s.1;
+    if i < size {
+        let at = base + i;
+        if at < t.len() {
+            return t[at];
+        }
+    }
+    0
+}
+
+// Sets cell i of a section, if on.
+pub fn put(t: &mut [u32], on: bool, s: Section, i: usize, x: u32)
+    requires { ⌜ s .0 + s .1 ≤ 15936 ⌝ }
+    ensures { λ _. ⌜ now (t .exit) ≡ putIn (now (t .entry)) on s i x ⌝ }
+{
+    let base = s.0;
+    let size = s.1;
+    if on {
+        if i < size {
+            let at = base + i;
+            if at < t.len() {
+                t[at] = x;
+            }
+        }
+    }
+}
+
+// Whether cell i of a section is marked.
+pub fn flagged(t: &[u32], s: Section, i: usize) -> bool
+    requires { ⌜ s .0 + s .1 ≤ 15936 ⌝ }
+    ensures { λ r. ⌜ r ≡ markIn (now (t .entry)) s i ⌝ }
+{
+    let x = entry(t, s, i);
+    x != 0
+}
+
+// Whether a cell of a section with 64 cells a row is marked.
+pub fn marked(t: &[u32], s: Section, row: usize, column: usize) -> bool
+    requires { ⌜ s .0 + s .1 ≤ 15936 ⌝ }
+    ensures { λ r. ⌜ r ≡ gridIn (now (t .entry)) s row column ⌝ }
+{
+    if row < 128 {
+        if column < 64 {
+            return flagged(t, s, row * 64 + column);
+        }
+    }
+    false
+}
+
+// Marks a cell of such a section, if on.
+pub fn mark(t: &mut [u32], on: bool, s: Section, row: usize, column: usize)
+    requires { ⌜ s .0 + s .1 ≤ 15936 ⌝ }
+    ensures { λ _. ⌜ now (t .exit) ≡ markAt (now (t .entry)) on s row column ⌝ }
+{
+    if row < 128 {
+        if column < 64 {
+            put(t, on, s, row * 64 + column, 1);
+        }
+    }
+}
+
+// Makes every cell 0.
+pub fn clear(t: &mut [u32])
+    requires { ⌜ length (now t) ≡ 15936 ⌝ }
+    ensures { λ _. ⌜ now (t .exit) ≡ blank ⌝ }
+{
+    let mut i = 0;
+    while i < t.len() {
+        t[i] = 0;
+        i += 1;
+    }
+}
