@@ -1,4 +1,8 @@
 // The command bytes.
+ghost use mathlib.Core.Path.{_≡_};
+ghost use mathlib.Core.Bool.{_&&_};
+ghost use lib.Dec.{leb};
+
 pub const FLOW: u8 = 0x01;
 pub const NODE: u8 = 0x02;
 pub const VAR: u8 = 0x10;
@@ -22,3 +26,10 @@ pub const CALL: u8 = 0x4A;
 pub const SKIP: u8 = 0x4B;
 pub const START: u8 = 0x50;
 pub const TURN: u8 = 0x60;
+
+// Whether the byte is that of a handler command: 41 SET to 4B SKIP.
+pub fn is_handler(byte: u8) -> bool
+    ensures { λ r. ⌜ r ≡ (leb 0x41 byte && leb byte 0x4B) ⌝ }
+{
+    (SET <= byte) & (byte <= SKIP)
+}

@@ -1,2 +1,5 @@
 pub mod Writing
 pub mod Listing
+pub mod Sections
+pub mod Cases
+pub mod Noting

@@ -33,6 +33,7 @@ pub fn jobs() -> Vec<Job> {
         vec![],
         of_length(MAX_JOB_BYTES),
         of_length(MAX_JOB_BYTES + 1),
+        of_length(MAX_JOB_BYTES + 2),
         vec![0; MAX_JOB_BYTES + 1],
         vec![FLOW; MAX_JOB_BYTES + 16],
         vec![FLOW; MAX_JOB_BYTES],

@@ -2,6 +2,7 @@
 
 use super::worlds::{before, behind, command, full, small};
 use super::Job;
+use crate::generate::plan::Plan;
 use crate::table::{self, *};
 
 pub fn jobs() -> Vec<Job> {
@@ -82,15 +83,11 @@ fn turns() -> Vec<Job> {
     at_and_past(&small().bytes(), MAX_TURNS, |number| vec![TURN, (number % 3) as u8])
 }
 
-/// All declarations and one more; a body for every node and one more; every wire and every ANY.
+/// All declarations and one more; a body for every node and one more; everything at once.
 fn uncounted() -> Vec<Job> {
     let plan = full();
-    let nodes = 0..MAX_NODES as u8;
-    let bodies: Job = nodes.clone().flat_map(|node| [BODY, node]).collect();
-    let flow = |node: u8| (0..4).map(move |other| node / 4 * 4 + other);
-    let wires_of =
-        |node: u8| flow(node).flat_map(move |to| (0..4).flat_map(move |port| [WIRE, node, port, to]));
-    let any_of = |node: u8| (0..MAX_FUNCTIONS as u8).flat_map(move |function| [ANY, node, function]);
+    let bodies: Job = (0..MAX_NODES as u8).flat_map(|node| [BODY, node]).collect();
+    let everything = everything();
     vec![
         plan.bytes(),
         behind(&plan, &command(&plan, VAR)),
@@ -99,7 +96,35 @@ fn uncounted() -> Vec<Job> {
         behind(&plan, &[&bodies[..], &[BODY, 0]].concat()),
         behind(&plan, &[&bodies[..], &[BODY, 31]].concat()),
         behind(&plan, &[&bodies[..], &[BODY, 32]].concat()),
-        behind(&plan, &nodes.clone().flat_map(wires_of).collect::<Job>()),
-        behind(&plan, &nodes.flat_map(any_of).collect::<Job>()),
+        [&everything[..], &[START, 31, 0, 0, 0, 0]].concat(),
+        everything,
     ]
+}
+
+/// All declarations, every wire, every permission that there can be, a full body for every node and a START
+/// for every flow: accepted.
+fn everything() -> Job {
+    let mut plan = full();
+    for node in 0..MAX_NODES as u32 {
+        wires_and_permissions(&mut plan, node);
+        plan.push(BODY, &[node]);
+        (0..MAX_BODY_COMMANDS).for_each(|_| plan.push(SKIP, &[]));
+    }
+    (0..MAX_ARGS as u32).for_each(|number| plan.push(ARG, &[number % 32, number / 8, number]));
+    (0..MAX_FLOWS as u32).for_each(|flow| plan.push(START, &[4 * flow, 1]));
+    plan.bytes()
+}
+
+/// Every wire, ANY, READ and WRITE of a node.
+fn wires_and_permissions(plan: &mut Plan, node: u32) {
+    for target in plan.nodes_of(plan.flow_of[node as usize]) {
+        (0..PORTS as u32).for_each(|port| plan.push(WIRE, &[node, port, target.into()]));
+    }
+    (0..MAX_FUNCTIONS as u32).for_each(|function| plan.push(ANY, &[node, function]));
+    for variable in 0..MAX_VARIABLES as u8 {
+        if plan.sees(node as u8, variable) && plan.is_shared(variable) {
+            plan.push(READ, &[node, variable.into()]);
+            plan.push(WRITE, &[node, variable.into()]);
+        }
+    }
 }

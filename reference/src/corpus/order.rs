@@ -68,10 +68,8 @@ fn cut() -> Vec<Job> {
 fn cut_past_a_count() -> Vec<Job> {
     let mut jobs = vec![behind(&full(), &[VAR, 2, 0, 0, 0, 0]), behind(&full(), &[FUN, 1, 2, 3])];
     for row in COMMANDS.iter().filter(|row| is_handler(row.byte) && row.width > 0) {
-        jobs.push(behind(
-            &small(),
-            &[full_body(), command(&small(), row.byte)[..row.width].to_vec()].concat(),
-        ));
+        let command = command(&small(), row.byte);
+        jobs.push(behind(&small(), &[&full_body()[..], &command[..row.width]].concat()));
     }
     jobs.push(behind(&small(), &[full_args(), vec![ARG, 0, 0, 1, 2, 3]].concat()));
     jobs.push(behind(&small(), &[full_turns(), vec![TURN]].concat()));

@@ -1,0 +1,411 @@
+-- One more command in the tables: every section then says what the model says of one command more.
+use Prim.Native.Nat.{ℕ, zero, suc, _+_, _-_, _*_, _/_, _≤_, _<_, zero-le}
+use mathlib.Core.Path.{_≡_, refl, sym, ap, _∙_}
+use mathlib.Core.Bool.{Bool, true, false, cond, not, _&&_, _||_, and-true}
+use mathlib.Core.List.{List, [], _∷_, _++_, append-nil}
+use mathlib.Core.Logic.{_⊎_, inl, inr}
+use mathlib.Core.Option.{Option, none, some}
+use native.Mathlib.Omega.{arith}
+use native.Mathlib.Numerals.{add-one}
+use lib.Dec.{ltb, leb, eqb}
+use lib.ListN.{length, length-append}
+use borrow.Author.Tests.{ltb-true, ltb-false, lt-ltb, le-ltb, eqb-true, eqb-false, eq-eqb, ne-eqb}
+use Rattle.model.specs.Table.{FLOW, NODE, VAR, FUN, WIRE, ANY, ARG, READ, WRITE, BODY, START, Row, table, operandsIn, operandsOf, OperandKind, groupOf}
+use Rattle.model.specs.Command.{Operands, Command, is, ternary, binary}
+use Rattle.model.specs.Declared.{only, countOf, isSame, occurs, declared, flowOf, isHandler, openBody, bodyLength, startsOf, startedIn}
+use Rattle.model.specs.Refusal.{groupFalls}
+use Rattle.model.specs.Valid.{Valid, Named}
+use Rattle.model.proofs.Logic.{true-false, and-left, and-right}
+use Rattle.model.proofs.Growth.{count-same, count-other, count-grows, count-below, occurs-next, open-next, body-next, starts-next, started-next}
+use Rattle.model.proofs.Ranges.{open-inside, starts-one}
+use Rattle.model.proofs.Valid.{passes, limits, named}
+use Rattle.command.specs.declared.read.Command.{Command as Code}
+use Rattle.command.specs.Reading.{commandOf}
+use Rattle.tables.specs.declared.cells.Section.{Section}
+use Rattle.tables.specs.Cells.{entryIn, putIn, markIn, gridIn, markAt}
+use Rattle.tables.specs.Tables.{countCells, progressCells, flowCells, scopeCells, ownerCells, startCells, answerCells, lengthCells, bodyCells, startedCells, firstCells, messageCells, argNodeCells, argFunctionCells, argValueCells, readCells, writeCells, anyCells, wireCells, countIn, groupIn, openIn, flowIn, lengthIn, listedIn, wiredIn}
+use Rattle.tables.specs.Stands.{Stands}
+use Rattle.tables.proofs.Sections.{Write, write, written, sorted, left, length-written, entry-written}
+use Rattle.tables.proofs.Cases.{column, flag, grid, wire}
+
+-- the writes for a command, by the cells before
+abbrev pub noteWrites : List ℕ → Command → List Write
+noteWrites t c =
+    write true countCells (c .byte) (countIn t (c .byte) + 1)
+    ∷ write true progressCells 0 (groupOf (c .byte))
+    ∷ write (is BODY c) progressCells 1 (c .operands .first)
+    ∷ write (is NODE c) flowCells (countIn t NODE) (countIn t FLOW - 1)
+    ∷ write (is VAR c) scopeCells (countIn t VAR) (c .operands .first)
+    ∷ write (is VAR c) ownerCells (countIn t VAR) (c .operands .second)
+    ∷ write (is VAR c) startCells (countIn t VAR) (c .operands .third)
+    ∷ write (is FUN c) answerCells (countIn t FUN) (c .operands .first)
+    ∷ write (isHandler c) lengthCells (openIn t) (lengthIn t (openIn t) + 1)
+    ∷ write (is BODY c) bodyCells (c .operands .first) 1
+    ∷ write (is START c) startedCells (flowIn t (c .operands .first)) 1
+    ∷ write (is START c) firstCells (c .operands .first) 1
+    ∷ write (is START c) messageCells (c .operands .first) (c .operands .second)
+    ∷ write (is ARG c) argNodeCells (countIn t ARG) (c .operands .first)
+    ∷ write (is ARG c) argFunctionCells (countIn t ARG) (c .operands .second)
+    ∷ write (is ARG c) argValueCells (countIn t ARG) (c .operands .third)
+    ∷ write (is READ c && (ltb (c .operands .first) 128 && ltb (c .operands .second) 64)) readCells (c .operands .first * 64 + c .operands .second) 1
+    ∷ write (is WRITE c && (ltb (c .operands .first) 128 && ltb (c .operands .second) 64)) writeCells (c .operands .first * 64 + c .operands .second) 1
+    ∷ write (is ANY c && (ltb (c .operands .first) 128 && ltb (c .operands .second) 64)) anyCells (c .operands .first * 64 + c .operands .second) 1
+    ∷ write (is WIRE c && (ltb (c .operands .first * 4 + c .operands .second) 128 && ltb (c .operands .third) 64)) wireCells ((c .operands .first * 4 + c .operands .second) * 64 + c .operands .third) 1
+    ∷ []
+
+-- every command byte is below 128
+low : List Row → Bool
+low [] = true
+low (r ∷ rows) = ltb (r .byte) 128 && low rows
+
+found-low : (rows : List Row) (b : ℕ) → low rows ≡ true → ¬ (operandsIn rows b ≡ none) → b < 128
+unfolding low operandsIn
+found-low [] b l h = absurd (h refl)
+found-low (r ∷ rows) b l h = by-row (eqb (r .byte) b) refl h (found-low rows b (and-right (ltb (r .byte) 128) _ l))
+  where
+    by-row : (t : Bool) → eqb (r .byte) b ≡ t → ¬ (cond t (some (r .operands)) (operandsIn rows b) ≡ none) → (¬ (operandsIn rows b ≡ none) → b < 128) → b < 128
+    by-row true e n ih = let q : r .byte ≡ b = eqb-true (r .byte) b e in omega (arith, ltb-true (r .byte) 128 (and-left (ltb (r .byte) 128) _ l))
+    by-row false e n ih = ih n
+
+pub byte-low : (b : ℕ) → ¬ (operandsOf b ≡ none) → b < 128
+unfolding low operandsOf
+byte-low b h = found-low table b refl h
+
+-- the flow of a node is one of those counted
+pub flow-counted : (past : List Command) (n : ℕ) → flowOf past n ≤ countOf FLOW past
+unfolding declared
+flow-counted [] n = zero-le
+flow-counted (c ∷ past) n = by-node (is NODE c && eqb (countOf NODE past) n) (flow-counted past n)
+  where
+    by-node : (t : Bool) → flowOf past n ≤ countOf FLOW past → cond t (countOf FLOW past - 1) (flowOf past n) ≤ countOf FLOW (c ∷ past)
+    by-node true h = omega (arith, count-grows FLOW c past)
+    by-node false h = omega (arith, count-grows FLOW c past)
+
+-- a write to another cell, and one to this cell
+other-cell : (b : Bool) (x y : ℕ) → cond (b && false) x y ≡ y
+other-cell true x y = refl
+other-cell false x y = refl
+
+this-cell : (b : Bool) (x y : ℕ) → cond (b && true) x y ≡ cond b x y
+this-cell true x y = refl
+this-cell false x y = refl
+
+-- the group of a command that does not fall is the highest
+highest : (d c g : ℕ) → g ≤ c → (ltb d c || ltb d g) ≡ ltb d c
+highest d c g h = by-test (ltb d c) refl
+  where
+    by-test : (t : Bool) → ltb d c ≡ t → (t || ltb d g) ≡ t
+    by-test true e = refl
+    by-test false e = le-ltb d g (omega (arith, ltb-false d c e))
+
+-- the list is searched alike where the cells are the same
+same-listed :
+    (t u : List ℕ) (n f v k : ℕ)
+    → ((i : ℕ) → i < k → (entryIn u argNodeCells i ≡ entryIn t argNodeCells i) × (entryIn u argFunctionCells i ≡ entryIn t argFunctionCells i) × (entryIn u argValueCells i ≡ entryIn t argValueCells i))
+    → listedIn u k n f v ≡ listedIn t k n f v
+unfolding listedIn
+same-listed t u n f v zero h = refl
+same-listed t u n f v (suc k) h =
+    let e = h k (omega arith) in
+    rw (e .0, e .1, e .2, same-listed t u n f v k (λ i l. h i (omega arith)))
+
+listed-next :
+    (u : List ℕ) (k n f v x y z : ℕ) → entryIn u argNodeCells k ≡ x → entryIn u argFunctionCells k ≡ y → entryIn u argValueCells k ≡ z
+    → listedIn u (k + 1) n f v ≡ ((eqb x n && (eqb y f && eqb z v)) || listedIn u k n f v)
+unfolding listedIn
+listed-next u k n f v x y z p q r = rw (add-one, p, q, r)
+
+empty-list : (l : List ℕ) → length l ≤ 0 → l ≡ []
+empty-list [] h = refl
+empty-list (a ∷ l) h = absurd (omega arith)
+
+-- the first message of a node, with one more START
+first-message :
+    (on : Bool) (j i k old message x : ℕ) (older : List ℕ) → (on ≡ true → j < k) → only (not (eqb old 0)) message ≡ older → (on ≡ true → eqb j i ≡ true → older ≡ [])
+    → only (not (eqb (cond (on && (eqb j i && ltb i k)) 1 old) 0)) (cond (on && (eqb j i && ltb i k)) x message) ≡ older ++ only (on && eqb j i) x
+first-message false j i k old message x older h q z = q ∙ sym (append-nil older)
+first-message true j i k old message x older h q z = by-cell (eqb j i) refl
+  where
+    by-cell : (b : Bool) → eqb j i ≡ b → only (not (eqb (cond (b && ltb i k) 1 old) 0)) (cond (b && ltb i k) x message) ≡ older ++ only b x
+    by-cell true e = let g : j ≡ i = eqb-true j i e in let m = h refl in rw (lt-ltb i k (omega arith), z refl e)
+    by-cell false e = q ∙ sym (append-nil older)
+
+module _ (t : List ℕ) (past : List Command) (c : Command) (s : Stands t past) (v : Valid (c ∷ past)) where
+  after : List ℕ
+  after = written t (noteWrites t c)
+
+  -- a section behind the writes
+  in-section : (r : Section) → r .0 + r .1 ≤ 15936 → sorted r (noteWrites t c) ≡ true → (i : ℕ) → entryIn after r i ≡ left r (noteWrites t c) i (entryIn t r i)
+  unfolding after
+  in-section r h o i = entry-written t (noteWrites t c) r (rw (s .size) h) o i
+
+  -- the operands are in range
+  range : Named (c .byte) (c .operands)
+  range = named past c v
+
+  byte-is : (b : ℕ) → is b c ≡ true → c .byte ≡ b
+  byte-is b e = eqb-true (c .byte) b e
+
+  -- a count of a kind of command has room for this one
+  room : (b most : ℕ) → countOf b (c ∷ past) ≤ most → is b c ≡ true → countOf b past < most
+  room b most h e = omega (arith, count-same b c past e)
+
+  -- a column of what is declared
+  declared-column :
+      (value : Command → List Command → ℕ) (b j k x old i : ℕ) → j ≡ countOf b past → (is b c ≡ true → countOf b past < k) → x ≡ value c past → old ≡ declared value b past i
+      → cond (is b c && (eqb j i && ltb i k)) x old ≡ declared value b (c ∷ past) i
+  unfolding declared
+  declared-column value b j k x old i e h p q = rw e (column (is b c) (countOf b past) i k x old (value c past) (declared value b past i) h (λ a d. p) q)
+
+  counts-next : (b : ℕ) → b < 128 → countIn after b ≡ countOf b (c ∷ past)
+  unfolding countOf
+  counts-next b h =
+      in-section countCells (omega arith) refl b
+      ∙ column true (c .byte) b 128 (countIn t (c .byte) + 1) (countIn t b) (countOf b past + 1) (countOf b past) (λ e. byte-low (c .byte) (v .1 .known))
+        (λ e q. rw (q, s .counts b h)) (s .counts b h)
+
+  group-next : (d : Command) → groupFalls (c ∷ past) d ≡ ltb (groupOf (d .byte)) (groupIn after)
+  unfolding groupFalls
+  group-next d =
+      let g : groupIn after ≡ groupOf (c .byte) = in-section progressCells (omega arith) refl 0 ∙ other-cell (is BODY c) (c .operands .first) (groupOf (c .byte)) in
+      let l = ltb-false (groupOf (c .byte)) (groupIn t) (sym (s .group c) ∙ passes past c (v .2) .ordered) in
+      rw (g, s .group d) (highest (groupOf (d .byte)) (groupOf (c .byte)) (groupIn t) l)
+
+  opened-next : openIn after ≡ openBody (c ∷ past)
+  opened-next = in-section progressCells (omega arith) refl 1 ∙ this-cell (is BODY c) (c .operands .first) (openIn t) ∙ rw (s .opened, open-next c past)
+
+  flow-next : (n : ℕ) → flowIn after n ≡ flowOf (c ∷ past) n
+  flow-next n =
+      in-section flowCells (omega arith) refl n
+      ∙ declared-column (λ c before. countOf FLOW before - 1) NODE (countIn t NODE) 64 (countIn t FLOW - 1) (flowIn t n) n (s .counts NODE (omega arith))
+        (λ e. omega (arith, room NODE 32 (limits (c ∷ past) v .nodes) e)) (rw (s .counts FLOW (omega arith))) (s .flow n)
+
+  module _ (x : ℕ) where
+    variable-room : is VAR c ≡ true → countOf VAR past < 64
+    variable-room e = room VAR 64 (limits (c ∷ past) v .variables) e
+
+    scope-next : entryIn after scopeCells x ≡ declared (λ c before. c .operands .first) VAR (c ∷ past) x
+    scope-next =
+        in-section scopeCells (omega arith) refl x
+        ∙ declared-column (λ c before. c .operands .first) VAR (countIn t VAR) 64 (c .operands .first) (entryIn t scopeCells x) x (s .counts VAR (omega arith)) variable-room refl (s .scope x)
+
+    owner-next : entryIn after ownerCells x ≡ declared (λ c before. c .operands .second) VAR (c ∷ past) x
+    owner-next =
+        in-section ownerCells (omega arith) refl x
+        ∙ declared-column (λ c before. c .operands .second) VAR (countIn t VAR) 64 (c .operands .second) (entryIn t ownerCells x) x (s .counts VAR (omega arith)) variable-room refl (s .owner x)
+
+    start-next : entryIn after startCells x ≡ declared (λ c before. c .operands .third) VAR (c ∷ past) x
+    start-next =
+        in-section startCells (omega arith) refl x
+        ∙ declared-column (λ c before. c .operands .third) VAR (countIn t VAR) 64 (c .operands .third) (entryIn t startCells x) x (s .counts VAR (omega arith)) variable-room refl (s .startValue x)
+
+  answer-next : (f : ℕ) → entryIn after answerCells f ≡ declared (λ c before. c .operands .first) FUN (c ∷ past) f
+  answer-next f =
+      in-section answerCells (omega arith) refl f
+      ∙ declared-column (λ c before. c .operands .first) FUN (countIn t FUN) 64 (c .operands .first) (entryIn t answerCells f) f (s .counts FUN (omega arith))
+        (λ e. omega (arith, room FUN 32 (limits (c ∷ past) v .functions) e)) refl (s .answer f)
+
+  lengths-next : (n : ℕ) → lengthIn after n ≡ bodyLength (c ∷ past) n
+  lengths-next n =
+      in-section lengthCells (omega arith) refl n
+      ∙ column (isHandler c) (openIn t) n 64 (lengthIn t (openIn t) + 1) (lengthIn t n) (bodyLength past n + 1) (bodyLength past n)
+        (λ e. omega (arith, s .opened, open-inside past (v .0))) (λ e q. rw (q, s .lengths n)) (s .lengths n)
+      ∙ rw (s .opened, body-next c past n)
+
+  -- an operand of a command with this byte
+  body-range : is BODY c ≡ true → (c .operands .first < 32) × (c .operands .second ≡ 0) × (c .operands .third ≡ 0)
+  unfolding operandsOf operandsIn
+  body-range e = let r = rw (byte-is BODY e) at range in (r .first, r .second, r .third)
+
+  start-range : is START c ≡ true → c .operands .first < 32
+  unfolding operandsOf operandsIn
+  start-range e = rw (byte-is START e) at (range .first)
+
+  access-range : (b : ℕ) → (b ≡ READ) ⊎ (b ≡ WRITE) → is b c ≡ true → (c .operands .first < 32) × (c .operands .second < 64) × (c .operands .third ≡ 0)
+  unfolding operandsOf operandsIn
+  access-range b (inl p) e = let r = rw (byte-is b e, p) at range in (r .first, r .second, r .third)
+  access-range b (inr p) e = let r = rw (byte-is b e, p) at range in (r .first, r .second, r .third)
+
+  any-range : is ANY c ≡ true → (c .operands .first < 32) × (c .operands .second < 32) × (c .operands .third ≡ 0)
+  unfolding operandsOf operandsIn
+  any-range e = let r = rw (byte-is ANY e) at range in (r .first, r .second, r .third)
+
+  wire-range : is WIRE c ≡ true → (c .operands .first < 32) × (c .operands .second ≤ 3) × (c .operands .third < 32)
+  unfolding operandsOf operandsIn
+  wire-range e = let r = rw (byte-is WIRE e) at range in (r .first, r .second, r .third)
+
+  -- where the last operands are absent, a command is the same if the others are
+  same-one : (b n : ℕ) → (is b c ≡ true → (c .operands .second ≡ 0) × (c .operands .third ≡ 0)) → isSame b (binary n 0) c ≡ (is b c && eqb (c .operands .first) n)
+  same-one b n h = by-byte (is b c) h
+    where
+      by-byte : (p : Bool) → (p ≡ true → (c .operands .second ≡ 0) × (c .operands .third ≡ 0)) → (p && (eqb (c .operands .first) n && (eqb (c .operands .second) 0 && eqb (c .operands .third) 0))) ≡ (p && eqb (c .operands .first) n)
+      by-byte true h = rw (h refl .0, h refl .1) (by-first (eqb (c .operands .first) n))
+        where
+          by-first : (q : Bool) → (q && true) ≡ q
+          by-first true = refl
+          by-first false = refl
+      by-byte false h = refl
+
+  bodies-next : (n : ℕ) → markIn after bodyCells n ≡ occurs BODY (binary n 0) (c ∷ past)
+  unfolding markIn
+  bodies-next n =
+      rw (in-section bodyCells (omega arith) refl n)
+      (flag (is BODY c) (c .operands .first) n 64 (entryIn t bodyCells n) (occurs BODY (binary n 0) past) (λ e. omega (arith, body-range e .0)) (s .bodies n)
+      ∙ rw (occurs-next c past BODY (binary n 0), same-one BODY n (λ e. (body-range e .1, body-range e .2))))
+
+  started-after : (f : ℕ) → markIn after startedCells f ≡ startedIn (c ∷ past) f
+  unfolding markIn
+  started-after f =
+      rw (in-section startedCells (omega arith) refl f)
+      (flag (is START c) (flowIn t (c .operands .first)) f 64 (entryIn t startedCells f) (startedIn past f)
+        (λ e. omega (arith, s .flow (c .operands .first), flow-counted past (c .operands .first), limits past (v .0) .flows)) (s .started f)
+      ∙ rw (started-next c past f, s .flow (c .operands .first)))
+
+  grid-next :
+      (r : Section) (b : ℕ) → r .1 ≡ 2048 → (row x : ℕ)
+      → entryIn after r (row * 64 + x) ≡ cond ((is b c && (ltb (c .operands .first) 128 && ltb (c .operands .second) 64)) && (eqb (c .operands .first * 64 + c .operands .second) (row * 64 + x) && ltb (row * 64 + x) 2048)) 1 (entryIn t r (row * 64 + x))
+      → (is b c ≡ true → (c .operands .first < 32) × (c .operands .second < 64) × (c .operands .third ≡ 0))
+      → gridIn t r row x ≡ occurs b (binary row x) past → gridIn after r row x ≡ occurs b (binary row x) (c ∷ past)
+  unfolding gridIn markIn
+  grid-next r b size row x e h q =
+      rw e
+      (grid (c .operands .first) (c .operands .second) row x 2048 (entryIn t r (row * 64 + x)) (is b c) (occurs b (binary row x) past)
+        (λ p. omega (arith, h p .0)) (λ p. h p .1) (λ p. omega (arith, h p .0, h p .1)) q
+      ∙ rw (occurs-next c past b (binary row x), same-two))
+    where
+      same-two : (is b c && (eqb (c .operands .first) row && eqb (c .operands .second) x)) ≡ isSame b (binary row x) c
+      same-two = by-byte (is b c) h
+        where
+          by-byte : (p : Bool) → (p ≡ true → (c .operands .first < 32) × (c .operands .second < 64) × (c .operands .third ≡ 0))
+            → (p && (eqb (c .operands .first) row && eqb (c .operands .second) x)) ≡ (p && (eqb (c .operands .first) row && (eqb (c .operands .second) x && eqb (c .operands .third) 0)))
+          by-byte false h = refl
+          by-byte true h = rw (h refl .2) (ap (λ (y : Bool). eqb (c .operands .first) row && y) (sym (and-true (eqb (c .operands .second) x))))
+
+  reads-next : (n x : ℕ) → gridIn after readCells n x ≡ occurs READ (binary n x) (c ∷ past)
+  reads-next n x = grid-next readCells READ refl n x (in-section readCells (omega arith) refl (n * 64 + x)) (access-range READ (inl refl)) (s .reads n x)
+
+  writes-next : (n x : ℕ) → gridIn after writeCells n x ≡ occurs WRITE (binary n x) (c ∷ past)
+  writes-next n x = grid-next writeCells WRITE refl n x (in-section writeCells (omega arith) refl (n * 64 + x)) (access-range WRITE (inr refl)) (s .writes n x)
+
+  anys-next : (n f : ℕ) → gridIn after anyCells n f ≡ occurs ANY (binary n f) (c ∷ past)
+  anys-next n f =
+      grid-next anyCells ANY refl n f (in-section anyCells (omega arith) refl (n * 64 + f)) (λ e. let r = any-range e in (r .0, omega (arith, r .1), r .2)) (s .anys n f)
+
+  wire-grid : (row m : ℕ) → gridIn after wireCells row m ≡ ((is WIRE c && (eqb (c .operands .first * 4 + c .operands .second) row && eqb (c .operands .third) m)) || gridIn t wireCells row m)
+  unfolding gridIn markIn
+  wire-grid row m =
+      rw (in-section wireCells (omega arith) refl (row * 64 + m))
+      (grid (c .operands .first * 4 + c .operands .second) (c .operands .third) row m 8192 (entryIn t wireCells (row * 64 + m)) (is WIRE c) ((ltb row 128 && ltb m 64) && not (eqb (entryIn t wireCells (row * 64 + m)) 0))
+        (λ p. omega (arith, wire-range p .0, wire-range p .1)) (λ p. omega (arith, wire-range p .2)) (λ p. omega (arith, wire-range p .0, wire-range p .1, wire-range p .2)) refl)
+
+  wires-next : (n p m : ℕ) → wiredIn after n p m ≡ occurs WIRE (ternary n p m) (c ∷ past)
+  wires-next n p m =
+      let e : gridIn after wireCells (n * 4 + p) m ≡ ((is WIRE c && (eqb (c .operands .first * 4 + c .operands .second) (n * 4 + p) && eqb (c .operands .third) m)) || gridIn t wireCells (n * 4 + p) m) = in-grid in
+      rw (e, occurs-next c past WIRE (ternary n p m))
+      (wire (is WIRE c) (c .operands .first) (c .operands .second) (c .operands .third) n p m (gridIn t wireCells (n * 4 + p) m) (occurs WIRE (ternary n p m) past) (λ q. wire-range q .1) (s .wires n p m))
+    where
+      in-grid : gridIn after wireCells (n * 4 + p) m ≡ ((is WIRE c && (eqb (c .operands .first * 4 + c .operands .second) (n * 4 + p) && eqb (c .operands .third) m)) || gridIn t wireCells (n * 4 + p) m)
+      in-grid = wire-grid (n * 4 + p) m
+
+  firsts-next : (n : ℕ) → only (markIn after firstCells n) (entryIn after messageCells n) ≡ startsOf (c ∷ past) n
+  unfolding markIn
+  firsts-next n =
+      rw (in-section firstCells (omega arith) refl n, in-section messageCells (omega arith) refl n, starts-next c past n)
+      (first-message (is START c) (c .operands .first) n 64 (entryIn t firstCells n) (entryIn t messageCells n) (c .operands .second) (startsOf past n)
+        (λ e. omega (arith, start-range e)) (s .firsts n) (λ e q. alone (rw (e, q) at (rw (starts-next c past n) at (starts-one (c ∷ past) v n)))))
+    where
+      alone : length (startsOf past n ++ (c .operands .second ∷ [])) ≤ 1 → startsOf past n ≡ []
+      alone h = empty-list (startsOf past n) (omega (arith, length-append (startsOf past n) (c .operands .second ∷ [])))
+
+  -- the cells of ARG command i
+  argument-cells :
+      (i : ℕ)
+      → (entryIn after argNodeCells i ≡ cond (is ARG c && (eqb (countIn t ARG) i && ltb i 256)) (c .operands .first) (entryIn t argNodeCells i))
+        × (entryIn after argFunctionCells i ≡ cond (is ARG c && (eqb (countIn t ARG) i && ltb i 256)) (c .operands .second) (entryIn t argFunctionCells i))
+        × (entryIn after argValueCells i ≡ cond (is ARG c && (eqb (countIn t ARG) i && ltb i 256)) (c .operands .third) (entryIn t argValueCells i))
+  argument-cells i = (in-section argNodeCells (omega arith) refl i, in-section argFunctionCells (omega arith) refl i, in-section argValueCells (omega arith) refl i)
+
+  -- those before keep their cells
+  argument-kept : (i : ℕ) → (is ARG c && (eqb (countIn t ARG) i && ltb i 256)) ≡ false
+      → (entryIn after argNodeCells i ≡ entryIn t argNodeCells i) × (entryIn after argFunctionCells i ≡ entryIn t argFunctionCells i) × (entryIn after argValueCells i ≡ entryIn t argValueCells i)
+  argument-kept i e = let a = argument-cells i in (a .0 ∙ rw e, a .1 ∙ rw e, a .2 ∙ rw e)
+
+  -- those so far are searched as before
+  listed-before : (n f w : ℕ) → listedIn after (countIn t ARG) n f w ≡ occurs ARG (ternary n f w) past
+  listed-before n f w =
+      same-listed t after n f w (countIn t ARG) (λ i h. argument-kept i (rw (ne-eqb (countIn t ARG) i (λ e. omega arith)) (and-none (is ARG c)))) ∙ s .arguments n f w
+    where
+      and-none : (b : Bool) → (b && false) ≡ false
+      and-none true = refl
+      and-none false = refl
+
+  arguments-next : (n f w : ℕ) → listedIn after (countIn after ARG) n f w ≡ occurs ARG (ternary n f w) (c ∷ past)
+  arguments-next n f w = rw (counts-next ARG (omega arith), occurs-next c past ARG (ternary n f w)) (by-byte (is ARG c) refl)
+    where
+      new : is ARG c ≡ true → (is ARG c && (eqb (countIn t ARG) (countIn t ARG) && ltb (countIn t ARG) 256)) ≡ true
+      new e =
+          let h : countIn t ARG < 256 = omega (arith, s .counts ARG (omega arith), room ARG 256 (limits (c ∷ past) v .arguments) e) in
+          rw (e, eq-eqb (countIn t ARG) (countIn t ARG) refl, lt-ltb (countIn t ARG) 256 h)
+
+      by-byte : (b : Bool) → is ARG c ≡ b → listedIn after (countOf ARG (c ∷ past)) n f w ≡ ((b && (eqb (c .operands .first) n && (eqb (c .operands .second) f && eqb (c .operands .third) w))) || occurs ARG (ternary n f w) past)
+      by-byte true e =
+          let a = argument-cells (countIn t ARG) in
+          let q : countOf ARG (c ∷ past) ≡ countIn t ARG + 1 = count-same ARG c past e ∙ ap (λ (y : ℕ). y + 1) (sym (s .counts ARG (omega arith))) in
+          rw (q, listed-next after (countIn t ARG) n f w (c .operands .first) (c .operands .second) (c .operands .third) (a .0 ∙ rw (new e)) (a .1 ∙ rw (new e)) (a .2 ∙ rw (new e)), listed-before n f w)
+      by-byte false e =
+          let q : countOf ARG (c ∷ past) ≡ countIn t ARG = count-other ARG c past e ∙ sym (s .counts ARG (omega arith)) in
+          rw q (listed-before n f w)
+
+  -- the tables stand for one command more
+  pub stands-next : Stands (written t (noteWrites t c)) (c ∷ past)
+  unfolding after
+  stands-next =
+      record {
+        size = length-written t (noteWrites t c) ∙ s .size;
+        counts = counts-next;
+        group = group-next;
+        opened = opened-next;
+        flow = flow-next;
+        scope = scope-next;
+        owner = owner-next;
+        startValue = start-next;
+        answer = answer-next;
+        lengths = lengths-next;
+        bodies = bodies-next;
+        started = started-after;
+        firsts = firsts-next;
+        wires = wires-next;
+        reads = reads-next;
+        writes = writes-next;
+        anys = anys-next;
+        arguments = arguments-next;
+      }
+
+-- the tables behind the writes as a program makes them, one after the other
+pub stands-noted :
+    (t : List ℕ) (c : Code) (have flows nodes variables functions arguments opened len flow more longer less : ℕ) (body : Bool) (u₁ u₂ u₃ u₄ u₅ u₆ u₇ u₈ u₉ u₁₀ u₁₁ u₁₂ u₁₃ u₁₄ : List ℕ) (past : List Command)
+    → Stands t past → Valid (commandOf c ∷ past) → length past < 65536
+    → have ≡ countIn t (c .byte) → flows ≡ countIn t FLOW → nodes ≡ countIn t NODE → variables ≡ countIn t VAR → functions ≡ countIn t FUN → arguments ≡ countIn t ARG
+    → opened ≡ openIn t → len ≡ lengthIn t opened → flow ≡ flowIn t (c .first) → body ≡ (leb 0x41 (c .byte) && leb (c .byte) 0x4B)
+    → (have < 65536 → more ≡ have + 1) → (len < 65536 → longer ≡ len + 1) → less ≡ flows - 1
+    → u₁ ≡ putIn t true countCells (c .byte) more
+    → u₂ ≡ putIn u₁ true progressCells 0 (c .byte / 16)
+    → u₃ ≡ putIn u₂ (eqb (c .byte) BODY) progressCells 1 (c .first)
+    → u₄ ≡ putIn u₃ (eqb (c .byte) NODE) flowCells nodes less
+    → u₅ ≡ putIn (putIn (putIn u₄ (eqb (c .byte) VAR) scopeCells variables (c .first)) (eqb (c .byte) VAR) ownerCells variables (c .second)) (eqb (c .byte) VAR) startCells variables (c .third)
+    → u₆ ≡ putIn u₅ (eqb (c .byte) FUN) answerCells functions (c .first)
+    → u₇ ≡ putIn u₆ body lengthCells opened longer
+    → u₈ ≡ putIn u₇ (eqb (c .byte) BODY) bodyCells (c .first) 1
+    → u₉ ≡ putIn (putIn (putIn u₈ (eqb (c .byte) START) startedCells flow 1) (eqb (c .byte) START) firstCells (c .first) 1) (eqb (c .byte) START) messageCells (c .first) (c .second)
+    → u₁₀ ≡ putIn (putIn (putIn u₉ (eqb (c .byte) ARG) argNodeCells arguments (c .first)) (eqb (c .byte) ARG) argFunctionCells arguments (c .second)) (eqb (c .byte) ARG) argValueCells arguments (c .third)
+    → u₁₁ ≡ markAt u₁₀ (eqb (c .byte) READ) readCells (c .first) (c .second)
+    → u₁₂ ≡ markAt u₁₁ (eqb (c .byte) WRITE) writeCells (c .first) (c .second)
+    → u₁₃ ≡ markAt u₁₂ (eqb (c .byte) ANY) anyCells (c .first) (c .second)
+    → u₁₄ ≡ markAt u₁₃ (eqb (c .byte) WIRE) wireCells (c .first * 4 + c .second) (c .third)
+    → Stands u₁₄ (commandOf c ∷ past)
+unfolding markAt
+stands-noted t c have flows nodes variables functions arguments opened len flow more longer less body u₁ u₂ u₃ u₄ u₅ u₆ u₇ u₈ u₉ u₁₀ u₁₁ u₁₂ u₁₃ u₁₄ past s v l a₁ a₂ a₃ a₄ a₅ a₆ a₇ a₈ a₉ b₁ b₂ b₃ b₄ e₁ e₂ e₃ e₄ e₅ e₆ e₇ e₈ e₉ e₁₀ e₁₁ e₁₂ e₁₃ e₁₄ =
+    let p : more ≡ countIn t (c .byte) + 1 = b₂ (omega (arith, s .counts (c .byte) (byte-low (c .byte) (v .1 .known)), count-below (c .byte) past)) ∙ rw a₁ in
+    let q : longer ≡ lengthIn t (openIn t) + 1 = b₃ (omega (arith, s .lengths opened, limits past (v .0) .handlers opened)) ∙ rw (a₈, a₇) in
+    let same : u₁₄ ≡ written t (noteWrites t (commandOf c)) = rw (e₁₄, e₁₃, e₁₂, e₁₁, e₁₀, e₉, e₈, e₇, e₆, e₅, e₄, e₃, e₂, e₁, p, q, b₄, b₁, a₂, a₃, a₄, a₅, a₆, a₇, a₉) in
+    rw same (stands-next t past (commandOf c) s v)
