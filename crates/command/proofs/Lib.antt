@@ -1,2 +1,3 @@
 pub mod Shaped
 pub mod Taken
+pub mod Known

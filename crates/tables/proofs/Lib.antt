@@ -3,3 +3,4 @@ pub mod Listing
 pub mod Sections
 pub mod Cases
 pub mod Noting
+pub mod Blank

@@ -26,6 +26,7 @@ use Rattle.tables.specs.Cells.{entryIn, putIn, markIn, gridIn, markAt}
 use Rattle.tables.specs.Tables.{countCells, progressCells, flowCells, scopeCells, ownerCells, startCells, answerCells, lengthCells, bodyCells, startedCells, firstCells, messageCells, argNodeCells, argFunctionCells, argValueCells, readCells, writeCells, anyCells, wireCells, countIn, groupIn, openIn, flowIn, lengthIn, listedIn, wiredIn}
 use Rattle.tables.specs.Stands.{Stands}
 use Rattle.tables.proofs.Sections.{Write, write, written, sorted, left, length-written, entry-written}
+use Rattle.command.proofs.Known.{byte-low}
 use Rattle.tables.proofs.Cases.{column, flag, grid, wire}
 
 -- the writes for a command, by the cells before
@@ -52,24 +53,6 @@ noteWrites t c =
     ∷ write (is ANY c && (ltb (c .operands .first) 128 && ltb (c .operands .second) 64)) anyCells (c .operands .first * 64 + c .operands .second) 1
     ∷ write (is WIRE c && (ltb (c .operands .first * 4 + c .operands .second) 128 && ltb (c .operands .third) 64)) wireCells ((c .operands .first * 4 + c .operands .second) * 64 + c .operands .third) 1
     ∷ []
-
--- every command byte is below 128
-low : List Row → Bool
-low [] = true
-low (r ∷ rows) = ltb (r .byte) 128 && low rows
-
-found-low : (rows : List Row) (b : ℕ) → low rows ≡ true → ¬ (operandsIn rows b ≡ none) → b < 128
-unfolding low operandsIn
-found-low [] b l h = absurd (h refl)
-found-low (r ∷ rows) b l h = by-row (eqb (r .byte) b) refl h (found-low rows b (and-right (ltb (r .byte) 128) _ l))
-  where
-    by-row : (t : Bool) → eqb (r .byte) b ≡ t → ¬ (cond t (some (r .operands)) (operandsIn rows b) ≡ none) → (¬ (operandsIn rows b ≡ none) → b < 128) → b < 128
-    by-row true e n ih = let q : r .byte ≡ b = eqb-true (r .byte) b e in omega (arith, ltb-true (r .byte) 128 (and-left (ltb (r .byte) 128) _ l))
-    by-row false e n ih = ih n
-
-pub byte-low : (b : ℕ) → ¬ (operandsOf b ≡ none) → b < 128
-unfolding low operandsOf
-byte-low b h = found-low table b refl h
 
 -- the flow of a node is one of those counted
 pub flow-counted : (past : List Command) (n : ℕ) → flowOf past n ≤ countOf FLOW past
