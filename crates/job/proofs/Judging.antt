@@ -1,0 +1,147 @@
+-- The program's tests of one command are the model's, if the tables stand for the commands before it.
+use Prim.Native.Nat.{ℕ, zero, suc, _/_, _<_, _≤_}
+use mathlib.Core.Path.{_≡_, refl, sym, ap, _∙_}
+use mathlib.Core.Bool.{Bool, true, false, cond, not, _&&_, _||_}
+use mathlib.Core.List.{List, [], _∷_}
+use mathlib.Core.Option.{Option, none, some}
+use native.Mathlib.Omega.{arith}
+use lib.Dec.{ltb, leb, eqb}
+use lib.ListN.{getD}
+use borrow.Author.Tests.{ne-eqb, lt-ltb, le-ltb}
+use Rattle.model.specs.Table.{FLOW, NODE, VAR, FUN, WIRE, ANY, ARG, READ, WRITE, BODY, GET, PUT, PLUS, START, operandsIn, operandsOf, kindAt, start, answer, value, jump, absent, groupOf, largestOf}
+use Rattle.model.specs.Command.{Command, Operands, is, ternary, binary}
+use Rattle.model.specs.Declared.{countOf, occurs, openBody, bodyLength, flowOf, sees, shared, startedIn}
+use Rattle.model.specs.Refusal.{isReached, exceedsCount, Counts, countsOf, namesNothing, undeclared, outOfReach, mustDiffer, repeated, groupFalls, violation}
+use Rattle.model.specs.Valid.{Plain}
+use Rattle.model.proofs.Logic.{any-next, any-last, or-left, or-right}
+use Rattle.model.proofs.Growth.{among-one}
+use Rattle.model.proofs.Reading.{kind-known}
+use Rattle.command.specs.declared.table.Row.{Row as Shape}
+use Rattle.command.specs.declared.read.Command.{Command as Code}
+use Rattle.command.specs.Rows.{rowAt, kindOf, limitOf, Says, RowOf}
+use Rattle.command.specs.Reading.{commandOf}
+use Rattle.command.proofs.Known.{byte-low, permission-byte}
+use Rattle.tables.specs.Tables.{countIn, groupIn, openIn, flowIn, lengthIn, seesIn, sharedIn, wiredIn, anyIn, listedIn, readIn, writeIn, bodyIn, startedAt}
+use Rattle.tables.specs.Stands.{Stands}
+
+-- a known byte is in the table
+row-known : (b i : ℕ) → RowOf b i → ¬ (operandsOf b ≡ none)
+row-known b i r e = let o = r .operands in let w : _≡_ {A = ℕ} 0 1 = cc in omega arith
+
+-- a largest count is reached, as the program tests it
+reached : (b k have : ℕ) (past : List Command) → have ≡ countOf b past → (not (eqb k 0) && leb k have) ≡ isReached (limitOf b k) past
+reached b zero have past e = refl
+reached b (suc k) have past e = rw (ne-eqb (suc k) 0 (λ z. omega arith), among-one b past, e)
+
+-- the kinds from 7 on name nothing
+pub names-none : (d : Counts) (s k x : ℕ) → ¬ (k ≡ 0) → ¬ (k ≡ 1) → ¬ (k ≡ 2) → ¬ (k ≡ 3) → ¬ (k ≡ 4) → ¬ (k ≡ 5) → ¬ (k ≡ 6) → namesNothing d s (kindOf k) x ≡ false
+names-none d s zero x n₀ n₁ n₂ n₃ n₄ n₅ n₆ = absurd (n₀ refl)
+names-none d s (suc zero) x n₀ n₁ n₂ n₃ n₄ n₅ n₆ = absurd (n₁ refl)
+names-none d s (suc (suc zero)) x n₀ n₁ n₂ n₃ n₄ n₅ n₆ = absurd (n₂ refl)
+names-none d s (suc (suc (suc zero))) x n₀ n₁ n₂ n₃ n₄ n₅ n₆ = absurd (n₃ refl)
+names-none d s (suc (suc (suc (suc zero)))) x n₀ n₁ n₂ n₃ n₄ n₅ n₆ = absurd (n₄ refl)
+names-none d s (suc (suc (suc (suc (suc zero))))) x n₀ n₁ n₂ n₃ n₄ n₅ n₆ = absurd (n₅ refl)
+names-none d s (suc (suc (suc (suc (suc (suc zero)))))) x n₀ n₁ n₂ n₃ n₄ n₅ n₆ = absurd (n₆ refl)
+names-none d s (suc (suc (suc (suc (suc (suc (suc k))))))) x n₀ n₁ n₂ n₃ n₄ n₅ n₆ = later k
+  where
+    later : (k : ℕ) → namesNothing d s (getD (start ∷ answer ∷ value ∷ jump ∷ []) k absent) x ≡ false
+    later zero = refl
+    later (suc zero) = refl
+    later (suc (suc zero)) = refl
+    later (suc (suc (suc zero))) = refl
+    later (suc (suc (suc (suc k)))) = refl
+
+module _ (t : List ℕ) (c : Code) (past : List Command) (s : Stands t past) where
+  -- 5
+  pub exceeds-same :
+      (row : Shape) (have opened inside : ℕ) (body : Bool) → RowOf (c .byte) (c .row) → Says (rowAt (c .row)) row
+      → have ≡ countIn t (c .byte) → opened ≡ openIn t → inside ≡ lengthIn t opened → body ≡ (leb 0x41 (c .byte) && leb (c .byte) 0x4B)
+      → ((not (eqb (row .8) 0) && leb (row .8) have) || (body && leb 64 inside)) ≡ exceedsCount past (commandOf c)
+  exceeds-same row have opened inside body r says h o i b =
+      let n : have ≡ countOf (c .byte) past = h ∙ s .counts (c .byte) (byte-low (c .byte) (row-known (c .byte) (c .row) r)) in
+      let m : limitOf (c .byte) (row .8) ≡ largestOf (c .byte) = rw (r .same) at (says .most) in
+      rw (any-next, any-last, reached (c .byte) (row .8) have past n, m, b, i, o, s .lengths (openIn t), s .opened)
+
+  -- 6
+  pub undeclared-same :
+      (row : Shape) (flows nodes variables functions bodies : ℕ) (body x y z : Bool) → RowOf (c .byte) (c .row) → Says (rowAt (c .row)) row
+      → flows ≡ countIn t FLOW → nodes ≡ countIn t NODE → variables ≡ countIn t VAR → functions ≡ countIn t FUN → bodies ≡ countIn t BODY → body ≡ (leb 0x41 (c .byte) && leb (c .byte) 0x4B)
+      → x ≡ namesNothing (record { flows = flows; nodes = nodes; variables = variables; functions = functions }) (c .first) (kindOf (row .5)) (c .first)
+      → y ≡ namesNothing (record { flows = flows; nodes = nodes; variables = variables; functions = functions }) (c .first) (kindOf (row .6)) (c .second)
+      → z ≡ namesNothing (record { flows = flows; nodes = nodes; variables = variables; functions = functions }) (c .first) (kindOf (row .7)) (c .third)
+      → ((eqb (c .byte) NODE && eqb flows 0) || ((body && eqb bodies 0) || (x || (y || z)))) ≡ undeclared past (commandOf c)
+  undeclared-same row flows nodes variables functions bodies body x y z r says f n v k d b p q u =
+      rw (any-next, any-next, any-next, any-next, any-last, r .operands, ← says .kind₁, ← says .kind₂, ← says .kind₃, p, q, u, b,
+        f, n, v, k, d, s .counts FLOW (omega arith), s .counts NODE (omega arith), s .counts VAR (omega arith), s .counts FUN (omega arith), s .counts BODY (omega arith))
+
+  sees-same : (n x : ℕ) → seesIn t n x ≡ sees past n x
+  sees-same n x = rw (s .scope x, s .owner x, s .flow n)
+
+  -- 7
+  pub reach-same :
+      (from to opened : ℕ) (own seen common : Bool) → from ≡ flowIn t (c .first) → to ≡ flowIn t (c .third) → opened ≡ openIn t
+      → own ≡ seesIn t opened (c .first) → seen ≡ seesIn t (c .first) (c .second) → common ≡ sharedIn t (c .second)
+      → ((eqb (c .byte) WIRE && not (eqb from to)) || ((((eqb (c .byte) GET || eqb (c .byte) PUT) || eqb (c .byte) PLUS) && not own)
+        || (((eqb (c .byte) READ || eqb (c .byte) WRITE) && not seen) || ((eqb (c .byte) READ || eqb (c .byte) WRITE) && not common)))) ≡ outOfReach past (commandOf c)
+  reach-same from to opened own seen common f g o p q r =
+      rw (any-next, any-next, any-next, any-last, p, q, r, o, f, g, sees-same (openIn t) (c .first), sees-same (c .first) (c .second), s .scope (c .second), s .flow (c .first), s .flow (c .third), s .opened)
+
+  -- 8: a byte of those that may not be repeated, a START, and every other known byte
+  repeated-as : (b : ℕ) (x : Operands) (r : Bool) → c .byte ≡ b → mustDiffer (record { place = 0; byte = b; operands = x }) ≡ true → eqb b START ≡ false → commandOf c .operands ≡ x → r ≡ occurs b x past → r ≡ repeated past (commandOf c)
+  repeated-as b x r e m n o q = rw (any-next, any-last, e, o, n, m, ← q) (sym (or-none r))
+    where
+      or-none : (p : Bool) → (p || false) ≡ p
+      or-none true = refl
+      or-none false = refl
+
+  module _ (plain : Plain (commandOf c)) where
+    pub wire-same : (r : Bool) → c .byte ≡ WIRE → r ≡ wiredIn t (c .first) (c .second) (c .third) → r ≡ repeated past (commandOf c)
+    wire-same r e q = repeated-as WIRE (ternary (c .first) (c .second) (c .third)) r e refl refl refl (q ∙ s .wires (c .first) (c .second) (c .third))
+
+    pub arg-same : (r : Bool) → c .byte ≡ ARG → r ≡ listedIn t (countIn t ARG) (c .first) (c .second) (c .third) → r ≡ repeated past (commandOf c)
+    arg-same r e q = repeated-as ARG (ternary (c .first) (c .second) (c .third)) r e refl refl refl (q ∙ s .arguments (c .first) (c .second) (c .third))
+
+    -- an operand that is absent is 0
+    third-absent : (b : ℕ) → c .byte ≡ b → kindAt b 2 ≡ absent → c .third ≡ 0
+    third-absent b e k = plain .third (rw e k)
+
+    second-absent : (b : ℕ) → c .byte ≡ b → kindAt b 1 ≡ absent → c .second ≡ 0
+    second-absent b e k = plain .second (rw e k)
+
+    pub any-same : (r : Bool) → c .byte ≡ ANY → r ≡ anyIn t (c .first) (c .second) → r ≡ repeated past (commandOf c)
+    unfolding operandsOf operandsIn
+    any-same r e q = repeated-as ANY (binary (c .first) (c .second)) r e refl refl (rw (third-absent ANY e refl)) (q ∙ s .anys (c .first) (c .second))
+
+    pub read-same : (r : Bool) → c .byte ≡ READ → r ≡ readIn t (c .first) (c .second) → r ≡ repeated past (commandOf c)
+    unfolding operandsOf operandsIn
+    read-same r e q = repeated-as READ (binary (c .first) (c .second)) r e refl refl (rw (third-absent READ e refl)) (q ∙ s .reads (c .first) (c .second))
+
+    pub write-same : (r : Bool) → c .byte ≡ WRITE → r ≡ writeIn t (c .first) (c .second) → r ≡ repeated past (commandOf c)
+    unfolding operandsOf operandsIn
+    write-same r e q = repeated-as WRITE (binary (c .first) (c .second)) r e refl refl (rw (third-absent WRITE e refl)) (q ∙ s .writes (c .first) (c .second))
+
+    pub body-same : (r : Bool) → c .byte ≡ BODY → r ≡ bodyIn t (c .first) → r ≡ repeated past (commandOf c)
+    unfolding operandsOf operandsIn
+    body-same r e q = repeated-as BODY (binary (c .first) 0) r e refl refl (rw (third-absent BODY e refl, second-absent BODY e refl)) (q ∙ s .bodies (c .first))
+
+    pub start-same : (r : Bool) (f : ℕ) → c .byte ≡ START → f ≡ flowIn t (c .first) → r ≡ startedAt t f → r ≡ repeated past (commandOf c)
+    start-same r f e p q = rw (any-next, any-last, e, q, p, s .flow (c .first), s .started (flowOf past (c .first)))
+
+    pub other-same :
+        ¬ (c .byte ≡ WIRE) → ¬ (c .byte ≡ ANY) → ¬ (c .byte ≡ ARG) → ¬ (c .byte ≡ READ) → ¬ (c .byte ≡ WRITE) → ¬ (c .byte ≡ BODY) → ¬ (c .byte ≡ START)
+        → false ≡ repeated past (commandOf c)
+    other-same n₁ n₂ n₃ n₄ n₅ n₆ n₇ =
+        let z : eqb (groupOf (c .byte)) 3 ≡ false = not-three (eqb (groupOf (c .byte)) 3) (rw (ne-eqb (c .byte) ANY n₂, ne-eqb (c .byte) ARG n₃, ne-eqb (c .byte) READ n₄, ne-eqb (c .byte) WRITE n₅) at (permission-byte (c .byte) (plain .known))) in
+        rw (any-next, any-last, ne-eqb (c .byte) WIRE n₁, z, ne-eqb (c .byte) BODY n₆, ne-eqb (c .byte) START n₇)
+      where
+        not-three : (b : Bool) → (not b || false) ≡ true → b ≡ false
+        not-three true e = sym e
+        not-three false e = refl
+
+  -- the tests in their order, the first by the highest group so far
+  pub violation-as :
+      (g : ℕ) → g ≡ groupIn t
+      → violation past (commandOf c)
+        ≡ cond (ltb (c .byte / 16) g) 4 (cond (exceedsCount past (commandOf c)) 5 (cond (undeclared past (commandOf c)) 6 (cond (outOfReach past (commandOf c)) 7 (cond (repeated past (commandOf c)) 8 0))))
+  unfolding violation
+  violation-as g e = rw (s .group (commandOf c), e)

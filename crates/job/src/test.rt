@@ -1,0 +1,152 @@
+// The tests 4 to 8 of a command, by the tables of those before it.
+ghost use mathlib.Core.Path.{_≡_};
+ghost use mathlib.Core.Bool.{false};
+ghost use mathlib.Core.List.{List};
+ghost use Rattle.model.specs.Command.{Command as Past};
+ghost use Rattle.model.specs.Refusal.{exceedsCount, noOwner, namesNothing, undeclared, outOfReach, repeated, violation};
+ghost use Rattle.model.specs.Valid.{Plain};
+ghost use Rattle.command.specs.Rows.{kindOf, RowOf};
+ghost use Rattle.command.specs.Reading.{commandOf};
+ghost use Rattle.tables.specs.Stands.{Stands};
+ghost use Rattle.job.specs.Tests.{countsAs};
+
+use command::bytes;
+use command::numbers::{FunNum, NodeNum, VarNum};
+use command::read::Command;
+use command::table;
+use tables::ask;
+
+// How many flows, nodes, variables and functions are declared.
+struct Counts {
+    flows: u32,
+    nodes: u32,
+    variables: u32,
+    functions: u32,
+}
+
+// 5: a largest count would be passed.
+fn exceeds_count(t: &[u32], c: Command) -> bool
+    requires { ⌜ RowOf (c .byte) (c .row) ⌝ }
+    ensures { λ r. ⌜ ((past : List Past) → Stands (now (t .entry)) past → r ≡ exceedsCount past (commandOf c)) ⌝ }
+{
+    let row = table::row_at(c.row);
+    let most = row.8 as u32;
+    let have = ask::count_of(t, c.byte);
+    let opened = ask::open_node(t);
+    let inside = ask::length_of(t, opened);
+    let body = bytes::is_handler(c.byte);
+    ((most != 0) & (most <= have)) | (body & (64 <= inside))
+}
+
+// The owner of a variable of this scope is not declared.
+fn has_no_owner(d: Counts, scope: u32, x: u32) -> bool
+    ensures { λ r. ⌜ r ≡ noOwner (countsAs d) scope x ⌝ }
+{
+    match scope {
+        0 => d.nodes <= x,
+        1 => d.flows <= x,
+        _ => x != 0,
+    }
+}
+
+// An operand of this kind names nothing that is declared or allowed.
+fn names_nothing(d: Counts, scope: u32, kind: u8, x: u32) -> bool
+    ensures { λ r. ⌜ r ≡ namesNothing (countsAs d) scope (kindOf kind) x ⌝ }
+{
+    match kind {
+        table::SCOPE => 2 < x,
+        table::OWNER => has_no_owner(d, scope, x),
+        table::NODE => d.nodes <= x,
+        table::PORT => 3 < x,
+        table::TARGET => d.nodes <= x,
+        table::FUNCTION => d.functions <= x,
+        table::VARIABLE => d.variables <= x,
+        _ => false,
+    }
+}
+
+// 6: a NODE before every FLOW, a handler command before every BODY, or an operand that names nothing.
+fn is_undeclared(t: &[u32], c: Command) -> bool
+    requires { ⌜ RowOf (c .byte) (c .row) ⌝ }
+    ensures { λ r. ⌜ ((past : List Past) → Stands (now (t .entry)) past → r ≡ undeclared past (commandOf c)) ⌝ }
+{
+    let row = table::row_at(c.row);
+    let flows = ask::count_of(t, bytes::FLOW);
+    let nodes = ask::count_of(t, bytes::NODE);
+    let variables = ask::count_of(t, bytes::VAR);
+    let functions = ask::count_of(t, bytes::FUN);
+    let bodies = ask::count_of(t, bytes::BODY);
+    let d = Counts {
+        flows,
+        nodes,
+        variables,
+        functions,
+    };
+    let body = bytes::is_handler(c.byte);
+    let first = names_nothing(d, c.first, row.5, c.first);
+    let second = names_nothing(d, c.first, row.6, c.second);
+    let third = names_nothing(d, c.first, row.7, c.third);
+    ((c.byte == bytes::NODE) & (flows == 0)) | ((body & (bodies == 0)) | (first | (second | third)))
+}
+
+// 7: a wire into another flow, a handler command with a variable that its node does not see, READ or WRITE of a variable unseen or
+// not shared.
+fn is_out_of_reach(t: &[u32], c: Command) -> bool
+    ensures { λ r. ⌜ ((past : List Past) → Stands (now (t .entry)) past → r ≡ outOfReach past (commandOf c)) ⌝ }
+{
+    let b = c.byte;
+    let from = ask::flow_of(t, NodeNum(c.first));
+    let to = ask::flow_of(t, NodeNum(c.third));
+    let opened = ask::open_node(t);
+    let own = ask::sees(t, opened, VarNum(c.first));
+    let seen = ask::sees(t, NodeNum(c.first), VarNum(c.second));
+    let shared = ask::is_shared(t, VarNum(c.second));
+    let uses = ((b == bytes::GET) | (b == bytes::PUT)) | (b == bytes::PLUS);
+    let access = (b == bytes::READ) | (b == bytes::WRITE);
+    ((b == bytes::WIRE) & (from.0 != to.0)) | ((uses & !own) | ((access & !seen) | (access & !shared)))
+}
+
+// 8: the same WIRE or permission again, a node's second BODY, a flow's second START.
+fn is_repeated(t: &[u32], c: Command) -> bool
+    ensures { λ r. ⌜ ((past : List Past) → Stands (now (t .entry)) past → Plain (commandOf c) → r ≡ repeated past (commandOf c)) ⌝ }
+{
+    let n = NodeNum(c.first);
+    let b = c.byte;
+    match b {
+        bytes::WIRE => ask::is_wired(t, n, c.second, NodeNum(c.third)),
+        bytes::ANY => ask::may_call_any(t, n, FunNum(c.second)),
+        bytes::ARG => ask::may_call_with(t, n, FunNum(c.second), c.third),
+        bytes::READ => ask::may_read(t, n, VarNum(c.second)),
+        bytes::WRITE => ask::may_write(t, n, VarNum(c.second)),
+        bytes::BODY => ask::has_body(t, n),
+        bytes::START => {
+            let flow = ask::flow_of(t, n);
+            ask::has_start(t, flow)
+        }
+        _ => false,
+    }
+}
+
+// The number of the first of the tests 4 to 8 that refuses a command, or 0.
+pub fn violation_of(t: &[u32], c: Command) -> u8
+    requires { ⌜ RowOf (c .byte) (c .row) ⌝ }
+    ensures { λ r. ⌜ ((past : List Past) → Stands (now (t .entry)) past → Plain (commandOf c) → r ≡ violation past (commandOf c)) ⌝ }
+{
+    let group = (c.byte / 16) as u32;
+    if group < ask::group(t) {
+        return 4;
+    }
+    if exceeds_count(t, c) {
+        return 5;
+    }
+    if is_undeclared(t, c) {
+        return 6;
+    }
+    if is_out_of_reach(t, c) {
+        return 7;
+    }
+    if is_repeated(t, c) {
+        return 8;
+    }
+    0
+}
