@@ -1,0 +1,124 @@
+-- The walk over the commands: what each step gives, and what the loop keeps.
+use Prim.Native.Nat.{ℕ, zero, suc, _+_, _≤_, _<_}
+use mathlib.Core.Path.{_≡_, refl, sym, ap, _∙_}
+use mathlib.Core.List.{List, [], _∷_}
+use mathlib.Core.Option.{none, some}
+use native.Mathlib.Omega.{arith}
+use lib.ListN.{length}
+use Rattle.model.specs.Command.{Command, Parsed as ParsedAs, whole, unknown, cutShort, readCommand}
+use Rattle.model.specs.Refusal.{violation, Refusal as RefusedFor, refuse, accepted, rejected, decodeFrom, decode}
+use Rattle.model.specs.Valid.{Valid, Plain}
+use Rattle.model.proofs.Reading.{read-at}
+use Rattle.model.proofs.Decoding.{decode-end, decode-unknown, decode-short, decode-refused, decode-on, decode-empty, decode-long, decoding-start, fuel-left}
+use Rattle.command.specs.declared.read.Command.{Command as Code}
+use Rattle.command.specs.declared.read.Refusal.{Refusal}
+use Rattle.command.specs.declared.read.Parsed.{Parsed}
+use Rattle.command.specs.declared.read.Parsed.the-variants.{Whole, Refused}
+use Rattle.command.specs.Rows.{RowOf}
+use Rattle.command.specs.Reading.{commandOf, refusalOf, refusalAt, Reads}
+use Rattle.tables.specs.Cells.{blank}
+use Rattle.tables.specs.Stands.{Stands}
+use Rattle.tables.proofs.Blank.{stands-blank}
+use Rattle.job.specs.declared.walk.Step.{Step}
+use Rattle.job.specs.declared.walk.Step.the-variants as s
+use Rattle.job.specs.Decoding.{Onward, Steps, Walked}
+
+-- what was read, by the program's answer
+pub reads-whole : (job : List ℕ) (place : ℕ) (p : Parsed) (c : Code) (next : ℕ) → Reads job place p → p ≡ Whole c next → (readCommand job place ≡ whole (commandOf c) next) × RowOf (c .byte) (c .row)
+reads-whole job place p c next r e = rw e at r
+
+pub reads-refused : (job : List ℕ) (place : ℕ) (p : Parsed) (q : Refusal) → Reads job place p → p ≡ Refused q → refusalAt place (readCommand job place) ≡ some (refusalOf q)
+reads-refused job place p q r e = rw e at r
+
+module _ (job : List ℕ) (place : ℕ) (inside : place < length job) (past : List Command) where
+  -- 2 and 3
+  pub step-unread : (q : RefusedFor) → refusalAt place (readCommand job place) ≡ some q → (fuel : ℕ) → decodeFrom (suc fuel) job place past ≡ rejected q
+  step-unread q e fuel = by-read (readCommand job place) refl e
+    where
+      by-read : (r : ParsedAs) → readCommand job place ≡ r → refusalAt place r ≡ some q → decodeFrom (suc fuel) job place past ≡ rejected q
+      by-read unknown p f = decode-unknown fuel job place past inside p ∙ cc
+      by-read cutShort p f = decode-short fuel job place past inside p ∙ cc
+      by-read (whole c next) p f = let w : _≡_ {A = ℕ} 0 1 = cc in absurd (omega arith)
+
+  module _ (c : Code) (next : ℕ) (read : readCommand job place ≡ whole (commandOf c) next) where
+    pub read-plain : Plain (commandOf c)
+    read-plain = read-at job place (commandOf c) next read .plain
+
+    -- 4 to 8
+    pub step-refused : (k : ℕ) → k ≡ violation past (commandOf c) → ¬ (k ≡ 0) → (fuel : ℕ) → decodeFrom (suc fuel) job place past ≡ rejected (refuse k place)
+    step-refused k v n fuel = decode-refused fuel job place past inside (commandOf c) next k read (sym v) n
+
+    -- a command that passes
+    pub step-valid : (k : ℕ) → k ≡ violation past (commandOf c) → k ≡ 0 → Valid past → Valid (commandOf c ∷ past)
+    step-valid k v z valid = (valid, read-plain, sym v ∙ z)
+
+    pub step-on : (t : List ℕ) → Stands t (commandOf c ∷ past) → Valid (commandOf c ∷ past) → Onward job place past t next
+    step-on t stands valid =
+        let r = read-at job place (commandOf c) next read in
+        record {
+          command = commandOf c;
+          stands = stands;
+          valid = valid;
+          later = r .later;
+          inside = r .inside;
+          same = λ fuel. decode-on fuel job place past inside (commandOf c) next read (valid .2);
+        }
+
+-- a step, by the program's answer
+pub steps-next : (job : List ℕ) (place : ℕ) (past : List Command) (t : List ℕ) (r : Step) (next : ℕ) → Steps job place past t r → r ≡ s.Next next → Onward job place past t next
+steps-next job place past t r next h e = rw e at h
+
+pub steps-stop : (job : List ℕ) (place : ℕ) (past : List Command) (t : List ℕ) (r : Step) (q : Refusal) → Steps job place past t r → r ≡ s.Stop q → (fuel : ℕ) → decodeFrom (suc fuel) job place past ≡ rejected (refusalOf q)
+steps-stop job place past t r q h e = rw e at h
+
+-- what the loop keeps
+pub record Going (job t : List ℕ) (place : ℕ) : Type 0 where
+  pub past : List Command
+  pub fuel : ℕ
+  pub inside : place ≤ length job
+  pub enough : length job ≤ place + fuel
+  pub goesOn : decodeFrom fuel job place past ≡ decode job
+  pub stands : Stands t past
+  pub valid : Valid past
+  pub short : length past ≤ place
+
+pub going-start : (job t : List ℕ) → ¬ (length job ≡ 0) → length job ≤ 16384 → t ≡ blank → Going job t 0
+going-start job t n l e =
+    let d = decoding-start job n l in
+    record {
+      past = [];
+      fuel = d .fuel;
+      inside = d .inside;
+      enough = d .enough;
+      goesOn = d .goesOn;
+      stands = rw e stands-blank;
+      valid = tt;
+      short = omega arith;
+    }
+
+module _ (job t : List ℕ) (place : ℕ) (g : Going job t place) where
+  pub going-end : length job ≤ place → Walked job t
+  going-end h = record { past = g .past; decoded = sym (g .goesOn) ∙ decode-end (g .fuel) job place (g .past) h; stands = g .stands }
+
+  module _ (h : place < length job) where
+    left : (f : ℕ) × (decodeFrom (suc f) job place (g .past) ≡ decode job) × (g .fuel ≡ suc f)
+    left = let f = fuel-left job place (g .fuel) h (g .enough) in (f .0, rw (f .1) at (g .goesOn), f .1)
+
+    pub going-stop : (r : RefusedFor) → ((fuel : ℕ) → decodeFrom (suc fuel) job place (g .past) ≡ rejected r) → decode job ≡ rejected r
+    going-stop r e = sym (left .1) ∙ e (left .0)
+
+    pub going-on : (u : List ℕ) (next : ℕ) → Onward job place (g .past) u next → Going job u next
+    going-on u next o =
+        let f = left .2 in
+        let m = g .enough in
+        let n = g .short in
+        record {
+          past = o .command ∷ g .past;
+          fuel = left .0;
+          inside = o .inside;
+          enough = omega (arith, o .later);
+          goesOn = sym (o .same (left .0)) ∙ left .1;
+          stands = o .stands;
+          valid = o .valid;
+          short = omega (arith, o .later);
+        }

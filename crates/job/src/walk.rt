@@ -1,0 +1,85 @@
+// The walk over the commands of a job: the tests 1 to 8.
+ghost use mathlib.Core.Path.{_≡_};
+ghost use mathlib.Core.List.{List};
+ghost use Prim.Native.Nat.{_≤_, _<_};
+ghost use lib.ListN.{length};
+ghost use Rattle.model.specs.Command.{Command as Past, readCommand, whole};
+ghost use Rattle.model.specs.Valid.{Valid};
+ghost use Rattle.command.specs.Rows.{RowOf};
+ghost use Rattle.command.specs.Reading.{commandOf};
+ghost use Rattle.tables.specs.Stands.{Stands};
+ghost use Rattle.job.specs.Decoding.{Steps, Walks};
+
+use command::read::{read_command, Command, Parsed, Refusal};
+use crate::test::violation_of;
+use tables::cells::clear;
+use tables::note::note;
+
+// A step: to the place of the next command, or the refusal of the job.
+pub enum Step {
+    Next(usize),
+    Stop(Refusal),
+}
+
+// The verdict on a job.
+pub enum Verdict {
+    Accepted,
+    Refused(Refusal),
+}
+
+// Takes the command that was read at a place: it is refused there, or noted.
+fn take(job: &[u8], at: usize, c: Command, next: usize, t: &mut [u32]) -> Step
+    requires { ⌜ (at < length (now job)) × (length (now job) ≤ 16384) ⌝ }
+    requires { ⌜ (readCommand (now job) at ≡ whole (commandOf c) next) × RowOf (c .byte) (c .row) ⌝ }
+    ensures {
+        λ r. ⌜ ((past : List Past) → Stands (now (t .entry)) past → Valid past → length past ≤ at → Steps (now (job .entry)) at past (now (t .exit)) r) ⌝
+    }
+{
+    let number = violation_of(t, c);
+    if number != 0 {
+        return Step::Stop(Refusal { number, place: at });
+    }
+    note(t, c);
+    Step::Next(next)
+}
+
+// One step: the command at a place.
+fn advance(job: &[u8], at: usize, t: &mut [u32]) -> Step
+    requires { ⌜ (at < length (now job)) × (length (now job) ≤ 16384) ⌝ }
+    ensures {
+        λ r. ⌜ ((past : List Past) → Stands (now (t .entry)) past → Valid past → length past ≤ at → Steps (now (job .entry)) at past (now (t .exit)) r) ⌝
+    }
+{
+    let read = read_command(job, at);
+    match read {
+        Parsed::Refused(r) => Step::Stop(r),
+        Parsed::Whole(c, next) => take(job, at, c, next, t),
+    }
+}
+
+// The tests 1 to 8: the verdict, and the tables of an accepted job.
+pub fn walk(job: &[u8], t: &mut [u32]) -> Verdict
+    requires { ⌜ length (now t) ≡ 15936 ⌝ }
+    ensures { λ r. ⌜ Walks (now (job .entry)) (now (t .exit)) r ⌝ }
+{
+    clear(t);
+    if job.len() == 0 {
+        return Verdict::Refused(Refusal { number: 1, place: 0 });
+    }
+    if 16384 < job.len() {
+        return Verdict::Refused(Refusal { number: 1, place: 0 });
+    }
+    let mut at = 0;
+    while at < job.len() {
+        let s = advance(job, at, t);
+        match s {
+            Step::Stop(r) => {
+                return Verdict::Refused(r);
+            }
+            Step::Next(next) => {
+                at = next;
+            }
+        }
+    }
+    Verdict::Accepted
+}
