@@ -1,2 +1,4 @@
 pub mod Judging
 pub mod Going
+pub mod Looking
+pub mod Judged

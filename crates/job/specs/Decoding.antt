@@ -51,7 +51,12 @@ pub record Admitted (job t : List ℕ) : Type 0 where
   pub decoded : decodeJob job ≡ accepted past
   pub stands : Stands t past
 
--- the verdict of the tests 1 to 9: a job that is accepted leaves its tables, and one that is refused leaves blank ones
+-- the verdict of the tests 1 to 9
+abbrev pub Judges : List ℕ → List ℕ → Verdict → Type 0
+Judges job t Accepted = Admitted job t
+Judges job t (Refused r) = decodeJob job ≡ rejected (refusalOf r)
+
+-- the verdict on a job: one that is accepted leaves its tables, and one that is refused leaves blank ones
 abbrev pub Decides : List ℕ → List ℕ → Verdict → Type 0
 Decides job t Accepted = Admitted job t
 Decides job t (Refused r) = (decodeJob job ≡ rejected (refusalOf r)) × (t ≡ blank)

@@ -1,3 +1,38 @@
 // Decoding a job: the tests 4 to 8 of one command, the walk over all commands, the jumps, and the handlers in the work buffer.
+pub mod jumps;
 pub mod test;
 pub mod walk;
+
+ghost use mathlib.Core.Path.{_≡_};
+ghost use lib.ListN.{length};
+ghost use Rattle.job.specs.Decoding.{Judges, Decides};
+
+use jumps::check_jumps;
+use tables::cells::{clear, CELLS};
+use walk::{walk, Verdict};
+
+// The tests 1 to 9: the verdict, and the tables of an accepted job.
+fn judge(job: &[u8], t: &mut [u32]) -> Verdict
+    requires { ⌜ length (now t) ≡ 15936 ⌝ }
+    ensures { λ r. ⌜ Judges (now (job .entry)) (now (t .exit)) r ⌝ }
+{
+    let walked = walk(job, t);
+    match walked {
+        Verdict::Refused(r) => Verdict::Refused(r),
+        Verdict::Accepted => check_jumps(job, t),
+    }
+}
+
+// The verdict on a job of any length, whatever the tables held before: an accepted job leaves its tables, a refused one blank ones.
+pub fn decode(job: &[u8], t: &mut [u32; CELLS]) -> Verdict
+    ensures { λ r. ⌜ Decides (now (job .entry)) (now (t .exit)) r ⌝ }
+{
+    let judged = judge(job, t);
+    match judged {
+        Verdict::Refused(r) => {
+            clear(t);
+            Verdict::Refused(r)
+        }
+        Verdict::Accepted => Verdict::Accepted,
+    }
+}

@@ -1,0 +1,53 @@
+// The test 9, by a second look at the commands of a job that passed the others.
+ghost use mathlib.Core.Path.{_≡_};
+ghost use mathlib.Core.Bool.{cond, _&&_, _||_};
+ghost use mathlib.Core.List.{List};
+ghost use lib.Dec.{eqb, ltb};
+ghost use Rattle.model.specs.Command.{Command as Past};
+ghost use Rattle.model.specs.Refusal.{accepted, decode};
+ghost use Rattle.tables.specs.Stands.{Stands};
+ghost use Rattle.job.specs.Decoding.{Jumps};
+
+use command::bytes;
+use command::numbers::NodeNum;
+use command::read::{read_command, Command, Parsed, Refusal};
+use crate::walk::Verdict;
+use tables::ask::length_of;
+
+// A jump behind the end of a handler with so many commands.
+fn is_far(c: Command, len: u32) -> bool
+    ensures { λ r. ⌜ r ≡ ((eqb (c .byte) 0x47 || eqb (c .byte) 0x48) && ltb len (c .first)) ⌝ }
+{
+    ((c.byte == bytes::JUMPZ) | (c.byte == bytes::JUMP)) & (len < c.first)
+}
+
+// The node of the open handler behind a command.
+pub fn open_after(c: Command, opened: u32) -> u32
+    ensures { λ r. ⌜ r ≡ cond (eqb (c .byte) 0x40) (c .first) opened ⌝ }
+{
+    if c.byte == bytes::BODY {
+        return c.first;
+    }
+    opened
+}
+
+// 9: refused at the first jump behind the end of its handler.
+pub fn check_jumps(job: &[u8], t: &[u32]) -> Verdict
+    ensures { λ r. ⌜ ((all : List Past) → decode (now (job .entry)) ≡ accepted all → Stands (now (t .entry)) all → Jumps all r) ⌝ }
+{
+    let mut at = 0;
+    let mut opened: u32 = 0;
+    while at < job.len() {
+        let read = read_command(job, at);
+        let Parsed::Whole(c, next) = read else {
+            return Verdict::Accepted;
+        };
+        let len = length_of(t, NodeNum(opened));
+        if is_far(c, len) {
+            return Verdict::Refused(Refusal { number: 9, place: at });
+        }
+        opened = open_after(c, opened);
+        at = next;
+    }
+    Verdict::Accepted
+}
