@@ -1,3 +1,4 @@
 pub mod Shaped
 pub mod Taken
 pub mod Known
+pub mod Handled

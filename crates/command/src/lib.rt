@@ -1,5 +1,7 @@
-// The commands of a job: their bytes, the table of their operands, the countings that operands name, and reading one of them.
+// The commands of a job: their bytes, the table of their operands, the countings that operands name, handler commands, and reading one
+// command.
 pub mod bytes;
+pub mod instruction;
 pub mod numbers;
 pub mod read;
 pub mod table;

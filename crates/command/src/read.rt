@@ -37,7 +37,7 @@ fn wide(x: u8) -> u32
 }
 
 // The operand of a width at a place, lowest byte first.
-fn operand(job: &[u8], at: usize, width: u8) -> u32
+pub fn operand(job: &[u8], at: usize, width: u8) -> u32
     requires { ⌜ (at + width ≤ length (now job)) × IsWidth width ⌝ }
     ensures { λ r. ⌜ r ≡ numberAt (now (job .entry)) at width ⌝ }
 {

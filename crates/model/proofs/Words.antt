@@ -16,10 +16,11 @@ use Rattle.model.specs.Turn.{delivered, sum32, performed, instructionAt,
 use Rattle.model.specs.Permission.{monitoredTurn}
 use Rattle.model.specs.Run.{stateAt, monitoredRun, unmonitoredRun}
 use Rattle.model.specs.Output.{bytes4}
-use Rattle.model.specs.Refusal.{Sizes}
+use Rattle.model.specs.Refusal.{Sizes, accepted, decodeJob}
 use Rattle.model.specs.Conclusion.{Reads, begin, further, Accepts, monitoredOf, unmonitoredOf}
 use Rattle.model.specs.Valid.{Bytes, ProgramFits, Fits}
 use Rattle.model.proofs.Lists.{getD-each, only-each, set-each, tabulate-each, replicate-each}
+use Rattle.model.proofs.Valid.{job-accepted}
 use Rattle.model.proofs.Reading.{read-at, number-four, number-one, number-none}
 use Rattle.model.proofs.Ways.{Keeps, performed-with, turn-by, monitored-by}
 use Rattle.model.proofs.Runs.{run-each}
@@ -50,12 +51,12 @@ module _ (job : List ℕ) (bytes : Bytes job) (at : ℕ) where
   number-fits absent = none-fits
 
 -- the operands of every command are
-record OperandsFit (x : Operands) : Type 0 where
+pub record OperandsFit (x : Operands) : Type 0 where
   pub first : x .first < 2 ^ 32
   pub second : x .second < 2 ^ 32
   pub third : x .third < 2 ^ 32
 
-abbrev CommandsFit : List Command → Type 0
+abbrev pub CommandsFit : List Command → Type 0
 CommandsFit [] = Unit {0}
 CommandsFit (c ∷ past) = CommandsFit past × OperandsFit (c .operands)
 
@@ -65,6 +66,9 @@ reads-fit {job} bytes (further place past c next reads h e v) =
     let r = read-at job place c next e in
     let small : OperandsFit (operandsAt job place (r .kinds)) = record { first = number-fits job bytes (firstAt place) (operandAt (r .kinds) 0); second = number-fits job bytes (secondAt place (r .kinds)) (operandAt (r .kinds) 1); third = number-fits job bytes (thirdAt place (r .kinds)) (operandAt (r .kinds) 2) } in
     (reads-fit bytes reads, rw (← r .command) small)
+
+pub job-fit : (job : List ℕ) (past : List Command) → Bytes job → decodeJob job ≡ accepted past → CommandsFit past
+job-fit job past bytes e = reads-fit bytes (job-accepted job past e .read .reads)
 
 -- a declared value
 declared-fits :

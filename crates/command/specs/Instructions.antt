@@ -1,0 +1,18 @@
+-- The model's handler command that a handler command of the program stands for.
+use Rattle.model.specs.Table.{SET, TAKE, GET, PUT, ADD, PLUS, JUMPZ, JUMP, SEND, CALL, SKIP}
+use Rattle.model.specs.Declared.{Instruction as Meant, instruction}
+use Rattle.command.specs.declared.instruction.Instruction.{Instruction}
+use Rattle.command.specs.declared.instruction.Instruction.the-variants as i
+
+abbrev pub instructionOf : Instruction → Meant
+instructionOf (i.Set v) = instruction SET v
+instructionOf i.Take = instruction TAKE 0
+instructionOf (i.Get x) = instruction GET (x .0)
+instructionOf (i.Put x) = instruction PUT (x .0)
+instructionOf (i.Add v) = instruction ADD v
+instructionOf (i.Plus x) = instruction PLUS (x .0)
+instructionOf (i.JumpZero target) = instruction JUMPZ target
+instructionOf (i.Jump target) = instruction JUMP target
+instructionOf (i.Send port) = instruction SEND port
+instructionOf (i.Call f) = instruction CALL (f .0)
+instructionOf i.Skip = instruction SKIP 0

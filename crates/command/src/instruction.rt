@@ -1,0 +1,41 @@
+// The commands of a handler, each with its operand.
+ghost use mathlib.Core.Path.{_≡_};
+ghost use Rattle.model.specs.Declared.{instruction};
+ghost use Rattle.model.specs.Valid.{NamedInstruction};
+ghost use Rattle.command.specs.Instructions.{instructionOf};
+
+use crate::bytes;
+use crate::numbers::{FunNum, VarNum};
+
+pub enum Instruction {
+    Set(u32),
+    Take,
+    Get(VarNum),
+    Put(VarNum),
+    Add(u32),
+    Plus(VarNum),
+    JumpZero(u32),
+    Jump(u32),
+    Send(u32),
+    Call(FunNum),
+    Skip,
+}
+
+// The handler command with this byte and operand.
+pub fn instruction_of(byte: u8, x: u32) -> Instruction
+    ensures { λ r. ⌜ (NamedInstruction (instruction byte x) → instructionOf r ≡ instruction byte x) ⌝ }
+{
+    match byte {
+        bytes::SET => Instruction::Set(x),
+        bytes::TAKE => Instruction::Take,
+        bytes::GET => Instruction::Get(VarNum(x)),
+        bytes::PUT => Instruction::Put(VarNum(x)),
+        bytes::ADD => Instruction::Add(x),
+        bytes::PLUS => Instruction::Plus(VarNum(x)),
+        bytes::JUMPZ => Instruction::JumpZero(x),
+        bytes::JUMP => Instruction::Jump(x),
+        bytes::SEND => Instruction::Send(x),
+        bytes::CALL => Instruction::Call(FunNum(x)),
+        _ => Instruction::Skip,
+    }
+}
