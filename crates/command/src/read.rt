@@ -1,11 +1,13 @@
 // Reading one command of a job.
 ghost use mathlib.Core.Path.{_≡_};
-ghost use mathlib.Core.Logic.{_⊎_};
+ghost use mathlib.Core.Bool.{cond};
 ghost use Prim.Native.Nat.{_+_, _<_, _≤_};
+ghost use lib.Dec.{eqb};
 ghost use lib.ListN.{length};
 ghost use Rattle.model.specs.Command.{numberAt};
 ghost use Rattle.command.specs.Reading.{Reads, IsWidth};
 
+use crate::bytes;
 use crate::table::{look_up, row_at, Lookup};
 
 // Why a job is turned away: the number of the refusal and its place.
@@ -87,4 +89,14 @@ pub fn read_command(job: &[u8], at: usize) -> Parsed
         third,
     };
     Parsed::Whole(command, end)
+}
+
+// The node of the open handler, behind a command.
+pub fn open_after(c: Command, opened: u32) -> u32
+    ensures { λ r. ⌜ r ≡ cond (eqb (c .byte) 0x40) (c .first) opened ⌝ }
+{
+    if c.byte == bytes::BODY {
+        return c.first;
+    }
+    opened
 }

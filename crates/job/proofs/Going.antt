@@ -23,13 +23,6 @@ use Rattle.job.specs.declared.walk.Step.{Step}
 use Rattle.job.specs.declared.walk.Step.the-variants as s
 use Rattle.job.specs.Decoding.{Onward, Steps, Walked}
 
--- what was read, by the program's answer
-pub reads-whole : (job : List ℕ) (place : ℕ) (p : Parsed) (c : Code) (next : ℕ) → Reads job place p → p ≡ Whole c next → (readCommand job place ≡ whole (commandOf c) next) × RowOf (c .byte) (c .row)
-reads-whole job place p c next r e = rw e at r
-
-pub reads-refused : (job : List ℕ) (place : ℕ) (p : Parsed) (q : Refusal) → Reads job place p → p ≡ Refused q → refusalAt place (readCommand job place) ≡ some (refusalOf q)
-reads-refused job place p q r e = rw e at r
-
 module _ (job : List ℕ) (place : ℕ) (inside : place < length job) (past : List Command) where
   -- 2 and 3
   pub step-unread : (q : RefusedFor) → refusalAt place (readCommand job place) ≡ some q → (fuel : ℕ) → decodeFrom (suc fuel) job place past ≡ rejected q

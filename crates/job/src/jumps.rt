@@ -1,6 +1,6 @@
 // The test 9, by a second look at the commands of a job that passed the others.
 ghost use mathlib.Core.Path.{_≡_};
-ghost use mathlib.Core.Bool.{cond, _&&_, _||_};
+ghost use mathlib.Core.Bool.{_&&_, _||_};
 ghost use mathlib.Core.List.{List};
 ghost use lib.Dec.{eqb, ltb};
 ghost use Rattle.model.specs.Command.{Command as Past};
@@ -10,7 +10,7 @@ ghost use Rattle.job.specs.Decoding.{Jumps};
 
 use command::bytes;
 use command::numbers::NodeNum;
-use command::read::{read_command, Command, Parsed, Refusal};
+use command::read::{open_after, read_command, Command, Parsed, Refusal};
 use crate::walk::Verdict;
 use tables::ask::length_of;
 
@@ -19,16 +19,6 @@ fn is_far(c: Command, len: u32) -> bool
     ensures { λ r. ⌜ r ≡ ((eqb (c .byte) 0x47 || eqb (c .byte) 0x48) && ltb len (c .first)) ⌝ }
 {
     ((c.byte == bytes::JUMPZ) | (c.byte == bytes::JUMP)) & (len < c.first)
-}
-
-// The node of the open handler behind a command.
-pub fn open_after(c: Command, opened: u32) -> u32
-    ensures { λ r. ⌜ r ≡ cond (eqb (c .byte) 0x40) (c .first) opened ⌝ }
-{
-    if c.byte == bytes::BODY {
-        return c.first;
-    }
-    opened
 }
 
 // 9: refused at the first jump behind the end of its handler.

@@ -1,18 +1,18 @@
 -- What lies inside the range of what is declared, and that nothing lies outside, in every accepted job.
-use Prim.Native.Nat.{ℕ, _-_, _≤_, _<_, zero-le}
+use Prim.Native.Nat.{ℕ, _+_, _-_, _≤_, _<_, zero-le}
 use mathlib.Core.Path.{_≡_, refl, sym, ap, _∙_}
 use mathlib.Core.Bool.{Bool, true, false, cond, _&&_, _||_}
 use mathlib.Core.List.{List, [], _∷_, _++_}
 use native.Mathlib.Omega.{arith}
 use lib.Dec.{ltb, eqb}
 use lib.ListN.{length, getD, length-append}
-use borrow.Author.Tests.{leb-false, ltb-true, ltb-false, eqb-true, eqb-false, ne-eqb}
-use Rattle.model.specs.Table.{FLOW, NODE, BODY, START, TURN, node, operandsIn, operandsOf, kindAt}
-use Rattle.model.specs.Command.{Operands, Command, is}
-use Rattle.model.specs.Declared.{only, countOf, isSame, occurs, flowOf, isHandler, openBody, belongs, instruction, handlerOf, startsOf, startedIn, turnsOf}
-use Rattle.model.specs.Refusal.{countsOf, namesNothing}
+use borrow.Author.Tests.{leb-false, ltb-true, ltb-false, eqb-true, eqb-false, eq-eqb, ne-eqb}
+use Rattle.model.specs.Table.{FLOW, NODE, WIRE, BODY, START, TURN, node, operandsIn, operandsOf, kindAt, groupOf}
+use Rattle.model.specs.Command.{Operands, binary, Command, is}
+use Rattle.model.specs.Declared.{only, countOf, isSame, occurs, flowOf, isHandler, openBody, belongs, bodyLength, instruction, handlerOf, startsOf, startedIn, turnsOf}
+use Rattle.model.specs.Refusal.{countsOf, namesNothing, mustDiffer}
 use Rattle.model.specs.Valid.{Valid, Named, NamedInstruction}
-use Rattle.model.proofs.Logic.{true-false, or-left, or-right, and-rest, and-left, and-right, none-of}
+use Rattle.model.proofs.Logic.{true-false, or-left, or-right, or-first, or-second, and-rest, and-left, and-right, none-of}
 use Rattle.model.proofs.Lists.{only-each}
 use Rattle.model.proofs.Growth.{count-grows, declared-older}
 use Rattle.model.proofs.Valid.{passes, named}
@@ -145,3 +145,50 @@ starts-one (c ∷ past) v n = by-start (is START c && eqb (c .operands .first) n
         let none : startedIn past (flowOf past (c .operands .first)) ≡ false = and-rest (is START c) _ (and-left (is START c) _ p) (none-of 1 _ (passes past c (v .2) .fresh)) in
         let empty : startsOf past n ≡ [] = no-starts past (v .0) n (rw here at none) in
         rw empty (omega arith)
+
+-- a BODY has one operand
+body-alone : (past : List Command) (c : Command) → Valid (c ∷ past) → is BODY c ≡ true → c .operands ≡ binary (c .operands .first) 0
+unfolding operandsOf operandsIn
+body-alone past c v e =
+    let p : c .byte ≡ BODY = eqb-true (c .byte) BODY e in
+    let q : c .operands .second ≡ 0 = rw p at (named past c v .second) in
+    let r : c .operands .third ≡ 0 = rw p at (named past c v .third) in
+    λ i. record { first = c .operands .first; second = q i; third = r i }
+
+-- the open handler has its BODY
+open-occurs : (past : List Command) → Valid past → ¬ (countOf BODY past ≡ 0) → occurs BODY (binary (openBody past) 0) past ≡ true
+unfolding countOf openBody occurs
+open-occurs [] v n = absurd (n refl)
+open-occurs (c ∷ past) v n = by-body (is BODY c) refl n (open-occurs past (v .0))
+  where
+    here : is BODY c ≡ true → isSame BODY (binary (c .operands .first) 0) c ≡ true
+    here e = rw (e, body-alone past c v e, eq-eqb (c .operands .first) (c .operands .first) refl)
+
+    by-body :
+        (t : Bool) → is BODY c ≡ t → ¬ (cond t (countOf BODY past + 1) (countOf BODY past) ≡ 0)
+        → (¬ (countOf BODY past ≡ 0) → occurs BODY (binary (openBody past) 0) past ≡ true)
+        → (isSame BODY (binary (cond t (c .operands .first) (openBody past)) 0) c || occurs BODY (binary (cond t (c .operands .first) (openBody past)) 0) past) ≡ true
+    by-body true e m ih = or-first (isSame BODY (binary (c .operands .first) 0) c) (occurs BODY (binary (c .operands .first) 0) past) (here e)
+    by-body false e m ih = or-second (isSame BODY (binary (openBody past) 0) c) (occurs BODY (binary (openBody past) 0) past) (ih m)
+
+-- a node without BODY has an empty handler
+no-body : (past : List Command) → Valid past → (n : ℕ) → occurs BODY (binary n 0) past ≡ false → bodyLength past n ≡ 0
+unfolding occurs bodyLength
+no-body [] v n e = refl
+no-body (c ∷ past) v n e =
+    let older : occurs BODY (binary n 0) past ≡ false = or-right (isSame BODY (binary n 0) c) _ e in
+    by-place (belongs past c n) refl older (no-body past (v .0) n older)
+  where
+    by-place : (t : Bool) → belongs past c n ≡ t → occurs BODY (binary n 0) past ≡ false → bodyLength past n ≡ 0 → cond t (bodyLength past n + 1) (bodyLength past n) ≡ 0
+    by-place true p o ih =
+        let opened : openBody past ≡ n = eqb-true (openBody past) n (and-right (isHandler c) _ p) in
+        let some : eqb (countOf BODY past) 0 ≡ false = and-rest (isHandler c) _ (and-left (isHandler c) _ p) (none-of 1 _ (passes past c (v .2) .declares)) in
+        true-false (sym (rw opened at (open-occurs past (v .0) (eqb-false (countOf BODY past) 0 some))) ∙ o)
+    by-place false p o ih = ih
+
+-- the handler that a BODY opens is empty so far
+pub body-fresh : (past : List Command) (c : Command) → Valid (c ∷ past) → is BODY c ≡ true → bodyLength past (c .operands .first) ≡ 0
+body-fresh past c v e =
+    let p : c .byte ≡ BODY = eqb-true (c .byte) BODY e in
+    let o : occurs (c .byte) (c .operands) past ≡ false = and-rest (mustDiffer c) _ (or-second (is WIRE c || eqb (groupOf (c .byte)) 3) (is BODY c) e) (none-of 0 _ (passes past c (v .2) .fresh)) in
+    no-body past (v .0) (c .operands .first) (rw (p, body-alone past c v e) at o)

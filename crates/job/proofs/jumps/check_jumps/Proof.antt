@@ -8,7 +8,7 @@ use Rattle.model.specs.Command.{Command}
 use Rattle.model.specs.Refusal.{accepted, decode}
 use Rattle.model.proofs.Reading.{read-at}
 use Rattle.tables.specs.Stands.{Stands}
-use Rattle.job.proofs.Going.{reads-whole, reads-refused}
+use Rattle.command.proofs.Taken.{reads-whole, reads-refused}
 use Rattle.job.proofs.Looking.{Looking, looking-start, looking-end, looking-reads, looking-found, looking-on}
 use Rattle.job.proofs.jumps.check_jumps.Statement.{statement}
 use Rattle.job.proofs.jumps.check_jumps.Tie as tie
@@ -16,7 +16,7 @@ use Rattle.job.proofs.jumps.check_jumps.Reads as reads
 use Rattle.job.proofs.jumps.check_jumps.Lts as lts
 use Rattle.command.proofs.read.read_command.Reads as read-command-reads
 use Rattle.job.proofs.jumps.is_far.Reads as is-far-reads
-use Rattle.job.proofs.jumps.open_after.Reads as open-after-reads
+use Rattle.command.proofs.read.open_after.Reads as open-after-reads
 use Rattle.tables.proofs.ask.length_of.Reads as length-of-reads
 
 abbrev Inv-loop : tie.InvT-loop

@@ -1,4 +1,5 @@
-use Rattle.job.proofs.Going.{reads-whole, reads-refused, step-unread}
+use Rattle.job.proofs.Going.{step-unread}
+use Rattle.command.proofs.Taken.{reads-whole, reads-refused}
 use borrow.Author.Needs.{needs}
 use Rattle.job.proofs.walk.advance.Statement.{statement}
 use Rattle.job.proofs.walk.advance.Tie as tie

@@ -1,8 +1,8 @@
 use borrow.Author.Tests.{eq-eqb, ne-eqb}
-use Rattle.job.proofs.jumps.open_after.Statement.{statement}
-use Rattle.job.proofs.jumps.open_after.Tie as tie
-use Rattle.job.proofs.jumps.open_after.Reads as reads
-use Rattle.job.proofs.jumps.open_after.Lts as lts
+use Rattle.command.proofs.read.open_after.Statement.{statement}
+use Rattle.command.proofs.read.open_after.Tie as tie
+use Rattle.command.proofs.read.open_after.Reads as reads
+use Rattle.command.proofs.read.open_after.Lts as lts
 
 -- src/jumps.rt:29:9
 returns : tie.Need-returns

@@ -1,0 +1,135 @@
+-- Loading by a loop over the commands of an accepted job: what the loop keeps.
+use Prim.Native.Nat.{ℕ, suc, _+_, _≤_, _<_}
+use mathlib.Core.Path.{_≡_, refl, sym, ap, _∙_}
+use mathlib.Core.Bool.{Bool, true, false, cond, _&&_}
+use mathlib.Core.List.{List, [], _∷_}
+use mathlib.Core.Option.{none, some}
+use native.Mathlib.Omega.{arith}
+use lib.Dec.{eqb, leb}
+use lib.ListN.{length}
+use borrow.Author.Tests.{eqb-true, eq-eqb}
+use Rattle.model.specs.Table.{BODY}
+use Rattle.model.specs.Command.{Command, is, whole, readCommand}
+use Rattle.model.specs.Declared.{isHandler, openBody, bodyLength}
+use Rattle.model.specs.Refusal.{Decoded, accepted, rejected, decodeFrom, decode, decodeJob}
+use Rattle.model.specs.Valid.{Valid}
+use Rattle.model.proofs.Reading.{read-at}
+use Rattle.model.proofs.Decoding.{decode-end, fuel-left}
+use Rattle.model.proofs.Scanning.{accepted-from, Passing, passing}
+use Rattle.model.proofs.Retracing.{read-accepted}
+use Rattle.model.proofs.Growth.{open-next, body-next}
+use Rattle.model.proofs.Ranges.{open-inside, body-fresh}
+use Rattle.model.proofs.Valid.{job-accepted, limits}
+use Rattle.command.specs.declared.read.Command.{Command as Code}
+use Rattle.command.specs.declared.read.Refusal.{Refusal}
+use Rattle.command.specs.Reading.{commandOf, refusalOf, refusalAt}
+use Rattle.handlers.specs.Loading.{slotOf, stored, loaded, IsAccepted, commandsOf}
+
+-- an accepted job has its commands
+pub accepted-is : (d : Decoded) → IsAccepted d → d ≡ accepted (commandsOf d)
+accepted-is (accepted past) i = refl
+accepted-is (rejected r) i = absurd i
+
+-- the commands before a place are loaded: `w` are the bytes at the start, `u` those now
+pub record Keeping (job : List ℕ) (all : List Command) (w u : List ℕ) (place opened index : ℕ) : Type 0 where
+  pub past : List Command
+  pub fuel : ℕ
+  pub enough : length job ≤ place + fuel
+  pub goesOn : decodeFrom fuel job place past ≡ accepted all
+  pub valid : Valid past
+  pub open-node : opened ≡ openBody past
+  pub position : index ≡ bodyLength past (openBody past)
+  pub same : u ≡ loaded w past
+
+pub keeping-start : (job : List ℕ) (all : List Command) (w : List ℕ) → decodeJob job ≡ accepted all → Keeping job all w w 0 0 0
+unfolding openBody bodyLength loaded
+keeping-start job all w e =
+    record {
+      past = [];
+      fuel = length job;
+      enough = omega arith;
+      goesOn = accepted-from job all (read-accepted job all (job-accepted job all e .read));
+      valid = tt;
+      open-node = refl;
+      position = refl;
+      same = refl;
+    }
+
+module _ (job : List ℕ) (all : List Command) (w u : List ℕ) (place opened index : ℕ) (k : Keeping job all w u place opened index) where
+  pub keeping-end : length job ≤ place → u ≡ loaded w all
+  keeping-end h =
+      let z = sym (decode-end (k .fuel) job place (k .past) h) ∙ k .goesOn in
+      let q : k .past ≡ all = cc in
+      k .same ∙ rw q
+
+  -- the node and the position have a slot
+  pub keeping-open : opened < 32
+  keeping-open = omega (arith, k .open-node, open-inside (k .past) (k .valid))
+
+  pub keeping-position : index ≤ 64
+  keeping-position = omega (arith, k .position, limits (k .past) (k .valid) .handlers (openBody (k .past)))
+
+  module _ (h : place < length job) where
+    left : (f : ℕ) × Passing f job place (k .past) all × (k .fuel ≡ suc f)
+    left = let f = fuel-left job place (k .fuel) h (k .enough) in (f .0, passing (f .0) job place (k .past) all h (rw (f .1) at (k .goesOn)), f .1)
+
+    -- a whole command is read
+    pub keeping-reads : {A : Type 0} (q : Refusal) → refusalAt place (readCommand job place) ≡ some (refusalOf q) → A
+    keeping-reads q e =
+        let p = left .1 .isRead in
+        let f = rw p at e in
+        let z : _≡_ {A = ℕ} 0 1 = cc in
+        absurd (omega arith)
+
+    module _ (c : Code) (next : ℕ) (read : readCommand job place ≡ whole (commandOf c) next) where
+      again : left .1 .command ≡ commandOf c
+      again = let e = sym (left .1 .isRead) ∙ read in cc
+
+      behind : left .1 .next ≡ next
+      behind = let e = sym (left .1 .isRead) ∙ read in cc
+
+      more : Valid (commandOf c ∷ k .past)
+      more = (k .valid, read-at job place (commandOf c) next read .plain, rw again at (left .1 .passes))
+
+      -- the position in the handler that is open behind the command
+      next-position :
+          cond (is BODY (commandOf c)) 0 (cond (isHandler (commandOf c)) (bodyLength (k .past) (openBody (k .past)) + 1) (bodyLength (k .past) (openBody (k .past))))
+          ≡ bodyLength (commandOf c ∷ k .past) (openBody (commandOf c ∷ k .past))
+      next-position = rw (open-next (commandOf c) (k .past)) (by-body (is BODY (commandOf c)) refl)
+        where
+          by-body :
+              (t : Bool) → is BODY (commandOf c) ≡ t
+              → cond t 0 (cond (isHandler (commandOf c)) (bodyLength (k .past) (openBody (k .past)) + 1) (bodyLength (k .past) (openBody (k .past))))
+                ≡ bodyLength (commandOf c ∷ k .past) (cond t (c .first) (openBody (k .past)))
+          by-body true e =
+              let b : c .byte ≡ BODY = eqb-true (c .byte) BODY e in
+              let z : isHandler (commandOf c) ≡ false = rw b in
+              sym (body-next (commandOf c) (k .past) (c .first) ∙ rw z (body-fresh (k .past) (commandOf c) more e))
+          by-body false e = sym (body-next (commandOf c) (k .past) (openBody (k .past)) ∙ rw (eq-eqb (openBody (k .past)) (openBody (k .past)) refl) (by-handler (isHandler (commandOf c))))
+            where
+              by-handler :
+                  (t : Bool) → cond (t && true) (bodyLength (k .past) (openBody (k .past)) + 1) (bodyLength (k .past) (openBody (k .past))) ≡ cond t (bodyLength (k .past) (openBody (k .past)) + 1) (bodyLength (k .past) (openBody (k .past)))
+              by-handler true = refl
+              by-handler false = refl
+
+      pub keeping-on :
+          (x : List ℕ) (o i : ℕ)
+          → x ≡ cond (leb 0x41 (c .byte) && leb (c .byte) 0x4B) (stored u (slotOf opened index) (c .byte) (c .first)) u
+          → i ≡ cond (eqb (c .byte) 0x40) 0 (cond (leb 0x41 (c .byte) && leb (c .byte) 0x4B) (index + 1) index)
+          → o ≡ cond (eqb (c .byte) 0x40) (c .first) opened
+          → Keeping job all w x next o i
+      unfolding loaded
+      keeping-on x o i e f g =
+          let r = read-at job place (commandOf c) next read in
+          let m = left .2 in
+          let n = k .enough in
+          record {
+            past = commandOf c ∷ k .past;
+            fuel = left .0;
+            enough = omega (arith, r .later);
+            goesOn = rw (again, behind) at (left .1 .goesOn);
+            valid = more;
+            open-node = g ∙ rw (k .open-node, open-next (commandOf c) (k .past));
+            position = f ∙ rw (k .position) next-position;
+            same = e ∙ rw (k .same, k .open-node, k .position);
+          }

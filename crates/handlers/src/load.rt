@@ -1,0 +1,81 @@
+// Loading the handlers of an accepted job into the work buffer: 8 bytes a command, 64 commands a node.
+ghost use mathlib.Core.Path.{_≡_};
+ghost use mathlib.Core.Bool.{cond, _&&_};
+ghost use Prim.Native.Nat.{_+_, _≤_, _<_};
+ghost use lib.Dec.{eqb, leb};
+ghost use lib.ListN.{set};
+ghost use Rattle.model.specs.Refusal.{decodeJob};
+ghost use Rattle.handlers.specs.Loading.{slotOf, stored, loaded, commandsOf, IsAccepted};
+
+use command::bytes;
+use command::read::{open_after, read_command, Command, Parsed};
+
+// Sets one byte, if there is such a place.
+fn put_byte(work: &mut [u8], at: usize, b: u8)
+    ensures { λ _. ⌜ now (work .exit) ≡ set (now (work .entry)) at b ⌝ }
+{
+    if at < work.len() {
+        work[at] = b;
+    }
+}
+
+// Stores a handler command at a place: its byte, and its operand, lowest byte first.
+fn store(work: &mut [u8], at: usize, b: u8, x: u32)
+    requires { ⌜ at ≤ 16384 ⌝ }
+    ensures { λ _. ⌜ now (work .exit) ≡ stored (now (work .entry)) at b x ⌝ }
+{
+    put_byte(work, at, b);
+    put_byte(work, at + 1, (x % 256) as u8);
+    put_byte(work, at + 2, (x / 256 % 256) as u8);
+    put_byte(work, at + 3, (x / 65536 % 256) as u8);
+    put_byte(work, at + 4, (x / 16777216 % 256) as u8);
+}
+
+// Stores a command in its slot, if it is a handler command.
+fn keep(work: &mut [u8], opened: u32, index: u32, c: Command)
+    requires { ⌜ (opened < 32) × (index ≤ 64) ⌝ }
+    ensures {
+        λ _. ⌜ now (work .exit) ≡ cond (leb 0x41 (c .byte) && leb (c .byte) 0x4B) (stored (now (work .entry)) (slotOf opened index) (c .byte) (c .first)) (now (work .entry)) ⌝
+    }
+{
+    let node = opened as usize;
+    let i = index as usize;
+    let at = (node * 64 + i) * 8;
+    if bytes::is_handler(c.byte) {
+        store(work, at, c.byte, c.first);
+    }
+}
+
+// The position of the next command in the open handler, behind a command.
+fn index_after(c: Command, index: u32) -> u32
+    requires { ⌜ index < 65536 ⌝ }
+    ensures { λ r. ⌜ r ≡ cond (eqb (c .byte) 0x40) 0 (cond (leb 0x41 (c .byte) && leb (c .byte) 0x4B) (index + 1) index) ⌝ }
+{
+    if c.byte == bytes::BODY {
+        return 0;
+    }
+    if bytes::is_handler(c.byte) {
+        return index + 1;
+    }
+    index
+}
+
+// Loads the handlers of an accepted job.
+pub fn load(job: &[u8], work: &mut [u8])
+    requires { ⌜ IsAccepted (decodeJob (now job)) ⌝ }
+    ensures { λ _. ⌜ now (work .exit) ≡ loaded (now (work .entry)) (commandsOf (decodeJob (now (job .entry)))) ⌝ }
+{
+    let mut at = 0;
+    let mut opened: u32 = 0;
+    let mut index: u32 = 0;
+    while at < job.len() {
+        let read = read_command(job, at);
+        let Parsed::Whole(c, next) = read else {
+            return;
+        };
+        keep(work, opened, index, c);
+        index = index_after(c, index);
+        opened = open_after(c, opened);
+        at = next;
+    }
+}
