@@ -2,3 +2,4 @@ pub mod Judging
 pub mod Going
 pub mod Looking
 pub mod Judged
+pub mod Prepared

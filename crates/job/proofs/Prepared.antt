@@ -1,0 +1,57 @@
+-- The program that tables and work buffer stand for is that of the job's commands, and so are its turns.
+use Prim.Native.Nat.{ℕ, _+_, _*_, _-_, _≤_, _<_}
+use mathlib.Core.Path.{_≡_, refl, sym, ap, _∙_}
+use mathlib.Core.List.{List, [], _∷_, _++_}
+use native.Mathlib.Omega.{arith}
+use lib.ListN.{length, getD}
+use lib.Seq.{ext-getD}
+use Rattle.model.specs.Table.{FLOW, NODE, VAR, FUN, ANY, ARG, TURN}
+use Rattle.model.specs.Command.{Command, binary, ternary}
+use Rattle.model.specs.Declared.{instruction, occurs, handlerOf, turnsOf}
+use Rattle.model.specs.Program.{Program, programOf}
+use Rattle.model.specs.State.{tabulate}
+use Rattle.model.specs.Refusal.{accepted, decodeJob}
+use Rattle.model.specs.Valid.{Valid, Bytes}
+use Rattle.model.proofs.Lists.{length-tabulate, getD-tabulate}
+use Rattle.model.proofs.Growth.{length-handler, length-turns}
+use Rattle.model.proofs.Program.{agree}
+use Rattle.model.proofs.Valid.{job-valid}
+use Rattle.model.proofs.Words.{CommandsFit, job-fit}
+use Rattle.tables.specs.Tables.{countIn, lengthIn}
+use Rattle.tables.specs.Stands.{Stands}
+use Rattle.handlers.specs.Loading.{instructionIn, loaded}
+use Rattle.handlers.proofs.Slots.{handler-loaded}
+use Rattle.handlers.proofs.Fetched.{holds-loaded}
+use Rattle.job.specs.Program.{programIn, Prepared, PreparedHolds}
+
+module _ (t w : List ℕ) (past : List Command) (s : Stands t past) (size : 16384 ≤ length w) (v : Valid past) (fit : CommandsFit past) where
+  -- the handler of a node
+  same-handler : (n : ℕ) → tabulate (lengthIn t n) (instructionIn (loaded w past) n) ≡ handlerOf past n
+  same-handler n =
+      let e : lengthIn t n ≡ length (handlerOf past n) = s .lengths n ∙ sym (length-handler past n) in
+      ext-getD (instruction 0 0) _ (handlerOf past n) (length-tabulate (lengthIn t n) (instructionIn (loaded w past) n) ∙ e)
+      (λ i h.
+      let l : i < lengthIn t n = omega (arith, length-tabulate (lengthIn t n) (instructionIn (loaded w past) n)) in
+      getD-tabulate (lengthIn t n) i (instructionIn (loaded w past) n) (instruction 0 0) l ∙ handler-loaded w past size v fit n i (omega (arith, s .lengths n)))
+
+  pub same-program : programIn t (loaded w past) ≡ programOf past
+  unfolding programIn programOf
+  same-program =
+      agree (programIn t (loaded w past)) (programOf past)
+      (record {
+        flows = s .counts FLOW (omega arith);
+        nodes = s .counts NODE (omega arith);
+        variables = s .counts VAR (omega arith);
+        functions = s .counts FUN (omega arith);
+        flow = s .flow;
+        scope = s .scope;
+        owner = s .owner;
+        startValue = s .startValue;
+        answer = λ f argument. s .answer f;
+        wired = s .wires;
+        mayCall = λ n f argument. rw (s .anys n f, s .arguments n f argument);
+        mayRead = s .reads;
+        mayWrite = s .writes;
+        handler = same-handler;
+        firstMessages = s .firsts;
+      })

@@ -1,0 +1,53 @@
+-- The program that tables and work buffer stand for.
+use Prim.Native.Nat.{ℕ, _+_, _*_, _≤_, _-_, _<_}
+use mathlib.Core.Path.{_≡_}
+use mathlib.Core.List.{List}
+use lib.ListN.{length, getD}
+use Rattle.model.specs.Table.{FLOW, NODE, VAR, FUN, TURN}
+use Rattle.model.specs.Command.{Command}
+use Rattle.model.specs.Declared.{turnsOf}
+use Rattle.model.specs.Program.{Program, programOf}
+use Rattle.model.specs.State.{tabulate}
+use Rattle.model.specs.Refusal.{accepted, decodeJob}
+use Rattle.model.specs.Valid.{Bytes}
+use Rattle.tables.specs.Tables.{countIn, flowIn, scopeIn, ownerIn, startIn, answerIn, wiredIn, callIn, readIn, writeIn, lengthIn, firstsIn}
+use Rattle.tables.specs.Stands.{Stands}
+use Rattle.handlers.specs.Loading.{instructionIn, loaded, Holds}
+
+-- every name of a program, by the tables `t` and the work buffer `w`
+unfoldable pub programIn : List ℕ → List ℕ → Program
+programIn t w =
+    record {
+      flows = countIn t FLOW;
+      nodes = countIn t NODE;
+      variables = countIn t VAR;
+      functions = countIn t FUN;
+      flow = flowIn t;
+      scope = scopeIn t;
+      owner = ownerIn t;
+      startValue = startIn t;
+      answer = λ f argument. answerIn t f;
+      wired = wiredIn t;
+      mayCall = callIn t;
+      mayRead = readIn t;
+      mayWrite = writeIn t;
+      handler = λ n. tabulate (lengthIn t n) (instructionIn w n);
+      firstMessages = firstsIn t;
+    }
+
+-- turn k of a job, counted from 0: the turns are the last commands of a job, 2 bytes each
+abbrev pub turnIn : List ℕ → List ℕ → ℕ → ℕ
+turnIn job t k = getD job (length job - 2 * countIn t TURN + 2 * k + 1) 0
+
+-- what decoding and loading leave of an accepted job: its program, and its turns
+pub record Prepared (job t w : List ℕ) (past : List Command) : Type 0 where
+  pub program : programIn t w ≡ programOf past
+  pub handlers : Holds w (programOf past)
+  pub turns : countIn t TURN ≡ length (turnsOf past)
+  pub turn : (k : ℕ) → k < length (turnsOf past) → turnIn job t k ≡ getD (turnsOf past) k 0
+
+-- the claim: for every accepted job of bytes, with tables that stand for its commands and a work buffer that is long enough
+abbrev pub PreparedHolds : Type 0
+PreparedHolds =
+    (job t w : List ℕ) (past : List Command) → Bytes job → decodeJob job ≡ accepted past → Stands t past → 16384 ≤ length w
+    → Prepared job t (loaded w past) past
