@@ -3,3 +3,4 @@ pub mod Going
 pub mod Looking
 pub mod Judged
 pub mod Prepared
+pub mod Schedule

@@ -7,7 +7,7 @@ use lib.ListN.{length, getD}
 use lib.Seq.{ext-getD}
 use Rattle.model.specs.Table.{FLOW, NODE, VAR, FUN, ANY, ARG, TURN}
 use Rattle.model.specs.Command.{Command, binary, ternary}
-use Rattle.model.specs.Declared.{instruction, occurs, handlerOf, turnsOf}
+use Rattle.model.specs.Declared.{instruction, countOf, handlerOf, turnsOf}
 use Rattle.model.specs.Program.{Program, programOf}
 use Rattle.model.specs.State.{tabulate}
 use Rattle.model.specs.Refusal.{accepted, decodeJob}
@@ -15,7 +15,7 @@ use Rattle.model.specs.Valid.{Valid, Bytes}
 use Rattle.model.proofs.Lists.{length-tabulate, getD-tabulate}
 use Rattle.model.proofs.Growth.{length-handler, length-turns}
 use Rattle.model.proofs.Program.{agree}
-use Rattle.model.proofs.Valid.{job-valid}
+use Rattle.model.proofs.Valid.{job-accepted, job-valid}
 use Rattle.model.proofs.Words.{CommandsFit, job-fit}
 use Rattle.tables.specs.Tables.{countIn, lengthIn}
 use Rattle.tables.specs.Stands.{Stands}
@@ -23,6 +23,7 @@ use Rattle.handlers.specs.Loading.{instructionIn, loaded}
 use Rattle.handlers.proofs.Slots.{handler-loaded}
 use Rattle.handlers.proofs.Fetched.{holds-loaded}
 use Rattle.job.specs.Program.{programIn, Prepared, PreparedHolds}
+use Rattle.job.proofs.Schedule.{turn-at}
 
 module _ (t w : List ℕ) (past : List Command) (s : Stands t past) (size : 16384 ≤ length w) (v : Valid past) (fit : CommandsFit past) where
   -- the handler of a node
@@ -55,3 +56,15 @@ module _ (t w : List ℕ) (past : List Command) (s : Stands t past) (size : 1638
         handler = same-handler;
         firstMessages = s .firsts;
       })
+
+pub prepared : PreparedHolds
+prepared job t w past bytes e s size =
+    let v = job-valid job past e in
+    let fit = job-fit job past bytes e in
+    let counted : countIn t TURN ≡ countOf TURN past = s .counts TURN (omega arith) in
+    record {
+      program = same-program t w past s size (v .commands) fit;
+      handlers = holds-loaded w past size (v .commands) fit;
+      turns = counted ∙ sym (length-turns past);
+      turn = λ k h. rw counted (turn-at job past (job-accepted job past e .read .reads) k (omega (arith, length-turns past)));
+    }
