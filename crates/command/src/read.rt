@@ -32,7 +32,8 @@ pub enum Parsed {
     Refused(Refusal),
 }
 
-fn wide(x: u8) -> u32
+// A byte as a number.
+pub fn wide(x: u8) -> u32
     ensures { λ r. ⌜ (r ≡ x) × (r < 256) ⌝ }
 {
     x as u32

@@ -5,7 +5,7 @@ use mathlib.Core.Bool.{Bool, true, false, cond, _||_}
 use mathlib.Core.List.{List, [], _∷_, _++_}
 use native.Mathlib.Omega.{arith}
 use lib.Dec.{ltb, eqb}
-use lib.ListN.{length, getD, List·getD-append}
+use lib.ListN.{length, getD, List·getD-append, List·getD-eq-default}
 use lib.Seq.{getD-at}
 use borrow.Author.Tests.{ltb-true, ltb-false, eqb-true, le-ltb}
 use Rattle.model.specs.Table.{TURN, operandsIn, operandsOf, OperandKind, node, groupOf}
@@ -104,3 +104,11 @@ pub turn-at :
     (job : List ℕ) (past : List Command) → Reads job (length job) past
     → (k : ℕ) → k < countOf TURN past → getD job (length job - 2 * countOf TURN past + 2 * k + 1) 0 ≡ getD (turnsOf past) k 0
 turn-at job past reads = turning reads .turn
+
+-- the place of a turn, as a program finds it: inside the job, or behind the last turn
+module _ (job : List ℕ) (m k count first left : ℕ) (counted : count ≡ m) (from : first ≡ length job - 2 * count) (rest : left ≡ length job - first) where
+  pub turn-inside : (x : ℕ) → x ≡ getD job (first + (2 * k + 1)) 0 → x ≡ getD job (length job - 2 * m + 2 * k + 1) 0
+  turn-inside x e = let q : first + (2 * k + 1) ≡ length job - 2 * m + 2 * k + 1 = omega arith in rw q at e
+
+  pub turn-outside : left ≤ 2 * k + 1 → 0 ≡ getD job (length job - 2 * m + 2 * k + 1) 0
+  turn-outside h = sym (List·getD-eq-default job 0 (omega arith))

@@ -1,6 +1,7 @@
 // Decoding a job: the tests 4 to 8 of one command, the walk over all commands, the jumps, and the handlers in the work buffer.
 pub mod jumps;
 pub mod test;
+pub mod turns;
 pub mod walk;
 
 ghost use mathlib.Core.Path.{_≡_};

@@ -1,0 +1,34 @@
+// The turns of an accepted job: its last commands, 2 bytes each.
+ghost use mathlib.Core.Path.{_≡_};
+ghost use Prim.Native.Nat.{_-_, _*_};
+ghost use Rattle.job.specs.Program.{turnIn};
+
+use command::bytes;
+use command::numbers::NodeNum;
+use command::read::wide;
+use tables::ask::count_of;
+
+// So many places before the end, and 0 where there are fewer.
+fn before_end(len: usize, back: usize) -> usize
+    ensures { λ r. ⌜ r ≡ len - back ⌝ }
+{
+    if back < len {
+        return len - back;
+    }
+    0
+}
+
+// The node of turn k, counted from 0; node 0 behind the last turn.
+pub fn turn_at(job: &[u8], t: &[u32], k: u32) -> NodeNum
+    ensures { λ r. ⌜ r .0 ≡ turnIn (now (job .entry)) (now (t .entry)) k ⌝ }
+{
+    let count = count_of(t, bytes::TURN) as usize;
+    let first = before_end(job.len(), 2 * count);
+    let offset = 2 * (k as usize) + 1;
+    let left = before_end(job.len(), first);
+    if offset < left {
+        let at = first + offset;
+        return NodeNum(wide(job[at]));
+    }
+    NodeNum(0)
+}
