@@ -3,9 +3,9 @@ ghost use mathlib.Core.Path.{_≡_};
 ghost use Rattle.model.specs.Declared.{instruction};
 ghost use Rattle.model.specs.Valid.{NamedInstruction};
 ghost use Rattle.command.specs.Instructions.{instructionOf};
-
 use crate::bytes;
-use crate::numbers::{FunNum, VarNum};
+use crate::numbers::FunNum;
+use crate::numbers::VarNum;
 
 pub enum Instruction {
     Set(u32),

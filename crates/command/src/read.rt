@@ -6,9 +6,10 @@ ghost use lib.Dec.{eqb};
 ghost use lib.ListN.{length};
 ghost use Rattle.model.specs.Command.{numberAt};
 ghost use Rattle.command.specs.Reading.{Reads, IsWidth};
-
 use crate::bytes;
-use crate::table::{look_up, row_at, Lookup};
+use crate::table::Lookup;
+use crate::table::look_up;
+use crate::table::row_at;
 
 // Why a job is turned away: the number of the refusal and its place.
 pub struct Refusal {
@@ -65,7 +66,10 @@ pub fn read_command(job: &[u8], at: usize) -> Parsed
     let byte = job[at];
     let found = look_up(byte);
     let Lookup::Found(row) = found else {
-        return Parsed::Refused(Refusal { number: 2, place: at });
+        return Parsed::Refused(Refusal {
+            number: 2,
+            place: at,
+        });
     };
     let shape = row_at(row);
     let w1 = shape.2;
@@ -76,7 +80,10 @@ pub fn read_command(job: &[u8], at: usize) -> Parsed
     let third_at = second_at + (w2 as usize);
     let end = third_at + (w3 as usize);
     if job.len() < end {
-        return Parsed::Refused(Refusal { number: 3, place: at });
+        return Parsed::Refused(Refusal {
+            number: 3,
+            place: at,
+        });
     }
     let first = operand(job, first_at, w1);
     let second = operand(job, second_at, w2);

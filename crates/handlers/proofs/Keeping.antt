@@ -100,7 +100,7 @@ module _ (job : List ℕ) (all : List Command) (w u : List ℕ) (place opened in
           by-body :
               (t : Bool) → is BODY (commandOf c) ≡ t
               → cond t 0 (cond (isHandler (commandOf c)) (bodyLength (k .past) (openBody (k .past)) + 1) (bodyLength (k .past) (openBody (k .past))))
-                ≡ bodyLength (commandOf c ∷ k .past) (cond t (c .first) (openBody (k .past)))
+              ≡ bodyLength (commandOf c ∷ k .past) (cond t (c .first) (openBody (k .past)))
           by-body true e =
               let b : c .byte ≡ BODY = eqb-true (c .byte) BODY e in
               let z : isHandler (commandOf c) ≡ false = rw b in

@@ -129,7 +129,7 @@ slot-other w n i m j b x h l differ =
 
 -- one more handler command: it is read back at the end of its handler, and those before it stay
 module _ (u : List ℕ) (past : List Command) (c : Command) (size : 16384 ≤ length u) (v : Valid (c ∷ past)) (fit : c .operands .first < 2 ^ 32) (handler : isHandler c ≡ true)
-  (ih : (n i : ℕ) → i < bodyLength past n → instructionIn u n i ≡ getD (handlerOf past n) i (instruction 0 0)) where
+    (ih : (n i : ℕ) → i < bodyLength past n → instructionIn u n i ≡ getD (handlerOf past n) i (instruction 0 0)) where
   more : List ℕ
   more = stored u (slotOf (openBody past) (bodyLength past (openBody past))) (c .byte) (c .operands .first)
 

@@ -6,16 +6,14 @@ ghost use Rattle.model.specs.Program.{Program};
 ghost use Rattle.model.specs.Turn.{instructionAt};
 ghost use Rattle.command.specs.Instructions.{instructionOf};
 ghost use Rattle.handlers.specs.Loading.{Holds};
-
-use command::instruction::{instruction_of, Instruction};
+use command::instruction::Instruction;
+use command::instruction::instruction_of;
 use command::numbers::NodeNum;
 use command::read::operand;
 
 // The command of a node's handler at a position; SKIP where there is none.
 pub fn fetch(work: &[u8], n: NodeNum, position: u32) -> Instruction
-    ensures {
-        λ r. ⌜ ((P : Program) → Holds (now (work .entry)) P → position < length (P .handler (n .0)) → instructionOf r ≡ instructionAt P (n .0) position) ⌝
-    }
+    ensures { λ r. ⌜ ((P : Program) → Holds (now (work .entry)) P → position < length (P .handler (n .0)) → instructionOf r ≡ instructionAt P (n .0) position) ⌝ }
 {
     let node = n.0 as usize;
     let i = position as usize;

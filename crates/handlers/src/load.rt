@@ -6,9 +6,11 @@ ghost use lib.Dec.{eqb, leb};
 ghost use lib.ListN.{set};
 ghost use Rattle.model.specs.Refusal.{decodeJob};
 ghost use Rattle.handlers.specs.Loading.{slotOf, stored, loaded, commandsOf, IsAccepted};
-
 use command::bytes;
-use command::read::{open_after, read_command, Command, Parsed};
+use command::read::Command;
+use command::read::Parsed;
+use command::read::open_after;
+use command::read::read_command;
 
 // Sets one byte, if there is such a place.
 fn put_byte(work: &mut [u8], at: usize, b: u8)
@@ -34,9 +36,7 @@ fn store(work: &mut [u8], at: usize, b: u8, x: u32)
 // Stores a command in its slot, if it is a handler command.
 fn keep(work: &mut [u8], opened: u32, index: u32, c: Command)
     requires { ⌜ (opened < 32) × (index ≤ 64) ⌝ }
-    ensures {
-        λ _. ⌜ now (work .exit) ≡ cond (leb 0x41 (c .byte) && leb (c .byte) 0x4B) (stored (now (work .entry)) (slotOf opened index) (c .byte) (c .first)) (now (work .entry)) ⌝
-    }
+    ensures { λ _. ⌜ now (work .exit) ≡ cond (leb 0x41 (c .byte) && leb (c .byte) 0x4B) (stored (now (work .entry)) (slotOf opened index) (c .byte) (c .first)) (now (work .entry)) ⌝ }
 {
     let node = opened as usize;
     let i = index as usize;

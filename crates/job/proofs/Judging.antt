@@ -71,8 +71,31 @@ module _ (t : List ℕ) (c : Code) (past : List Command) (s : Stands t past) whe
       → z ≡ namesNothing (record { flows = flows; nodes = nodes; variables = variables; functions = functions }) (c .first) (kindOf (row .7)) (c .third)
       → ((eqb (c .byte) NODE && eqb flows 0) || ((body && eqb bodies 0) || (x || (y || z)))) ≡ undeclared past (commandOf c)
   undeclared-same row flows nodes variables functions bodies body x y z r says f n v k d b p q u =
-      rw (any-next, any-next, any-next, any-next, any-last, r .operands, ← says .kind₁, ← says .kind₂, ← says .kind₃, p, q, u, b,
-        f, n, v, k, d, s .counts FLOW (omega arith), s .counts NODE (omega arith), s .counts VAR (omega arith), s .counts FUN (omega arith), s .counts BODY (omega arith))
+      rw (
+        any-next,
+        any-next,
+        any-next,
+        any-next,
+        any-last,
+        r .operands,
+        ← says .kind₁,
+        ← says .kind₂,
+        ← says .kind₃,
+        p,
+        q,
+        u,
+        b,
+        f,
+        n,
+        v,
+        k,
+        d,
+        s .counts FLOW (omega arith),
+        s .counts NODE (omega arith),
+        s .counts VAR (omega arith),
+        s .counts FUN (omega arith),
+        s .counts BODY (omega arith),
+      )
 
   sees-same : (n x : ℕ) → seesIn t n x ≡ sees past n x
   sees-same n x = rw (s .scope x, s .owner x, s .flow n)
@@ -82,7 +105,7 @@ module _ (t : List ℕ) (c : Code) (past : List Command) (s : Stands t past) whe
       (from to opened : ℕ) (own seen common : Bool) → from ≡ flowIn t (c .first) → to ≡ flowIn t (c .third) → opened ≡ openIn t
       → own ≡ seesIn t opened (c .first) → seen ≡ seesIn t (c .first) (c .second) → common ≡ sharedIn t (c .second)
       → ((eqb (c .byte) WIRE && not (eqb from to)) || ((((eqb (c .byte) GET || eqb (c .byte) PUT) || eqb (c .byte) PLUS) && not own)
-        || (((eqb (c .byte) READ || eqb (c .byte) WRITE) && not seen) || ((eqb (c .byte) READ || eqb (c .byte) WRITE) && not common)))) ≡ outOfReach past (commandOf c)
+      || (((eqb (c .byte) READ || eqb (c .byte) WRITE) && not seen) || ((eqb (c .byte) READ || eqb (c .byte) WRITE) && not common)))) ≡ outOfReach past (commandOf c)
   reach-same from to opened own seen common f g o p q r =
       rw (any-next, any-next, any-next, any-last, p, q, r, o, f, g, sees-same (openIn t) (c .first), sees-same (c .first) (c .second), s .scope (c .second), s .flow (c .first), s .flow (c .third), s .opened)
 
@@ -142,6 +165,6 @@ module _ (t : List ℕ) (c : Code) (past : List Command) (s : Stands t past) whe
   pub violation-as :
       (g : ℕ) → g ≡ groupIn t
       → violation past (commandOf c)
-        ≡ cond (ltb (c .byte / 16) g) 4 (cond (exceedsCount past (commandOf c)) 5 (cond (undeclared past (commandOf c)) 6 (cond (outOfReach past (commandOf c)) 7 (cond (repeated past (commandOf c)) 8 0))))
+      ≡ cond (ltb (c .byte / 16) g) 4 (cond (exceedsCount past (commandOf c)) 5 (cond (undeclared past (commandOf c)) 6 (cond (outOfReach past (commandOf c)) 7 (cond (repeated past (commandOf c)) 8 0))))
   unfolding violation
   violation-as g e = rw (s .group (commandOf c), e)

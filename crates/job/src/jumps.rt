@@ -7,11 +7,14 @@ ghost use Rattle.model.specs.Command.{Command as Past};
 ghost use Rattle.model.specs.Refusal.{accepted, decode};
 ghost use Rattle.tables.specs.Stands.{Stands};
 ghost use Rattle.job.specs.Decoding.{Jumps};
-
+use crate::walk::Verdict;
 use command::bytes;
 use command::numbers::NodeNum;
-use command::read::{open_after, read_command, Command, Parsed, Refusal};
-use crate::walk::Verdict;
+use command::read::Command;
+use command::read::Parsed;
+use command::read::Refusal;
+use command::read::open_after;
+use command::read::read_command;
 use tables::ask::length_of;
 
 // A jump behind the end of a handler with so many commands.
@@ -22,7 +25,7 @@ fn is_far(c: Command, len: u32) -> bool
 }
 
 // 9: refused at the first jump behind the end of its handler.
-pub fn check_jumps(job: &[u8], t: &[u32]) -> Verdict
+pub(crate) fn check_jumps(job: &[u8], t: &[u32]) -> Verdict
     ensures { λ r. ⌜ ((all : List Past) → decode (now (job .entry)) ≡ accepted all → Stands (now (t .entry)) all → Jumps all r) ⌝ }
 {
     let mut at = 0;
@@ -34,7 +37,10 @@ pub fn check_jumps(job: &[u8], t: &[u32]) -> Verdict
         };
         let len = length_of(t, NodeNum(opened));
         if is_far(c, len) {
-            return Verdict::Refused(Refusal { number: 9, place: at });
+            return Verdict::Refused(Refusal {
+                number: 9,
+                place: at,
+            });
         }
         opened = open_after(c, opened);
         at = next;

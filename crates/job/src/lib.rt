@@ -7,10 +7,11 @@ pub mod walk;
 ghost use mathlib.Core.Path.{_≡_};
 ghost use lib.ListN.{length};
 ghost use Rattle.job.specs.Decoding.{Judges, Decides};
-
 use jumps::check_jumps;
-use tables::cells::{clear, CELLS};
-use walk::{walk, Verdict};
+use tables::cells::CELLS;
+use tables::cells::clear;
+use walk::Verdict;
+use walk::walk;
 
 // The tests 1 to 9: the verdict, and the tables of an accepted job.
 fn judge(job: &[u8], t: &mut [u32]) -> Verdict

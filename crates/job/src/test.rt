@@ -9,9 +9,10 @@ ghost use Rattle.command.specs.Rows.{kindOf, RowOf};
 ghost use Rattle.command.specs.Reading.{commandOf};
 ghost use Rattle.tables.specs.Stands.{Stands};
 ghost use Rattle.job.specs.Tests.{countsAs};
-
 use command::bytes;
-use command::numbers::{FunNum, NodeNum, VarNum};
+use command::numbers::FunNum;
+use command::numbers::NodeNum;
+use command::numbers::VarNum;
 use command::read::Command;
 use command::table;
 use tables::ask;
@@ -103,7 +104,8 @@ fn is_out_of_reach(t: &[u32], c: Command) -> bool
     let shared = ask::is_shared(t, VarNum(c.second));
     let uses = ((b == bytes::GET) | (b == bytes::PUT)) | (b == bytes::PLUS);
     let access = (b == bytes::READ) | (b == bytes::WRITE);
-    ((b == bytes::WIRE) & (from.0 != to.0)) | ((uses & !own) | ((access & !seen) | (access & !shared)))
+    ((b == bytes::WIRE) & (from.0 != to.0))
+        | ((uses & !own) | ((access & !seen) | (access & !shared)))
 }
 
 // 8: the same WIRE or permission again, a node's second BODY, a flow's second START.
@@ -128,7 +130,7 @@ fn is_repeated(t: &[u32], c: Command) -> bool
 }
 
 // The number of the first of the tests 4 to 8 that refuses a command, or 0.
-pub fn violation_of(t: &[u32], c: Command) -> u8
+pub(crate) fn violation_of(t: &[u32], c: Command) -> u8
     requires { ⌜ RowOf (c .byte) (c .row) ⌝ }
     ensures { λ r. ⌜ ((past : List Past) → Stands (now (t .entry)) past → Plain (commandOf c) → r ≡ violation past (commandOf c)) ⌝ }
 {

@@ -2,7 +2,6 @@
 ghost use mathlib.Core.Path.{_≡_};
 ghost use Prim.Native.Nat.{_-_, _*_};
 ghost use Rattle.job.specs.Program.{turnIn};
-
 use command::bytes;
 use command::numbers::NodeNum;
 use command::read::wide;

@@ -9,14 +9,16 @@ ghost use Rattle.command.specs.Rows.{RowOf};
 ghost use Rattle.command.specs.Reading.{commandOf};
 ghost use Rattle.tables.specs.Stands.{Stands};
 ghost use Rattle.job.specs.Decoding.{Steps, Walks};
-
-use command::read::{read_command, Command, Parsed, Refusal};
 use crate::test::violation_of;
+use command::read::Command;
+use command::read::Parsed;
+use command::read::Refusal;
+use command::read::read_command;
+use notes::note;
 use tables::cells::clear;
-use tables::note::note;
 
 // A step: to the place of the next command, or the refusal of the job.
-pub enum Step {
+pub(crate) enum Step {
     Next(usize),
     Stop(Refusal),
 }
@@ -31,9 +33,7 @@ pub enum Verdict {
 fn take(job: &[u8], at: usize, c: Command, next: usize, t: &mut [u32]) -> Step
     requires { ⌜ (at < length (now job)) × (length (now job) ≤ 16384) ⌝ }
     requires { ⌜ (readCommand (now job) at ≡ whole (commandOf c) next) × RowOf (c .byte) (c .row) ⌝ }
-    ensures {
-        λ r. ⌜ ((past : List Past) → Stands (now (t .entry)) past → Valid past → length past ≤ at → Steps (now (job .entry)) at past (now (t .exit)) r) ⌝
-    }
+    ensures { λ r. ⌜ ((past : List Past) → Stands (now (t .entry)) past → Valid past → length past ≤ at → Steps (now (job .entry)) at past (now (t .exit)) r) ⌝ }
 {
     let number = violation_of(t, c);
     if number != 0 {
@@ -46,9 +46,7 @@ fn take(job: &[u8], at: usize, c: Command, next: usize, t: &mut [u32]) -> Step
 // One step: the command at a place.
 fn advance(job: &[u8], at: usize, t: &mut [u32]) -> Step
     requires { ⌜ (at < length (now job)) × (length (now job) ≤ 16384) ⌝ }
-    ensures {
-        λ r. ⌜ ((past : List Past) → Stands (now (t .entry)) past → Valid past → length past ≤ at → Steps (now (job .entry)) at past (now (t .exit)) r) ⌝
-    }
+    ensures { λ r. ⌜ ((past : List Past) → Stands (now (t .entry)) past → Valid past → length past ≤ at → Steps (now (job .entry)) at past (now (t .exit)) r) ⌝ }
 {
     let read = read_command(job, at);
     match read {
@@ -58,16 +56,22 @@ fn advance(job: &[u8], at: usize, t: &mut [u32]) -> Step
 }
 
 // The tests 1 to 8: the verdict, and the tables of an accepted job.
-pub fn walk(job: &[u8], t: &mut [u32]) -> Verdict
+pub(crate) fn walk(job: &[u8], t: &mut [u32]) -> Verdict
     requires { ⌜ length (now t) ≡ 15936 ⌝ }
     ensures { λ r. ⌜ Walks (now (job .entry)) (now (t .exit)) r ⌝ }
 {
     clear(t);
     if job.len() == 0 {
-        return Verdict::Refused(Refusal { number: 1, place: 0 });
+        return Verdict::Refused(Refusal {
+            number: 1,
+            place: 0,
+        });
     }
     if 16384 < job.len() {
-        return Verdict::Refused(Refusal { number: 1, place: 0 });
+        return Verdict::Refused(Refusal {
+            number: 1,
+            place: 0,
+        });
     }
     let mut at = 0;
     while at < job.len() {

@@ -5,11 +5,15 @@ ghost use Prim.Native.Nat.{_<_};
 ghost use Rattle.model.specs.Declared.{isSeen};
 ghost use Rattle.tables.specs.Tables.{countIn, groupIn, openIn, flowIn, scopeIn, startIn, answerIn, sharedIn, seesIn, lengthIn, bodyIn, startedAt, firstsIn, wiredIn, readIn, writeIn, anyIn, callIn, listedIn};
 ghost use Rattle.tables.specs.Asked.{messagesOf};
-
-use command::bytes;
-use command::numbers::{FlowNum, FunNum, NodeNum, VarNum};
 use crate::cells;
-use crate::cells::{entry, flagged, marked};
+use crate::cells::entry;
+use crate::cells::flagged;
+use crate::cells::marked;
+use command::bytes;
+use command::numbers::FlowNum;
+use command::numbers::FunNum;
+use command::numbers::NodeNum;
+use command::numbers::VarNum;
 
 // How many commands have this byte.
 pub fn count_of(t: &[u32], byte: u8) -> u32

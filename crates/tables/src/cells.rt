@@ -17,31 +17,39 @@ pub const PROGRESS: Section = Section(128, 64);
 pub const FLOW: Section = Section(192, 64);
 // By variable: its scope, owner and start.
 pub const SCOPE: Section = Section(256, 64);
+
 pub const OWNER: Section = Section(320, 64);
+
 pub const INITIAL: Section = Section(384, 64);
 // By function: its answer.
 pub const ANSWER: Section = Section(448, 64);
 // By node: how many commands its handler has, and 1 if it has a BODY.
 pub const LENGTH: Section = Section(512, 64);
+
 pub const BODY: Section = Section(576, 64);
 // By flow: 1 if it has a START.
 pub const STARTED: Section = Section(640, 64);
 // By node: 1 if it has a START, and its first message.
 pub const FIRST: Section = Section(704, 64);
+
 pub const MESSAGE: Section = Section(768, 64);
 // By ARG command: node, function and argument.
 pub const ARG_NODE: Section = Section(832, 256);
+
 pub const ARG_FUNCTION: Section = Section(1088, 256);
+
 pub const ARG_VALUE: Section = Section(1344, 256);
 // 64 cells a node, by variable or function: 1 if there is a READ, a WRITE, an ANY.
 pub const READS: Section = Section(1600, 2048);
+
 pub const WRITES: Section = Section(3648, 2048);
+
 pub const CALLS: Section = Section(5696, 2048);
 // 64 cells a port, 4 ports a node, by target: 1 if there is a WIRE.
 pub const WIRES: Section = Section(7744, 8192);
 
 // Cell i of a section.
-pub fn entry(t: &[u32], s: Section, i: usize) -> u32
+pub(crate) fn entry(t: &[u32], s: Section, i: usize) -> u32
     requires { ⌜ s .0 + s .1 ≤ 15936 ⌝ }
     ensures { λ r. ⌜ r ≡ entryIn (now (t .entry)) s i ⌝ }
 {
@@ -74,7 +82,7 @@ pub fn put(t: &mut [u32], on: bool, s: Section, i: usize, x: u32)
 }
 
 // Whether cell i of a section is marked.
-pub fn flagged(t: &[u32], s: Section, i: usize) -> bool
+pub(crate) fn flagged(t: &[u32], s: Section, i: usize) -> bool
     requires { ⌜ s .0 + s .1 ≤ 15936 ⌝ }
     ensures { λ r. ⌜ r ≡ markIn (now (t .entry)) s i ⌝ }
 {
@@ -83,7 +91,7 @@ pub fn flagged(t: &[u32], s: Section, i: usize) -> bool
 }
 
 // Whether a cell of a section with 64 cells a row is marked.
-pub fn marked(t: &[u32], s: Section, row: usize, column: usize) -> bool
+pub(crate) fn marked(t: &[u32], s: Section, row: usize, column: usize) -> bool
     requires { ⌜ s .0 + s .1 ≤ 15936 ⌝ }
     ensures { λ r. ⌜ r ≡ gridIn (now (t .entry)) s row column ⌝ }
 {

@@ -1,4 +1,3 @@
-// What the commands of a job declare, as tables: the cells that hold it, what each of them says, and noting one more command.
+// What the commands of a job declare, as tables: the cells that hold it, and what each of them says.
 pub mod ask;
 pub mod cells;
-pub mod note;

@@ -75,10 +75,11 @@ loop-less c =
 loop-again : tie.Need-loop-again Inv-loop μ-loop
 loop-again c =
     let d = c .before .before .before .before .before .read .given .0 .0 in
-    let r = reads-whole _ _ _ d _ (c .before .before .before .before .before .before .before .read-command .ensures) (c .before .before .before .before .before .read .given .1) in
-    (omega (arith, c .open-after .ok),
-    λ all e stands.
-    looking-on _ all _ _ (c .before .before .before .before .before .before .before .before .before .loop .inv .1 all e stands) _ stands (c .before .before .before .before .before .before .before .before .loop-test .taken) d _ _ _ (r .0) (c .before .before .before .length-of .ensures) (c .before .before .is-far .ensures) (c .before .if1 .left) _ (c .open-after .ensures))
+    let r = reads-whole _ _ _ d _ (c .before .before .before .before .before .before .before .read-command .ensures) (c .before .before .before .before .before .read .given .1) in (
+      omega (arith, c .open-after .ok),
+      λ all e stands.
+          looking-on _ all _ _ (c .before .before .before .before .before .before .before .before .before .loop .inv .1 all e stands) _ stands (c .before .before .before .before .before .before .before .before .loop-test .taken) d _ _ _ (r .0) (c .before .before .before .length-of .ensures) (c .before .before .is-far .ensures) (c .before .if1 .left) _ (c .open-after .ensures),
+    )
 
 -- src/jumps.rt:35:1
 returns-3 : tie.Need-returns-3 Inv-loop μ-loop

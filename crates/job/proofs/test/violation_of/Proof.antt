@@ -50,8 +50,13 @@ is-out-of-reach-requires c κs = search needs
 returns-4 : tie.Need-returns-4
 returns-4 c =
     λ past s plain.
-    rw (violation-as _ _ past s _ (c .before .before .before .before .before .before .before .group .ensures), le-ltb _ _ (c .before .before .before .before .before .before .if1 .left), sym (c .before .before .before .before .before .exceeds-count .ensures past s) ∙ c .before .before .before .before .if2 .left, sym (c .before .before .before .is-undeclared .ensures past s) ∙ c .before .before .if3 .left,
-      sym (c .before .is-out-of-reach .ensures past s) ∙ c .if4 .taken)
+    rw (
+      violation-as _ _ past s _ (c .before .before .before .before .before .before .before .group .ensures),
+      le-ltb _ _ (c .before .before .before .before .before .before .if1 .left),
+      sym (c .before .before .before .before .before .exceeds-count .ensures past s) ∙ c .before .before .before .before .if2 .left,
+      sym (c .before .before .before .is-undeclared .ensures past s) ∙ c .before .before .if3 .left,
+      sym (c .before .is-out-of-reach .ensures past s) ∙ c .if4 .taken,
+    )
 
 -- src/test.rt:148:8
 is-repeated-requires : tie.Need-is-repeated-requires
@@ -61,15 +66,27 @@ is-repeated-requires c κs = search needs
 returns-5 : tie.Need-returns-5
 returns-5 c =
     λ past s plain.
-    rw (violation-as _ _ past s _ (c .before .before .before .before .before .before .before .before .before .group .ensures), le-ltb _ _ (c .before .before .before .before .before .before .before .before .if1 .left), sym (c .before .before .before .before .before .before .before .exceeds-count .ensures past s) ∙ c .before .before .before .before .before .before .if2 .left, sym (c .before .before .before .before .before .is-undeclared .ensures past s) ∙ c .before .before .before .before .if3 .left,
-      sym (c .before .before .before .is-out-of-reach .ensures past s) ∙ c .before .before .if4 .left, sym (c .before .is-repeated .ensures past s plain) ∙ c .if5 .taken)
+    rw (
+      violation-as _ _ past s _ (c .before .before .before .before .before .before .before .before .before .group .ensures),
+      le-ltb _ _ (c .before .before .before .before .before .before .before .before .if1 .left),
+      sym (c .before .before .before .before .before .before .before .exceeds-count .ensures past s) ∙ c .before .before .before .before .before .before .if2 .left,
+      sym (c .before .before .before .before .before .is-undeclared .ensures past s) ∙ c .before .before .before .before .if3 .left,
+      sym (c .before .before .before .is-out-of-reach .ensures past s) ∙ c .before .before .if4 .left,
+      sym (c .before .is-repeated .ensures past s plain) ∙ c .if5 .taken,
+    )
 
 -- src/test.rt:131:1
 returns-6 : tie.Need-returns-6
 returns-6 c =
     λ past s plain.
-    rw (violation-as _ _ past s _ (c .before .before .before .before .before .before .before .before .before .group .ensures), le-ltb _ _ (c .before .before .before .before .before .before .before .before .if1 .left), sym (c .before .before .before .before .before .before .before .exceeds-count .ensures past s) ∙ c .before .before .before .before .before .before .if2 .left, sym (c .before .before .before .before .before .is-undeclared .ensures past s) ∙ c .before .before .before .before .if3 .left,
-      sym (c .before .before .before .is-out-of-reach .ensures past s) ∙ c .before .before .if4 .left, sym (c .before .is-repeated .ensures past s plain) ∙ c .if5 .left)
+    rw (
+      violation-as _ _ past s _ (c .before .before .before .before .before .before .before .before .before .group .ensures),
+      le-ltb _ _ (c .before .before .before .before .before .before .before .before .if1 .left),
+      sym (c .before .before .before .before .before .before .before .exceeds-count .ensures past s) ∙ c .before .before .before .before .before .before .if2 .left,
+      sym (c .before .before .before .before .before .is-undeclared .ensures past s) ∙ c .before .before .before .before .if3 .left,
+      sym (c .before .before .before .is-out-of-reach .ensures past s) ∙ c .before .before .if4 .left,
+      sym (c .before .is-repeated .ensures past s plain) ∙ c .if5 .left,
+    )
 
 pub violation-of-spec : {M : Type 1} → statement M
 violation-of-spec =

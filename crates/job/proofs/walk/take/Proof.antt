@@ -7,7 +7,7 @@ use Rattle.job.proofs.walk.take.Tie as tie
 use Rattle.job.proofs.walk.take.Reads as reads
 use Rattle.job.proofs.walk.take.Lts as lts
 use Rattle.job.proofs.test.violation_of.Reads as violation-of-reads
-use Rattle.tables.proofs.note.note.Reads as note-reads
+use Rattle.notes.proofs.note.Reads as note-reads
 
 -- src/walk.rt:38:9
 violation-of-requires : tie.Need-violation-of-requires

@@ -37,7 +37,7 @@ entry-requires-3 c κs = search needs
 
 -- src/ask.rt:169:13
 returns : tie.Need-returns Inv-loop μ-loop
-returns c = 
+returns c =
     let h = rw (c .before .before .before .before .before .entry .ensures, c .before .before .before .before .entry2 .ensures, c .before .before .before .entry3 .ensures) at (c .if1 .taken) in
     sym (c .before .before .before .before .before .before .before .loop .inv ∙ listed-hit _ _ _ _ (c .before .before .before .before .before .before .before .loop .i) (c .before .before .before .before .before .before .loop-test .taken) h)
 
@@ -47,7 +47,7 @@ loop-less c = search needs
 
 -- src/ask.rt:163:5
 loop-again : tie.Need-loop-again Inv-loop μ-loop
-loop-again c = 
+loop-again c =
     let h = rw (c .before .before .before .before .before .entry .ensures, c .before .before .before .before .entry2 .ensures, c .before .before .before .entry3 .ensures) at (c .if1 .left) in
     c .before .before .before .before .before .before .before .loop .inv ∙ listed-miss _ _ _ _ (c .before .before .before .before .before .before .before .loop .i) (c .before .before .before .before .before .before .loop-test .taken) h
 

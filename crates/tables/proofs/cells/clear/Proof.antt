@@ -42,9 +42,11 @@ loop-again : tie.Need-loop-again Inv-loop μ-loop
 loop-again c =
     let l = c .before .loop in
     let z = l .inv .2 in
-    let m = c .loop-test .taken in
-    (omega (arith, length-set (l .t) (l .i) 0), length-set (l .t) (l .i) 0 ∙ l .inv .1,
-    below-more (λ k. getD (set (l .t) (l .i) 0) k 0 ≡ 0) (l .i) (λ k h. getD-set-other (l .t) (l .i) k 0 0 (λ e. omega arith) ∙ z k h) (getD-set-same (l .t) (l .i) 0 0 m))
+    let m = c .loop-test .taken in (
+      omega (arith, length-set (l .t) (l .i) 0),
+      length-set (l .t) (l .i) 0 ∙ l .inv .1,
+      below-more (λ k. getD (set (l .t) (l .i) 0) k 0 ≡ 0) (l .i) (λ k h. getD-set-other (l .t) (l .i) k 0 0 (λ e. omega arith) ∙ z k h) (getD-set-same (l .t) (l .i) 0 0 m),
+    )
 
 -- src/cells.rt:103:1
 same-length : tie.Need-same-length Inv-loop μ-loop

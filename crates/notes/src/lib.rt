@@ -6,16 +6,20 @@ ghost use lib.ListN.{length};
 ghost use Rattle.model.specs.Command.{Command as Past};
 ghost use Rattle.model.specs.Valid.{Valid};
 ghost use Rattle.command.specs.Reading.{commandOf};
 ghost use Rattle.tables.specs.Cells.{putIn};
 ghost use Rattle.tables.specs.Tables.{scopeCells, ownerCells, startCells, startedCells, firstCells, messageCells, argNodeCells, argFunctionCells, argValueCells};
 ghost use Rattle.tables.specs.Stands.{Stands};
-
+use tables::ask::count_of;
+use tables::ask::flow_of;
+use tables::ask::length_of;
+use tables::ask::open_node;
+use tables::cells;
+use tables::cells::mark;
+use tables::cells::put;
 use command::bytes;
-use command::numbers::{FlowNum, NodeNum};
+use command::numbers::FlowNum;
+use command::numbers::NodeNum;
 use command::read::Command;
-use crate::ask::{count_of, flow_of, length_of, open_node};
-use crate::cells;
-use crate::cells::{mark, put};
 
 // One more, for a number that is small.
 fn bumped(n: u32) -> u32
@@ -39,9 +43,7 @@ fn lowered(n: u32) -> u32
 
 // Scope, owner and start of variable x.
 fn note_variable(t: &mut [u32], on: bool, x: usize, c: Command)
-    ensures {
-        λ _. ⌜ now (t .exit) ≡ putIn (putIn (putIn (now (t .entry)) on scopeCells x (c .first)) on ownerCells x (c .second)) on startCells x (c .third) ⌝
-    }
+    ensures { λ _. ⌜ now (t .exit) ≡ putIn (putIn (putIn (now (t .entry)) on scopeCells x (c .first)) on ownerCells x (c .second)) on startCells x (c .third) ⌝ }
 {
     put(t, on, cells::SCOPE, x, c.first);
     put(t, on, cells::OWNER, x, c.second);
@@ -50,9 +52,7 @@ fn note_variable(t: &mut [u32], on: bool, x: usize, c: Command)
 
 // A START: of the flow, and the first message of the node.
 fn note_start(t: &mut [u32], on: bool, f: FlowNum, c: Command)
-    ensures {
-        λ _. ⌜ now (t .exit) ≡ putIn (putIn (putIn (now (t .entry)) on startedCells (f .0) 1) on firstCells (c .first) 1) on messageCells (c .first) (c .second) ⌝
-    }
+    ensures { λ _. ⌜ now (t .exit) ≡ putIn (putIn (putIn (now (t .entry)) on startedCells (f .0) 1) on firstCells (c .first) 1) on messageCells (c .first) (c .second) ⌝ }
 {
     let n = c.first as usize;
     put(t, on, cells::STARTED, f.0 as usize, 1);
@@ -62,9 +62,7 @@ fn note_start(t: &mut [u32], on: bool, f: FlowNum, c: Command)
 
 // Node, function and argument of ARG command i.
 fn note_argument(t: &mut [u32], on: bool, i: usize, c: Command)
-    ensures {
-        λ _. ⌜ now (t .exit) ≡ putIn (putIn (putIn (now (t .entry)) on argNodeCells i (c .first)) on argFunctionCells i (c .second)) on argValueCells i (c .third) ⌝
-    }
+    ensures { λ _. ⌜ now (t .exit) ≡ putIn (putIn (putIn (now (t .entry)) on argNodeCells i (c .first)) on argFunctionCells i (c .second)) on argValueCells i (c .third) ⌝ }
 {
     put(t, on, cells::ARG_NODE, i, c.first);
     put(t, on, cells::ARG_FUNCTION, i, c.second);
@@ -73,10 +71,8 @@ fn note_argument(t: &mut [u32], on: bool, i: usize, c: Command)
 
 // Notes a command that passed the tests: the tables then stand for one command more.
 pub fn note(t: &mut [u32], c: Command)
-    ensures {
-        λ _. ⌜ ((past : List Past) → Stands (now (t .entry)) past → Valid (commandOf c ∷ past) → length past < 65536
-        → Stands (now (t .exit)) (commandOf c ∷ past)) ⌝
-    }
+    ensures { λ _. ⌜ ((past : List Past) → Stands (now (t .entry)) past → Valid (commandOf c ∷ past) → length past < 65536
+        → Stands (now (t .exit)) (commandOf c ∷ past)) ⌝ }
 {
     let b = c.byte;
     let first = c.first as usize;

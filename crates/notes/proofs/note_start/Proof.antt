@@ -1,9 +1,9 @@
 use borrow.Author.Needs.{needs}
-use Rattle.tables.proofs.note.note_start.Statement.{statement}
-use Rattle.tables.proofs.note.note_start.Tie as tie
-use Rattle.tables.proofs.note.note_start.Reads as reads
-use Rattle.tables.proofs.note.note_start.Lts as lts
+use Rattle.notes.proofs.note_start.Statement.{statement}
+use Rattle.notes.proofs.note_start.Tie as tie
+use Rattle.notes.proofs.note_start.Reads as reads
+use Rattle.notes.proofs.note_start.Lts as lts
 use Rattle.tables.proofs.cells.put.Reads as put-reads
 
 -- src/note.rt:57:13
 cast-n : tie.Need-cast-n

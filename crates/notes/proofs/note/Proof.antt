@@ -1,22 +1,22 @@
 use native.Mathlib.Omega.{arith}
-use Rattle.tables.proofs.Noting.{stands-noted}
+use Rattle.notes.proofs.Noting.{stands-noted}
 use borrow.Author.Needs.{needs}
-use Rattle.tables.proofs.note.note.Statement.{statement}
-use Rattle.tables.proofs.note.note.Tie as tie
-use Rattle.tables.proofs.note.note.Reads as reads
-use Rattle.tables.proofs.note.note.Lts as lts
+use Rattle.notes.proofs.note.Statement.{statement}
+use Rattle.notes.proofs.note.Tie as tie
+use Rattle.notes.proofs.note.Reads as reads
+use Rattle.notes.proofs.note.Lts as lts
 use Rattle.command.proofs.bytes.is_handler.Reads as is-handler-reads
 use Rattle.tables.proofs.ask.count_of.Reads as count-of-reads
 use Rattle.tables.proofs.ask.flow_of.Reads as flow-of-reads
 use Rattle.tables.proofs.ask.length_of.Reads as length-of-reads
 use Rattle.tables.proofs.ask.open_node.Reads as open-node-reads
 use Rattle.tables.proofs.cells.mark.Reads as mark-reads
 use Rattle.tables.proofs.cells.put.Reads as put-reads
-use Rattle.tables.proofs.note.bumped.Reads as bumped-reads
-use Rattle.tables.proofs.note.lowered.Reads as lowered-reads
-use Rattle.tables.proofs.note.note_argument.Reads as note-argument-reads
-use Rattle.tables.proofs.note.note_start.Reads as note-start-reads
-use Rattle.tables.proofs.note.note_variable.Reads as note-variable-reads
+use Rattle.notes.proofs.bumped.Reads as bumped-reads
+use Rattle.notes.proofs.lowered.Reads as lowered-reads
+use Rattle.notes.proofs.note_argument.Reads as note-argument-reads
+use Rattle.notes.proofs.note_start.Reads as note-start-reads
+use Rattle.notes.proofs.note_variable.Reads as note-variable-reads
 
 -- src/note.rt:82:17
 cast-first : tie.Need-cast-first

@@ -21,13 +21,13 @@ use Rattle.model.proofs.Ranges.{open-inside, starts-one}
 use Rattle.model.proofs.Valid.{passes, limits, named}
 use Rattle.command.specs.declared.read.Command.{Command as Code}
 use Rattle.command.specs.Reading.{commandOf}
 use Rattle.tables.specs.declared.cells.Section.{Section}
 use Rattle.tables.specs.Cells.{entryIn, putIn, markIn, gridIn, markAt}
 use Rattle.tables.specs.Tables.{countCells, progressCells, flowCells, scopeCells, ownerCells, startCells, answerCells, lengthCells, bodyCells, startedCells, firstCells, messageCells, argNodeCells, argFunctionCells, argValueCells, readCells, writeCells, anyCells, wireCells, countIn, groupIn, openIn, flowIn, lengthIn, listedIn, wiredIn}
 use Rattle.tables.specs.Stands.{Stands}
-use Rattle.tables.proofs.Sections.{Write, write, written, sorted, left, length-written, entry-written}
+use Rattle.notes.proofs.Sections.{Write, write, written, sorted, left, length-written, entry-written}
 use Rattle.command.proofs.Known.{byte-low}
-use Rattle.tables.proofs.Cases.{column, flag, grid, wire}
+use Rattle.notes.proofs.Cases.{column, flag, grid, wire}
 
 -- the writes for a command, by the cells before
 abbrev pub noteWrites : List ℕ → Command → List Write
@@ -145,7 +145,7 @@ module _ (t : List ℕ) (past : List Command) (c : Command) (s : Stands t past) 
   counts-next b h =
       in-section countCells (omega arith) refl b
       ∙ column true (c .byte) b 128 (countIn t (c .byte) + 1) (countIn t b) (countOf b past + 1) (countOf b past) (λ e. byte-low (c .byte) (v .1 .known))
-        (λ e q. rw (q, s .counts b h)) (s .counts b h)
+      (λ e q. rw (q, s .counts b h)) (s .counts b h)
 
   group-next : (d : Command) → groupFalls (c ∷ past) d ≡ ltb (groupOf (d .byte)) (groupIn after)
   unfolding groupFalls
@@ -161,7 +161,7 @@ module _ (t : List ℕ) (past : List Command) (c : Command) (s : Stands t past) 
   flow-next n =
       in-section flowCells (omega arith) refl n
       ∙ declared-column (λ c before. countOf FLOW before - 1) NODE (countIn t NODE) 64 (countIn t FLOW - 1) (flowIn t n) n (s .counts NODE (omega arith))
-        (λ e. omega (arith, room NODE 32 (limits (c ∷ past) v .nodes) e)) (rw (s .counts FLOW (omega arith))) (s .flow n)
+      (λ e. omega (arith, room NODE 32 (limits (c ∷ past) v .nodes) e)) (rw (s .counts FLOW (omega arith))) (s .flow n)
 
   module _ (x : ℕ) where
     variable-room : is VAR c ≡ true → countOf VAR past < 64
@@ -186,13 +186,13 @@ module _ (t : List ℕ) (past : List Command) (c : Command) (s : Stands t past) 
   answer-next f =
       in-section answerCells (omega arith) refl f
       ∙ declared-column (λ c before. c .operands .first) FUN (countIn t FUN) 64 (c .operands .first) (entryIn t answerCells f) f (s .counts FUN (omega arith))
-        (λ e. omega (arith, room FUN 32 (limits (c ∷ past) v .functions) e)) refl (s .answer f)
+      (λ e. omega (arith, room FUN 32 (limits (c ∷ past) v .functions) e)) refl (s .answer f)
 
   lengths-next : (n : ℕ) → lengthIn after n ≡ bodyLength (c ∷ past) n
   lengths-next n =
       in-section lengthCells (omega arith) refl n
       ∙ column (isHandler c) (openIn t) n 64 (lengthIn t (openIn t) + 1) (lengthIn t n) (bodyLength past n + 1) (bodyLength past n)
-        (λ e. omega (arith, s .opened, open-inside past (v .0))) (λ e q. rw (q, s .lengths n)) (s .lengths n)
+      (λ e. omega (arith, s .opened, open-inside past (v .0))) (λ e q. rw (q, s .lengths n)) (s .lengths n)
       ∙ rw (s .opened, body-next c past n)
 
   -- an operand of a command with this byte
@@ -241,7 +241,7 @@ module _ (t : List ℕ) (past : List Command) (c : Command) (s : Stands t past) 
   started-after f =
       rw (in-section startedCells (omega arith) refl f)
       (flag (is START c) (flowIn t (c .operands .first)) f 64 (entryIn t startedCells f) (startedIn past f)
-        (λ e. omega (arith, s .flow (c .operands .first), flow-counted past (c .operands .first), limits past (v .0) .flows)) (s .started f)
+      (λ e. omega (arith, s .flow (c .operands .first), flow-counted past (c .operands .first), limits past (v .0) .flows)) (s .started f)
       ∙ rw (started-next c past f, s .flow (c .operands .first)))
 
   grid-next :
@@ -253,14 +253,14 @@ module _ (t : List ℕ) (past : List Command) (c : Command) (s : Stands t past) 
   grid-next r b size row x e h q =
       rw e
       (grid (c .operands .first) (c .operands .second) row x 2048 (entryIn t r (row * 64 + x)) (is b c) (occurs b (binary row x) past)
-        (λ p. omega (arith, h p .0)) (λ p. h p .1) (λ p. omega (arith, h p .0, h p .1)) q
+      (λ p. omega (arith, h p .0)) (λ p. h p .1) (λ p. omega (arith, h p .0, h p .1)) q
       ∙ rw (occurs-next c past b (binary row x), same-two))
     where
       same-two : (is b c && (eqb (c .operands .first) row && eqb (c .operands .second) x)) ≡ isSame b (binary row x) c
       same-two = by-byte (is b c) h
         where
           by-byte : (p : Bool) → (p ≡ true → (c .operands .first < 32) × (c .operands .second < 64) × (c .operands .third ≡ 0))
-            → (p && (eqb (c .operands .first) row && eqb (c .operands .second) x)) ≡ (p && (eqb (c .operands .first) row && (eqb (c .operands .second) x && eqb (c .operands .third) 0)))
+              → (p && (eqb (c .operands .first) row && eqb (c .operands .second) x)) ≡ (p && (eqb (c .operands .first) row && (eqb (c .operands .second) x && eqb (c .operands .third) 0)))
           by-byte false h = refl
           by-byte true h = rw (h refl .2) (ap (λ (y : Bool). eqb (c .operands .first) row && y) (sym (and-true (eqb (c .operands .second) x))))
 
@@ -279,7 +279,7 @@ module _ (t : List ℕ) (past : List Command) (c : Command) (s : Stands t past) 
   wire-grid row m =
       rw (in-section wireCells (omega arith) refl (row * 64 + m))
       (grid (c .operands .first * 4 + c .operands .second) (c .operands .third) row m 8192 (entryIn t wireCells (row * 64 + m)) (is WIRE c) ((ltb row 128 && ltb m 64) && not (eqb (entryIn t wireCells (row * 64 + m)) 0))
-        (λ p. omega (arith, wire-range p .0, wire-range p .1)) (λ p. omega (arith, wire-range p .2)) (λ p. omega (arith, wire-range p .0, wire-range p .1, wire-range p .2)) refl)
+      (λ p. omega (arith, wire-range p .0, wire-range p .1)) (λ p. omega (arith, wire-range p .2)) (λ p. omega (arith, wire-range p .0, wire-range p .1, wire-range p .2)) refl)
 
   wires-next : (n p m : ℕ) → wiredIn after n p m ≡ occurs WIRE (ternary n p m) (c ∷ past)
   wires-next n p m =
@@ -295,7 +295,7 @@ module _ (t : List ℕ) (past : List Command) (c : Command) (s : Stands t past) 
   firsts-next n =
       rw (in-section firstCells (omega arith) refl n, in-section messageCells (omega arith) refl n, starts-next c past n)
       (first-message (is START c) (c .operands .first) n 64 (entryIn t firstCells n) (entryIn t messageCells n) (c .operands .second) (startsOf past n)
-        (λ e. omega (arith, start-range e)) (s .firsts n) (λ e q. alone (rw (e, q) at (rw (starts-next c past n) at (starts-one (c ∷ past) v n)))))
+      (λ e. omega (arith, start-range e)) (s .firsts n) (λ e q. alone (rw (e, q) at (rw (starts-next c past n) at (starts-one (c ∷ past) v n)))))
     where
       alone : length (startsOf past n ++ (c .operands .second ∷ [])) ≤ 1 → startsOf past n ≡ []
       alone h = empty-list (startsOf past n) (omega (arith, length-append (startsOf past n) (c .operands .second ∷ [])))
@@ -304,8 +304,8 @@ module _ (t : List ℕ) (past : List Command) (c : Command) (s : Stands t past) 
   argument-cells :
       (i : ℕ)
       → (entryIn after argNodeCells i ≡ cond (is ARG c && (eqb (countIn t ARG) i && ltb i 256)) (c .operands .first) (entryIn t argNodeCells i))
-        × (entryIn after argFunctionCells i ≡ cond (is ARG c && (eqb (countIn t ARG) i && ltb i 256)) (c .operands .second) (entryIn t argFunctionCells i))
-        × (entryIn after argValueCells i ≡ cond (is ARG c && (eqb (countIn t ARG) i && ltb i 256)) (c .operands .third) (entryIn t argValueCells i))
+      × (entryIn after argFunctionCells i ≡ cond (is ARG c && (eqb (countIn t ARG) i && ltb i 256)) (c .operands .second) (entryIn t argFunctionCells i))
+      × (entryIn after argValueCells i ≡ cond (is ARG c && (eqb (countIn t ARG) i && ltb i 256)) (c .operands .third) (entryIn t argValueCells i))
   argument-cells i = (in-section argNodeCells (omega arith) refl i, in-section argFunctionCells (omega arith) refl i, in-section argValueCells (omega arith) refl i)
 
   -- those before keep their cells

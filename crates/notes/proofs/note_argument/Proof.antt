@@ -1,9 +1,9 @@
 use borrow.Author.Needs.{needs}
-use Rattle.tables.proofs.note.note_argument.Statement.{statement}
-use Rattle.tables.proofs.note.note_argument.Tie as tie
-use Rattle.tables.proofs.note.note_argument.Reads as reads
-use Rattle.tables.proofs.note.note_argument.Lts as lts
+use Rattle.notes.proofs.note_argument.Statement.{statement}
+use Rattle.notes.proofs.note_argument.Tie as tie
+use Rattle.notes.proofs.note_argument.Reads as reads
+use Rattle.notes.proofs.note_argument.Lts as lts
 use Rattle.tables.proofs.cells.put.Reads as put-reads
 
 -- src/note.rt:69:5
 put-requires : tie.Need-put-requires

@@ -1,9 +1,9 @@
 use borrow.Author.Needs.{needs}
-use Rattle.tables.proofs.note.note_variable.Statement.{statement}
-use Rattle.tables.proofs.note.note_variable.Tie as tie
-use Rattle.tables.proofs.note.note_variable.Reads as reads
-use Rattle.tables.proofs.note.note_variable.Lts as lts
+use Rattle.notes.proofs.note_variable.Statement.{statement}
+use Rattle.notes.proofs.note_variable.Tie as tie
+use Rattle.notes.proofs.note_variable.Reads as reads
+use Rattle.notes.proofs.note_variable.Lts as lts
 use Rattle.tables.proofs.cells.put.Reads as put-reads
 
 -- src/note.rt:46:5
 put-requires : tie.Need-put-requires

@@ -30,7 +30,7 @@ flag true j i k old older h q = by-cell (eqb j i) refl
 -- a mark at a row and a column
 module _ (a b r x k old : ℕ) where
   inside : (on : Bool) (older : Bool) → (on ≡ true → a * 64 + b < k) → not (eqb old 0) ≡ older → (eqb (a * 64 + b) (r * 64 + x) ≡ (eqb a r && eqb b x))
-    → not (eqb (cond (on && (eqb (a * 64 + b) (r * 64 + x) && ltb (r * 64 + x) k)) 1 old) 0) ≡ ((on && (eqb a r && eqb b x)) || older)
+      → not (eqb (cond (on && (eqb (a * 64 + b) (r * 64 + x) && ltb (r * 64 + x) k)) 1 old) 0) ≡ ((on && (eqb a r && eqb b x)) || older)
   inside on older h q e = flag on (a * 64 + b) (r * 64 + x) k old older h q ∙ rw e
 
   same-cell : b < 64 → x < 64 → eqb (a * 64 + b) (r * 64 + x) ≡ (eqb a r && eqb b x)
