@@ -15,7 +15,7 @@ use command::read::Parsed;
 use command::read::Refusal;
 use command::read::open_after;
 use command::read::read_command;
-use tables::ask::length_of;
+use declared::length_of;
 
 // A jump behind the end of a handler with so many commands.
 fn is_far(c: Command, len: u32) -> bool

@@ -15,7 +15,6 @@ use command::numbers::NodeNum;
 use command::numbers::VarNum;
 use command::read::Command;
 use command::table;
-use tables::ask;
 
 // How many flows, nodes, variables and functions are declared.
 struct Counts {
@@ -32,9 +31,9 @@ fn exceeds_count(t: &[u32], c: Command) -> bool
 {
     let row = table::row_at(c.row);
     let most = row.8 as u32;
-    let have = ask::count_of(t, c.byte);
-    let opened = ask::open_node(t);
-    let inside = ask::length_of(t, opened);
+    let have = declared::count_of(t, c.byte);
+    let opened = declared::open_node(t);
+    let inside = declared::length_of(t, opened);
     let body = bytes::is_handler(c.byte);
     ((most != 0) & (most <= have)) | (body & (64 <= inside))
 }
@@ -72,11 +71,11 @@ fn is_undeclared(t: &[u32], c: Command) -> bool
     ensures { λ r. ⌜ ((past : List Past) → Stands (now (t .entry)) past → r ≡ undeclared past (commandOf c)) ⌝ }
 {
     let row = table::row_at(c.row);
-    let flows = ask::count_of(t, bytes::FLOW);
-    let nodes = ask::count_of(t, bytes::NODE);
-    let variables = ask::count_of(t, bytes::VAR);
-    let functions = ask::count_of(t, bytes::FUN);
-    let bodies = ask::count_of(t, bytes::BODY);
+    let flows = declared::count_of(t, bytes::FLOW);
+    let nodes = declared::count_of(t, bytes::NODE);
+    let variables = declared::count_of(t, bytes::VAR);
+    let functions = declared::count_of(t, bytes::FUN);
+    let bodies = declared::count_of(t, bytes::BODY);
     let d = Counts {
         flows,
         nodes,
@@ -96,12 +95,12 @@ fn is_out_of_reach(t: &[u32], c: Command) -> bool
     ensures { λ r. ⌜ ((past : List Past) → Stands (now (t .entry)) past → r ≡ outOfReach past (commandOf c)) ⌝ }
 {
     let b = c.byte;
-    let from = ask::flow_of(t, NodeNum(c.first));
-    let to = ask::flow_of(t, NodeNum(c.third));
-    let opened = ask::open_node(t);
-    let own = ask::sees(t, opened, VarNum(c.first));
-    let seen = ask::sees(t, NodeNum(c.first), VarNum(c.second));
-    let shared = ask::is_shared(t, VarNum(c.second));
+    let from = declared::flow_of(t, NodeNum(c.first));
+    let to = declared::flow_of(t, NodeNum(c.third));
+    let opened = declared::open_node(t);
+    let own = declared::sees(t, opened, VarNum(c.first));
+    let seen = declared::sees(t, NodeNum(c.first), VarNum(c.second));
+    let shared = declared::is_shared(t, VarNum(c.second));
     let uses = ((b == bytes::GET) | (b == bytes::PUT)) | (b == bytes::PLUS);
     let access = (b == bytes::READ) | (b == bytes::WRITE);
     ((b == bytes::WIRE) & (from.0 != to.0))
@@ -115,15 +114,15 @@ fn is_repeated(t: &[u32], c: Command) -> bool
     let n = NodeNum(c.first);
     let b = c.byte;
     match b {
-        bytes::WIRE => ask::is_wired(t, n, c.second, NodeNum(c.third)),
-        bytes::ANY => ask::may_call_any(t, n, FunNum(c.second)),
-        bytes::ARG => ask::may_call_with(t, n, FunNum(c.second), c.third),
-        bytes::READ => ask::may_read(t, n, VarNum(c.second)),
-        bytes::WRITE => ask::may_write(t, n, VarNum(c.second)),
-        bytes::BODY => ask::has_body(t, n),
+        bytes::WIRE => allowlists::is_wired(t, n, c.second, NodeNum(c.third)),
+        bytes::ANY => allowlists::may_call_any(t, n, FunNum(c.second)),
+        bytes::ARG => allowlists::may_call_with(t, n, FunNum(c.second), c.third),
+        bytes::READ => allowlists::may_read(t, n, VarNum(c.second)),
+        bytes::WRITE => allowlists::may_write(t, n, VarNum(c.second)),
+        bytes::BODY => declared::has_body(t, n),
         bytes::START => {
-            let flow = ask::flow_of(t, n);
-            ask::has_start(t, flow)
+            let flow = declared::flow_of(t, n);
+            declared::has_start(t, flow)
         }
         _ => false,
     }
@@ -135,7 +134,7 @@ pub(crate) fn violation_of(t: &[u32], c: Command) -> u8
     ensures { λ r. ⌜ ((past : List Past) → Stands (now (t .entry)) past → Plain (commandOf c) → r ≡ violation past (commandOf c)) ⌝ }
 {
     let group = (c.byte / 16) as u32;
-    if group < ask::group(t) {
+    if group < declared::group(t) {
         return 4;
     }
     if exceeds_count(t, c) {

@@ -5,7 +5,7 @@ ghost use Rattle.job.specs.Program.{turnIn};
 use command::bytes;
 use command::numbers::NodeNum;
 use command::read::wide;
-use tables::ask::count_of;
+use declared::count_of;
 
 // So many places before the end, and 0 where there are fewer.
 fn before_end(len: usize, back: usize) -> usize

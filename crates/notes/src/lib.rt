@@ -9,17 +9,17 @@ ghost use Rattle.command.specs.Reading.{commandOf};
 ghost use Rattle.tables.specs.Cells.{putIn};
 ghost use Rattle.tables.specs.Tables.{scopeCells, ownerCells, startCells, startedCells, firstCells, messageCells, argNodeCells, argFunctionCells, argValueCells};
 ghost use Rattle.tables.specs.Stands.{Stands};
-use tables::ask::count_of;
-use tables::ask::flow_of;
-use tables::ask::length_of;
-use tables::ask::open_node;
-use tables::cells;
-use tables::cells::mark;
-use tables::cells::put;
 use command::bytes;
 use command::numbers::FlowNum;
 use command::numbers::NodeNum;
 use command::read::Command;
+use declared::count_of;
+use declared::flow_of;
+use declared::length_of;
+use declared::open_node;
+use tables::cells;
+use tables::cells::mark;
+use tables::cells::put;
 
 // One more, for a number that is small.
 fn bumped(n: u32) -> u32

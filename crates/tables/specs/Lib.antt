@@ -1,4 +1,3 @@
 pub mod Cells
 pub mod Tables
 pub mod Stands
-pub mod Asked

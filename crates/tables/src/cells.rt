@@ -49,7 +49,7 @@ pub const CALLS: Section = Section(5696, 2048);
 pub const WIRES: Section = Section(7744, 8192);
 
 // Cell i of a section.
-pub(crate) fn entry(t: &[u32], s: Section, i: usize) -> u32
+pub fn entry(t: &[u32], s: Section, i: usize) -> u32
     requires { ⌜ s .0 + s .1 ≤ 15936 ⌝ }
     ensures { λ r. ⌜ r ≡ entryIn (now (t .entry)) s i ⌝ }
 {
@@ -82,7 +82,7 @@ pub fn put(t: &mut [u32], on: bool, s: Section, i: usize, x: u32)
 }
 
 // Whether cell i of a section is marked.
-pub(crate) fn flagged(t: &[u32], s: Section, i: usize) -> bool
+pub fn flagged(t: &[u32], s: Section, i: usize) -> bool
     requires { ⌜ s .0 + s .1 ≤ 15936 ⌝ }
     ensures { λ r. ⌜ r ≡ markIn (now (t .entry)) s i ⌝ }
 {
@@ -91,7 +91,7 @@ pub(crate) fn flagged(t: &[u32], s: Section, i: usize) -> bool
 }
 
 // Whether a cell of a section with 64 cells a row is marked.
-pub(crate) fn marked(t: &[u32], s: Section, row: usize, column: usize) -> bool
+pub fn marked(t: &[u32], s: Section, row: usize, column: usize) -> bool
     requires { ⌜ s .0 + s .1 ≤ 15936 ⌝ }
     ensures { λ r. ⌜ r ≡ gridIn (now (t .entry)) s row column ⌝ }
 {

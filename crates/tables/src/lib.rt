@@ -1,3 +1,2 @@
-// What the commands of a job declare, as tables: the cells that hold it, and what each of them says.
-pub mod ask;
+// What the commands of a job declare, as tables: the cells that hold it. The definitions say what each cell stands for.
 pub mod cells;

@@ -6,10 +6,10 @@ use Rattle.notes.proofs.note.Tie as tie
 use Rattle.notes.proofs.note.Reads as reads
 use Rattle.notes.proofs.note.Lts as lts
 use Rattle.command.proofs.bytes.is_handler.Reads as is-handler-reads
-use Rattle.tables.proofs.ask.count_of.Reads as count-of-reads
-use Rattle.tables.proofs.ask.flow_of.Reads as flow-of-reads
-use Rattle.tables.proofs.ask.length_of.Reads as length-of-reads
-use Rattle.tables.proofs.ask.open_node.Reads as open-node-reads
+use Rattle.declared.proofs.count_of.Reads as count-of-reads
+use Rattle.declared.proofs.flow_of.Reads as flow-of-reads
+use Rattle.declared.proofs.length_of.Reads as length-of-reads
+use Rattle.declared.proofs.open_node.Reads as open-node-reads
 use Rattle.tables.proofs.cells.mark.Reads as mark-reads
 use Rattle.tables.proofs.cells.put.Reads as put-reads
 use Rattle.notes.proofs.bumped.Reads as bumped-reads

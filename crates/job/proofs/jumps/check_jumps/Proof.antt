@@ -17,7 +17,7 @@ use Rattle.job.proofs.jumps.check_jumps.Lts as lts
 use Rattle.command.proofs.read.read_command.Reads as read-command-reads
 use Rattle.job.proofs.jumps.is_far.Reads as is-far-reads
 use Rattle.command.proofs.read.open_after.Reads as open-after-reads
-use Rattle.tables.proofs.ask.length_of.Reads as length-of-reads
+use Rattle.declared.proofs.length_of.Reads as length-of-reads
 
 abbrev Inv-loop : tie.InvT-loop
 Inv-loop job t at₀ opened₀ at opened = (opened < 4294967296) × ((all : List Command) → decode job ≡ accepted all → Stands t all → Looking job all at opened)

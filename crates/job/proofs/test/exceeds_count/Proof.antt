@@ -6,9 +6,9 @@ use Rattle.job.proofs.test.exceeds_count.Reads as reads
 use Rattle.job.proofs.test.exceeds_count.Lts as lts
 use Rattle.command.proofs.bytes.is_handler.Reads as is-handler-reads
 use Rattle.command.proofs.table.row_at.Reads as row-at-reads
-use Rattle.tables.proofs.ask.count_of.Reads as count-of-reads
-use Rattle.tables.proofs.ask.length_of.Reads as length-of-reads
-use Rattle.tables.proofs.ask.open_node.Reads as open-node-reads
+use Rattle.declared.proofs.count_of.Reads as count-of-reads
+use Rattle.declared.proofs.length_of.Reads as length-of-reads
+use Rattle.declared.proofs.open_node.Reads as open-node-reads
 
 -- src/test.rt:32:9
 row-at-requires : tie.Need-row-at-requires

@@ -4,10 +4,10 @@ use Rattle.job.proofs.test.is_out_of_reach.Statement.{statement}
 use Rattle.job.proofs.test.is_out_of_reach.Tie as tie
 use Rattle.job.proofs.test.is_out_of_reach.Reads as reads
 use Rattle.job.proofs.test.is_out_of_reach.Lts as lts
-use Rattle.tables.proofs.ask.flow_of.Reads as flow-of-reads
-use Rattle.tables.proofs.ask.is_shared.Reads as is-shared-reads
-use Rattle.tables.proofs.ask.open_node.Reads as open-node-reads
-use Rattle.tables.proofs.ask.sees.Reads as sees-reads
+use Rattle.declared.proofs.flow_of.Reads as flow-of-reads
+use Rattle.declared.proofs.is_shared.Reads as is-shared-reads
+use Rattle.declared.proofs.open_node.Reads as open-node-reads
+use Rattle.declared.proofs.sees.Reads as sees-reads
 
 -- src/test.rt:98:9
 flow-of-requires : tie.Need-flow-of-requires

@@ -4,14 +4,14 @@ use Rattle.job.proofs.test.is_repeated.Statement.{statement}
 use Rattle.job.proofs.test.is_repeated.Tie as tie
 use Rattle.job.proofs.test.is_repeated.Reads as reads
 use Rattle.job.proofs.test.is_repeated.Lts as lts
-use Rattle.tables.proofs.ask.flow_of.Reads as flow-of-reads
-use Rattle.tables.proofs.ask.has_body.Reads as has-body-reads
-use Rattle.tables.proofs.ask.has_start.Reads as has-start-reads
-use Rattle.tables.proofs.ask.is_wired.Reads as is-wired-reads
-use Rattle.tables.proofs.ask.may_call_any.Reads as may-call-any-reads
-use Rattle.tables.proofs.ask.may_call_with.Reads as may-call-with-reads
-use Rattle.tables.proofs.ask.may_read.Reads as may-read-reads
-use Rattle.tables.proofs.ask.may_write.Reads as may-write-reads
+use Rattle.declared.proofs.flow_of.Reads as flow-of-reads
+use Rattle.declared.proofs.has_body.Reads as has-body-reads
+use Rattle.declared.proofs.has_start.Reads as has-start-reads
+use Rattle.allowlists.proofs.is_wired.Reads as is-wired-reads
+use Rattle.allowlists.proofs.may_call_any.Reads as may-call-any-reads
+use Rattle.allowlists.proofs.may_call_with.Reads as may-call-with-reads
+use Rattle.allowlists.proofs.may_read.Reads as may-read-reads
+use Rattle.allowlists.proofs.may_write.Reads as may-write-reads
 
 -- src/test.rt:116:24
 is-wired-requires : tie.Need-is-wired-requires

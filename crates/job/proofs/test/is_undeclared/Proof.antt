@@ -7,7 +7,7 @@ use Rattle.job.proofs.test.is_undeclared.Lts as lts
 use Rattle.command.proofs.bytes.is_handler.Reads as is-handler-reads
 use Rattle.command.proofs.table.row_at.Reads as row-at-reads
 use Rattle.job.proofs.test.names_nothing.Reads as names-nothing-reads
-use Rattle.tables.proofs.ask.count_of.Reads as count-of-reads
+use Rattle.declared.proofs.count_of.Reads as count-of-reads
 
 -- src/test.rt:73:9
 row-at-requires : tie.Need-row-at-requires

@@ -10,7 +10,7 @@ use Rattle.job.proofs.test.exceeds_count.Reads as exceeds-count-reads
 use Rattle.job.proofs.test.is_out_of_reach.Reads as is-out-of-reach-reads
 use Rattle.job.proofs.test.is_repeated.Reads as is-repeated-reads
 use Rattle.job.proofs.test.is_undeclared.Reads as is-undeclared-reads
-use Rattle.tables.proofs.ask.group.Reads as group-reads
+use Rattle.declared.proofs.group.Reads as group-reads
 
 -- src/test.rt:135:17
 cast-group : tie.Need-cast-group

@@ -6,7 +6,7 @@ use Rattle.job.proofs.turns.turn_at.Reads as reads
 use Rattle.job.proofs.turns.turn_at.Lts as lts
 use Rattle.command.proofs.read.wide.Reads as wide-reads
 use Rattle.job.proofs.turns.before_end.Reads as before-end-reads
-use Rattle.tables.proofs.ask.count_of.Reads as count-of-reads
+use Rattle.declared.proofs.count_of.Reads as count-of-reads
 
 -- src/turns.rt:25:17
 count-of-requires : tie.Need-count-of-requires

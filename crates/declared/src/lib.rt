@@ -1,19 +1,15 @@
-// What the tables say of nodes, variables and functions, each under its own kind of number.
+// What the tables say of flows, nodes, variables and functions, each under its own kind of number.
 ghost use mathlib.Core.Path.{_≡_};
-ghost use mathlib.Core.Bool.{_||_};
-ghost use Prim.Native.Nat.{_<_};
 ghost use Rattle.model.specs.Declared.{isSeen};
-ghost use Rattle.tables.specs.Tables.{countIn, groupIn, openIn, flowIn, scopeIn, startIn, answerIn, sharedIn, seesIn, lengthIn, bodyIn, startedAt, firstsIn, wiredIn, readIn, writeIn, anyIn, callIn, listedIn};
-ghost use Rattle.tables.specs.Asked.{messagesOf};
-use crate::cells;
-use crate::cells::entry;
-use crate::cells::flagged;
-use crate::cells::marked;
-use command::bytes;
+ghost use Rattle.tables.specs.Tables.{countIn, groupIn, openIn, flowIn, startIn, answerIn, sharedIn, seesIn, lengthIn, bodyIn, startedAt, firstsIn};
+ghost use Rattle.declared.specs.Asked.{messagesOf};
 use command::numbers::FlowNum;
 use command::numbers::FunNum;
 use command::numbers::NodeNum;
 use command::numbers::VarNum;
+use tables::cells;
+use tables::cells::entry;
+use tables::cells::flagged;
 
 // How many commands have this byte.
 pub fn count_of(t: &[u32], byte: u8) -> u32
@@ -123,69 +119,4 @@ pub fn first_of(t: &[u32], n: NodeNum) -> First
         return First::Message(entry(t, cells::MESSAGE, i));
     }
     First::Nothing
-}
-
-// Whether a port is wired to a target.
-pub fn is_wired(t: &[u32], n: NodeNum, port: u32, target: NodeNum) -> bool
-    ensures { λ r. ⌜ r ≡ wiredIn (now (t .entry)) (n .0) port (target .0) ⌝ }
-{
-    let row = (n.0 as usize) * 4 + (port as usize);
-    let wire = marked(t, cells::WIRES, row, target.0 as usize);
-    (port < 4) & wire
-}
-
-// Whether a node may read a variable.
-pub fn may_read(t: &[u32], n: NodeNum, x: VarNum) -> bool
-    ensures { λ r. ⌜ r ≡ readIn (now (t .entry)) (n .0) (x .0) ⌝ }
-{
-    marked(t, cells::READS, n.0 as usize, x.0 as usize)
-}
-
-// Whether a node may write a variable.
-pub fn may_write(t: &[u32], n: NodeNum, x: VarNum) -> bool
-    ensures { λ r. ⌜ r ≡ writeIn (now (t .entry)) (n .0) (x .0) ⌝ }
-{
-    marked(t, cells::WRITES, n.0 as usize, x.0 as usize)
-}
-
-// Whether a node may call a function with all arguments.
-pub fn may_call_any(t: &[u32], n: NodeNum, f: FunNum) -> bool
-    ensures { λ r. ⌜ r ≡ anyIn (now (t .entry)) (n .0) (f .0) ⌝ }
-{
-    marked(t, cells::CALLS, n.0 as usize, f.0 as usize)
-}
-
-// Whether one of the first ARG commands, so many of them, is this one.
-fn is_listed(t: &[u32], count: u32, n: NodeNum, f: FunNum, argument: u32) -> bool
-    ensures { λ r. ⌜ r ≡ listedIn (now (t .entry)) count (n .0) (f .0) argument ⌝ }
-{
-    let mut i = count as usize;
-    while 0 < i {
-        i -= 1;
-        let node = entry(t, cells::ARG_NODE, i);
-        let function = entry(t, cells::ARG_FUNCTION, i);
-        let value = entry(t, cells::ARG_VALUE, i);
-        if (node == n.0) & ((function == f.0) & (value == argument)) {
-            return true;
-        }
-    }
-    false
-}
-
-// Whether an ARG command permits the call with this argument.
-pub fn may_call_with(t: &[u32], n: NodeNum, f: FunNum, argument: u32) -> bool
-    ensures { λ r. ⌜ r ≡ listedIn (now (t .entry)) (countIn (now (t .entry)) 0x31) (n .0) (f .0) argument ⌝ }
-{
-    let count = count_of(t, bytes::ARG);
-    is_listed(t, count, n, f, argument)
-}
-
-// Whether a node may call a function with this argument.
-pub fn may_call(t: &[u32], n: NodeNum, f: FunNum, argument: u32) -> bool
-    ensures { λ r. ⌜ r ≡ callIn (now (t .entry)) (n .0) (f .0) argument ⌝ }
-{
-    if may_call_any(t, n, f) {
-        return true;
-    }
-    may_call_with(t, n, f, argument)
 }

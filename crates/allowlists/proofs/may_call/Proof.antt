@@ -1,11 +1,11 @@
 use mathlib.Core.Path.{sym, _∙_}
 use borrow.Author.Needs.{needs}
-use Rattle.tables.proofs.ask.may_call.Statement.{statement}
-use Rattle.tables.proofs.ask.may_call.Tie as tie
-use Rattle.tables.proofs.ask.may_call.Reads as reads
-use Rattle.tables.proofs.ask.may_call.Lts as lts
-use Rattle.tables.proofs.ask.may_call_any.Reads as may-call-any-reads
-use Rattle.tables.proofs.ask.may_call_with.Reads as may-call-with-reads
+use Rattle.allowlists.proofs.may_call.Statement.{statement}
+use Rattle.allowlists.proofs.may_call.Tie as tie
+use Rattle.allowlists.proofs.may_call.Reads as reads
+use Rattle.allowlists.proofs.may_call.Lts as lts
+use Rattle.allowlists.proofs.may_call_any.Reads as may-call-any-reads
+use Rattle.allowlists.proofs.may_call_with.Reads as may-call-with-reads
 
 -- src/ask.rt:183:8
 may-call-any-requires : tie.Need-may-call-any-requires

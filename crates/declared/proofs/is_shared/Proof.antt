@@ -1,9 +1,9 @@
 use borrow.Author.Needs.{needs}
-use Rattle.tables.proofs.ask.is_shared.Statement.{statement}
-use Rattle.tables.proofs.ask.is_shared.Tie as tie
-use Rattle.tables.proofs.ask.is_shared.Reads as reads
-use Rattle.tables.proofs.ask.is_shared.Lts as lts
+use Rattle.declared.proofs.is_shared.Statement.{statement}
+use Rattle.declared.proofs.is_shared.Tie as tie
+use Rattle.declared.proofs.is_shared.Reads as reads
+use Rattle.declared.proofs.is_shared.Lts as lts
 use Rattle.tables.proofs.cells.entry.Reads as entry-reads
 
 -- src/ask.rt:60:40
 cast-entry : tie.Need-cast-entry

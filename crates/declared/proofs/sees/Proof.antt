@@ -1,11 +1,11 @@
 use borrow.Author.Needs.{needs}
-use Rattle.tables.proofs.ask.sees.Statement.{statement}
-use Rattle.tables.proofs.ask.sees.Tie as tie
-use Rattle.tables.proofs.ask.sees.Reads as reads
-use Rattle.tables.proofs.ask.sees.Lts as lts
-use Rattle.tables.proofs.ask.flow_of.Reads as flow-of-reads
-use Rattle.tables.proofs.ask.is_seen.Reads as is-seen-reads
+use Rattle.declared.proofs.sees.Statement.{statement}
+use Rattle.declared.proofs.sees.Tie as tie
+use Rattle.declared.proofs.sees.Reads as reads
+use Rattle.declared.proofs.sees.Lts as lts
+use Rattle.declared.proofs.flow_of.Reads as flow-of-reads
+use Rattle.declared.proofs.is_seen.Reads as is-seen-reads
 use Rattle.tables.proofs.cells.entry.Reads as entry-reads
 
 -- src/ask.rt:79:13
 cast-i : tie.Need-cast-i

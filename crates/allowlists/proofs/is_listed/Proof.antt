@@ -1,13 +1,13 @@
 use mathlib.Core.Path.{_≡_, sym, _∙_}
 use native.Mathlib.Omega.{arith}
 use borrow.Author.Needs.{needs}
 use Rattle.tables.specs.Tables.{listedIn}
-use Rattle.tables.proofs.Listing.{listed-hit, listed-miss, listed-none}
-use Rattle.tables.proofs.ask.is_listed.Statement.{statement}
-use Rattle.tables.proofs.ask.is_listed.Tie as tie
-use Rattle.tables.proofs.ask.is_listed.Reads as reads
-use Rattle.tables.proofs.ask.is_listed.Lts as lts
+use Rattle.allowlists.proofs.Listing.{listed-hit, listed-miss, listed-none}
+use Rattle.allowlists.proofs.is_listed.Statement.{statement}
+use Rattle.allowlists.proofs.is_listed.Tie as tie
+use Rattle.allowlists.proofs.is_listed.Reads as reads
+use Rattle.allowlists.proofs.is_listed.Lts as lts
 use Rattle.tables.proofs.cells.entry.Reads as entry-reads
 
 abbrev Inv-loop : tie.InvT-loop
 Inv-loop t count n f argument i₀ i = listedIn t count (n .0) (f .0) argument ≡ listedIn t i (n .0) (f .0) argument

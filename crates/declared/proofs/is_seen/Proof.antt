@@ -1,8 +1,8 @@
 use borrow.Author.Tests.{ne-eqb}
-use Rattle.tables.proofs.ask.is_seen.Statement.{statement}
-use Rattle.tables.proofs.ask.is_seen.Tie as tie
-use Rattle.tables.proofs.ask.is_seen.Reads as reads
-use Rattle.tables.proofs.ask.is_seen.Lts as lts
+use Rattle.declared.proofs.is_seen.Statement.{statement}
+use Rattle.declared.proofs.is_seen.Tie as tie
+use Rattle.declared.proofs.is_seen.Reads as reads
+use Rattle.declared.proofs.is_seen.Lts as lts
 
 -- src/ask.rt:65:1
 returns : tie.Need-returns

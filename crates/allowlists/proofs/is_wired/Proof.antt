@@ -1,9 +1,9 @@
 use borrow.Author.Needs.{needs}
-use Rattle.tables.proofs.ask.is_wired.Statement.{statement}
-use Rattle.tables.proofs.ask.is_wired.Tie as tie
-use Rattle.tables.proofs.ask.is_wired.Reads as reads
-use Rattle.tables.proofs.ask.is_wired.Lts as lts
+use Rattle.allowlists.proofs.is_wired.Statement.{statement}
+use Rattle.allowlists.proofs.is_wired.Tie as tie
+use Rattle.allowlists.proofs.is_wired.Reads as reads
+use Rattle.allowlists.proofs.is_wired.Lts as lts
 use Rattle.tables.proofs.cells.marked.Reads as marked-reads
 
 -- src/ask.rt:132:16
 cast-row : tie.Need-cast-row

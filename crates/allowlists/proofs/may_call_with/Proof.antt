@@ -1,10 +1,10 @@
 use borrow.Author.Needs.{needs}
-use Rattle.tables.proofs.ask.may_call_with.Statement.{statement}
-use Rattle.tables.proofs.ask.may_call_with.Tie as tie
-use Rattle.tables.proofs.ask.may_call_with.Reads as reads
-use Rattle.tables.proofs.ask.may_call_with.Lts as lts
-use Rattle.tables.proofs.ask.count_of.Reads as count-of-reads
-use Rattle.tables.proofs.ask.is_listed.Reads as is-listed-reads
+use Rattle.allowlists.proofs.may_call_with.Statement.{statement}
+use Rattle.allowlists.proofs.may_call_with.Tie as tie
+use Rattle.allowlists.proofs.may_call_with.Reads as reads
+use Rattle.allowlists.proofs.may_call_with.Lts as lts
+use Rattle.declared.proofs.count_of.Reads as count-of-reads
+use Rattle.allowlists.proofs.is_listed.Reads as is-listed-reads
 
 -- src/ask.rt:175:9
 count-of-requires : tie.Need-count-of-requires

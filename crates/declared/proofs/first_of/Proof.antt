@@ -1,11 +1,11 @@
 use mathlib.Core.Path.{sym, _∙_}
 use borrow.Author.Needs.{needs}
-use Rattle.tables.proofs.ask.first_of.Statement.{statement}
-use Rattle.tables.proofs.ask.first_of.Tie as tie
-use Rattle.tables.proofs.ask.first_of.Reads as reads
-use Rattle.tables.proofs.ask.first_of.Lts as lts
+use Rattle.declared.proofs.first_of.Statement.{statement}
+use Rattle.declared.proofs.first_of.Tie as tie
+use Rattle.declared.proofs.first_of.Reads as reads
+use Rattle.declared.proofs.first_of.Lts as lts
 use Rattle.tables.proofs.cells.entry.Reads as entry-reads
 use Rattle.tables.proofs.cells.flagged.Reads as flagged-reads
 
 -- src/ask.rt:117:13
 cast-i : tie.Need-cast-i

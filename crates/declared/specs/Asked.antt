@@ -1,8 +1,8 @@
 -- What the program's answers stand for.
 use Prim.Native.Nat.{ℕ}
 use mathlib.Core.List.{List, [], _∷_}
-use Rattle.tables.specs.declared.ask.First.{First}
-use Rattle.tables.specs.declared.ask.First.the-variants.{Message, Nothing}
+use Rattle.declared.specs.declared.First.{First}
+use Rattle.declared.specs.declared.First.the-variants.{Message, Nothing}
 
 -- the first messages of a node
 abbrev pub messagesOf : First → List ℕ
