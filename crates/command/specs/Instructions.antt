@@ -1,9 +1,13 @@
--- The model's handler command that a handler command of the program stands for.
+-- Handler commands of the program, in the model's words.
+use Prim.Native.Nat.{ℕ}
+use mathlib.Core.Bool.{cond, _&&_}
+use lib.Dec.{leb, eqb}
 use Rattle.model.specs.Table.{SET, TAKE, GET, PUT, ADD, PLUS, JUMPZ, JUMP, SEND, CALL, SKIP}
 use Rattle.model.specs.Declared.{Instruction as Meant, instruction}
 use Rattle.command.specs.declared.instruction.Instruction.{Instruction}
 use Rattle.command.specs.declared.instruction.Instruction.the-variants as i
 
+-- the model's handler command that a handler command of the program stands for
 abbrev pub instructionOf : Instruction → Meant
 instructionOf (i.Set v) = instruction SET v
 instructionOf i.Take = instruction TAKE 0
@@ -16,3 +20,7 @@ instructionOf (i.Jump target) = instruction JUMP target
 instructionOf (i.Send port) = instruction SEND port
 instructionOf (i.Call f) = instruction CALL (f .0)
 instructionOf i.Skip = instruction SKIP 0
+
+-- the handler command of a byte and an operand: TAKE and SKIP have none, and a byte that is no handler command is taken for SKIP
+abbrev pub recognised : ℕ → ℕ → Meant
+recognised b x = cond (eqb b TAKE) (instruction TAKE 0) (cond (leb SET b && leb b CALL) (instruction b x) (instruction SKIP 0))

@@ -1,8 +1,6 @@
 // The commands of a handler, each with its operand.
 ghost use mathlib.Core.Path.{_≡_};
-ghost use Rattle.model.specs.Declared.{instruction};
-ghost use Rattle.model.specs.Valid.{NamedInstruction};
-ghost use Rattle.command.specs.Instructions.{instructionOf};
+ghost use Rattle.command.specs.Instructions.{instructionOf, recognised};
 use crate::bytes;
 use crate::numbers::FunNum;
 use crate::numbers::VarNum;
@@ -21,9 +19,9 @@ pub enum Instruction {
     Skip,
 }
 
-// The handler command with this byte and operand.
+// The handler command with this byte and operand; SKIP for a byte that is none.
 pub fn instruction_of(byte: u8, x: u32) -> Instruction
-    ensures { λ r. ⌜ (NamedInstruction (instruction byte x) → instructionOf r ≡ instruction byte x) ⌝ }
+    ensures { λ r. ⌜ instructionOf r ≡ recognised byte x ⌝ }
 {
     match byte {
         bytes::SET => Instruction::Set(x),

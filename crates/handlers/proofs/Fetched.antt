@@ -1,49 +1,57 @@
--- A fetched command is that of the program's handler; the work buffer of an accepted job holds all of them.
+-- What is fetched, by the program's tests; and that it is the command of the handler, for an accepted job.
 use Prim.Native.Nat.{ℕ, _+_, _≤_, _<_}
 use mathlib.Core.Path.{_≡_, refl, sym, ap, _∙_}
+use mathlib.Core.Bool.{Bool, true, false, cond, _&&_}
 use mathlib.Core.List.{List}
 use native.Mathlib.Omega.{arith}
-use lib.Dec.{ltb}
+use lib.Dec.{ltb, leb}
 use lib.ListN.{length, getD}
-use borrow.Author.Tests.{ltb-true, ltb-false}
-use mathlib.Core.Bool.{Bool, true, false}
+use borrow.Author.Tests.{ltb-true, ltb-false, lt-ltb, le-ltb, le-leb, lt-leb}
+use Rattle.model.specs.Table.{SKIP}
 use Rattle.model.specs.Command.{Command, numberAt}
-use Rattle.model.specs.Declared.{Instruction as Meant, instruction, handlerOf}
-use Rattle.model.specs.Program.{Program, programOf}
-use Rattle.model.specs.Turn.{instructionAt}
-use Rattle.model.specs.Valid.{Valid, NamedInstruction}
+use Rattle.model.specs.Declared.{Instruction, instruction, handlerOf}
+use Rattle.model.specs.Valid.{Valid}
 use Rattle.model.proofs.Growth.{length-handler}
 use Rattle.model.proofs.Ranges.{handler-outside, handler-named}
 use Rattle.model.proofs.Valid.{limits}
 use Rattle.model.proofs.Words.{CommandsFit}
-use Rattle.command.specs.declared.instruction.Instruction.{Instruction}
-use Rattle.command.specs.Instructions.{instructionOf}
-use Rattle.handlers.specs.Loading.{slotOf, loaded, Slot, Holds}
+use Rattle.command.specs.Instructions.{recognised}
+use Rattle.command.proofs.Handled.{named-recognised}
+use Rattle.handlers.specs.Loading.{slotOf, loaded, fetchedIn}
 use Rattle.handlers.proofs.Slots.{length-loaded, handler-loaded}
 
--- what is made of the bytes of a slot
-pub fetched :
-    (w : List ℕ) (P : Program) (n i x : ℕ) (r : Instruction) → Slot w P n i → x ≡ numberAt w (slotOf n i + 1) 4
-    → (NamedInstruction (instruction (getD w (slotOf n i) 0) x) → instructionOf r ≡ instruction (getD w (slotOf n i) 0) x) → instructionOf r ≡ instructionAt P n i
-fetched w P n i x r s e made =
-    let q : instruction (getD w (slotOf n i) 0) x ≡ instructionAt P n i = ap (instruction (getD w (slotOf n i) 0)) e ∙ s .same in
-    made (rw q (s .named)) ∙ q
+-- by the node, by the position, by the length, and from the slot
+module _ (w : List ℕ) (n i : ℕ) where
+  pub no-node : 32 ≤ n → instruction SKIP 0 ≡ fetchedIn w n i
+  no-node h = rw (le-ltb n 32 h)
 
--- the loaded handlers of valid commands
-pub holds-loaded : (w : List ℕ) (past : List Command) → 16384 ≤ length w → Valid past → CommandsFit past → Holds (loaded w past) (programOf past)
-unfolding programOf
-holds-loaded w past size v fit =
-    record {
-      size = omega (arith, length-loaded w past);
-      slot = λ n i h.
-          record {
-            node = in-range n i h (ltb n 32) refl;
-            position = omega (arith, length-handler past n, limits past v .handlers n);
-            same = handler-loaded w past size v fit n i (omega (arith, length-handler past n));
-            named = handler-named past v n i h;
-          };
-    }
+  pub no-position : n < 32 → 64 ≤ i → instruction SKIP 0 ≡ fetchedIn w n i
+  no-position h k = rw (lt-ltb n 32 h, le-ltb i 64 k)
+
+  pub no-room : n < 32 → i < 64 → length w < 16384 → instruction SKIP 0 ≡ fetchedIn w n i
+  no-room h k l = rw (lt-ltb n 32 h, lt-ltb i 64 k, lt-leb 16384 (length w) l)
+
+  pub from-slot : n < 32 → i < 64 → 16384 ≤ length w → fetchedIn w n i ≡ recognised (getD w (slotOf n i) 0) (numberAt w (slotOf n i + 1) 4)
+  from-slot h k l = rw (lt-ltb n 32 h, lt-ltb i 64 k, le-leb 16384 (length w) l)
+
+  pub made :
+      (x : ℕ) (r : Instruction) → n < 32 → i < 64 → 16384 ≤ length w → x ≡ numberAt w (slotOf n i + 1) 4 → r ≡ recognised (getD w (slotOf n i) 0) x → r ≡ fetchedIn w n i
+  made x r h k l e q = q ∙ rw e (sym (from-slot h k l))
+
+-- a handler is that of a node
+handler-inside : (past : List Command) → Valid past → (n i : ℕ) → i < length (handlerOf past n) → n < 32
+handler-inside past v n i h = by-range (ltb n 32) refl
   where
-    in-range : (n i : ℕ) → i < length (handlerOf past n) → (t : Bool) → ltb n 32 ≡ t → n < 32
-    in-range n i h true e = ltb-true n 32 e
-    in-range n i h false e = let z = ap length (handler-outside past v n (ltb-false n 32 e)) in absurd (omega arith)
+    by-range : (t : Bool) → ltb n 32 ≡ t → n < 32
+    by-range true e = ltb-true n 32 e
+    by-range false e = let z = ap length (handler-outside past v n (ltb-false n 32 e)) in absurd (omega arith)
+
+-- what is fetched behind loading
+pub fetched-loaded :
+    (w : List ℕ) (past : List Command) → 16384 ≤ length w → Valid past → CommandsFit past
+    → (n i : ℕ) → i < length (handlerOf past n) → fetchedIn (loaded w past) n i ≡ getD (handlerOf past n) i (instruction 0 0)
+fetched-loaded w past size v fit n i h =
+    let short : i < 64 = omega (arith, length-handler past n, limits past v .handlers n) in
+    let same = handler-loaded w past size v fit n i (omega (arith, length-handler past n)) in
+    from-slot (loaded w past) n i (handler-inside past v n i h) short (omega (arith, length-loaded w past))
+    ∙ named-recognised _ _ (rw same (handler-named past v n i h)) ∙ same

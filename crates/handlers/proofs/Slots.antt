@@ -19,7 +19,11 @@ use Rattle.model.proofs.Growth.{length-handler, handler-new, handler-other, bod
 use Rattle.model.proofs.Ranges.{open-inside}
 use Rattle.model.proofs.Valid.{limits}
 use Rattle.model.proofs.Words.{CommandsFit, bytes-spell}
-use Rattle.handlers.specs.Loading.{slotOf, stored, loaded, instructionIn}
+use Rattle.handlers.specs.Loading.{slotOf, stored, loaded}
+
+-- the command in a slot
+abbrev pub instructionIn : List ℕ → ℕ → ℕ → Instruction
+instructionIn w n i = instruction (getD w (slotOf n i) 0) (numberAt w (slotOf n i + 1) 4)
 
 -- the length stays
 length-stored : (w : List ℕ) (at b x : ℕ) → length (stored w at b x) ≡ length w

@@ -1,15 +1,14 @@
 -- Where the handlers of an accepted job lie in the work buffer.
-use Prim.Native.Nat.{ℕ, _+_, _*_, _/_, _%_, _≤_, _<_}
-use mathlib.Core.Path.{_≡_}
-use mathlib.Core.Bool.{cond}
+use Prim.Native.Nat.{ℕ, _+_, _*_, _/_, _%_}
+use mathlib.Core.Bool.{cond, _&&_}
 use mathlib.Core.List.{List, [], _∷_}
+use lib.Dec.{ltb, leb}
 use lib.ListN.{length, getD, set}
+use Rattle.model.specs.Table.{SKIP}
 use Rattle.model.specs.Command.{Command, numberAt}
 use Rattle.model.specs.Declared.{Instruction, instruction, isHandler, openBody, bodyLength}
-use Rattle.model.specs.Program.{Program}
-use Rattle.model.specs.Turn.{instructionAt}
 use Rattle.model.specs.Refusal.{Decoded, accepted, rejected}
-use Rattle.model.specs.Valid.{NamedInstruction}
+use Rattle.command.specs.Instructions.{recognised}
 
 -- the place of a node's command: 64 commands a node, 8 bytes a command
 abbrev pub slotOf : ℕ → ℕ → ℕ
@@ -24,21 +23,11 @@ unfoldable pub loaded : List ℕ → List Command → List ℕ
 loaded w [] = w
 loaded w (c ∷ past) = cond (isHandler c) (stored (loaded w past) (slotOf (openBody past) (bodyLength past (openBody past))) (c .byte) (c .operands .first)) (loaded w past)
 
--- the command in a slot
-abbrev pub instructionIn : List ℕ → ℕ → ℕ → Instruction
-instructionIn w n i = instruction (getD w (slotOf n i) 0) (numberAt w (slotOf n i + 1) 4)
-
--- a slot holds a command of a program's handler
-pub record Slot (w : List ℕ) (P : Program) (n i : ℕ) : Type 0 where
-  pub node : n < 32
-  pub position : i < 64
-  pub same : instructionIn w n i ≡ instructionAt P n i
-  pub named : NamedInstruction (instructionAt P n i)
-
--- the bytes hold all handlers of a program
-pub record Holds (w : List ℕ) (P : Program) : Type 0 where
-  pub size : 16384 ≤ length w
-  pub slot : (n i : ℕ) → i < length (P .handler n) → Slot w P n i
+-- the command of a node at a position, as it stands in the work buffer; SKIP where there is no slot
+abbrev pub fetchedIn : List ℕ → ℕ → ℕ → Instruction
+fetchedIn w n i =
+    cond (ltb n 32 && (ltb i 64 && leb 16384 (length w))) (recognised (getD w (slotOf n i) 0) (numberAt w (slotOf n i + 1) 4))
+    (instruction SKIP 0)
 
 -- the job is accepted
 abbrev pub IsAccepted : Decoded → Type 0

@@ -10,6 +10,7 @@ use Rattle.model.specs.Command.{Command, binary, ternary}
 use Rattle.model.specs.Declared.{instruction, countOf, handlerOf, turnsOf}
 use Rattle.model.specs.Program.{Program, programOf}
 use Rattle.model.specs.State.{tabulate}
+use Rattle.model.specs.Turn.{instructionAt}
 use Rattle.model.specs.Refusal.{accepted, decodeJob}
 use Rattle.model.specs.Valid.{Valid, Bytes}
 use Rattle.model.proofs.Lists.{length-tabulate, getD-tabulate}
@@ -19,21 +20,20 @@ use Rattle.model.proofs.Valid.{job-accepted, job-valid}
 use Rattle.model.proofs.Words.{CommandsFit, job-fit}
 use Rattle.tables.specs.Tables.{countIn, lengthIn}
 use Rattle.tables.specs.Stands.{Stands}
-use Rattle.handlers.specs.Loading.{instructionIn, loaded}
-use Rattle.handlers.proofs.Slots.{handler-loaded}
-use Rattle.handlers.proofs.Fetched.{holds-loaded}
+use Rattle.handlers.specs.Loading.{fetchedIn, loaded}
+use Rattle.handlers.proofs.Fetched.{fetched-loaded}
 use Rattle.job.specs.Program.{programIn, Prepared, PreparedHolds}
 use Rattle.job.proofs.Schedule.{turn-at}
 
 module _ (t w : List ℕ) (past : List Command) (s : Stands t past) (size : 16384 ≤ length w) (v : Valid past) (fit : CommandsFit past) where
   -- the handler of a node
-  same-handler : (n : ℕ) → tabulate (lengthIn t n) (instructionIn (loaded w past) n) ≡ handlerOf past n
+  same-handler : (n : ℕ) → tabulate (lengthIn t n) (fetchedIn (loaded w past) n) ≡ handlerOf past n
   same-handler n =
       let e : lengthIn t n ≡ length (handlerOf past n) = s .lengths n ∙ sym (length-handler past n) in
-      ext-getD (instruction 0 0) _ (handlerOf past n) (length-tabulate (lengthIn t n) (instructionIn (loaded w past) n) ∙ e)
+      ext-getD (instruction 0 0) _ (handlerOf past n) (length-tabulate (lengthIn t n) (fetchedIn (loaded w past) n) ∙ e)
       (λ i h.
-      let l : i < lengthIn t n = omega (arith, length-tabulate (lengthIn t n) (instructionIn (loaded w past) n)) in
-      getD-tabulate (lengthIn t n) i (instructionIn (loaded w past) n) (instruction 0 0) l ∙ handler-loaded w past size v fit n i (omega (arith, s .lengths n)))
+      let l : i < lengthIn t n = omega (arith, length-tabulate (lengthIn t n) (fetchedIn (loaded w past) n)) in
+      getD-tabulate (lengthIn t n) i (fetchedIn (loaded w past) n) (instruction 0 0) l ∙ fetched-loaded w past size v fit n i (omega arith))
 
   pub same-program : programIn t (loaded w past) ≡ programOf past
   unfolding programIn programOf
@@ -57,6 +57,12 @@ module _ (t w : List ℕ) (past : List Command) (s : Stands t past) (size : 1638
         firstMessages = s .firsts;
       })
 
+same-fetched :
+    (w : List ℕ) (past : List Command) → 16384 ≤ length w → Valid past → CommandsFit past
+    → (n i : ℕ) → i < length (programOf past .handler n) → fetchedIn (loaded w past) n i ≡ instructionAt (programOf past) n i
+unfolding programOf
+same-fetched w past size v fit = fetched-loaded w past size v fit
+
 pub prepared : PreparedHolds
 prepared job t w past bytes e s size =
     let v = job-valid job past e in
@@ -64,7 +70,7 @@ prepared job t w past bytes e s size =
     let counted : countIn t TURN ≡ countOf TURN past = s .counts TURN (omega arith) in
     record {
       program = same-program t w past s size (v .commands) fit;
-      handlers = holds-loaded w past size (v .commands) fit;
+      fetched = same-fetched w past size (v .commands) fit;
       turns = counted ∙ sym (length-turns past);
       turn = λ k h. rw counted (turn-at job past (job-accepted job past e .read .reads) k (omega (arith, length-turns past)));
     }

@@ -8,11 +8,12 @@ use Rattle.model.specs.Command.{Command}
 use Rattle.model.specs.Declared.{turnsOf}
 use Rattle.model.specs.Program.{Program, programOf}
 use Rattle.model.specs.State.{tabulate}
+use Rattle.model.specs.Turn.{instructionAt}
 use Rattle.model.specs.Refusal.{accepted, decodeJob}
 use Rattle.model.specs.Valid.{Bytes}
 use Rattle.tables.specs.Tables.{countIn, flowIn, scopeIn, ownerIn, startIn, answerIn, wiredIn, callIn, readIn, writeIn, lengthIn, firstsIn}
 use Rattle.tables.specs.Stands.{Stands}
-use Rattle.handlers.specs.Loading.{instructionIn, loaded, Holds}
+use Rattle.handlers.specs.Loading.{fetchedIn, loaded}
 
 -- every name of a program, by the tables `t` and the work buffer `w`
 unfoldable pub programIn : List ℕ → List ℕ → Program
@@ -31,7 +32,7 @@ programIn t w =
       mayCall = callIn t;
       mayRead = readIn t;
       mayWrite = writeIn t;
-      handler = λ n. tabulate (lengthIn t n) (instructionIn w n);
+      handler = λ n. tabulate (lengthIn t n) (fetchedIn w n);
       firstMessages = firstsIn t;
     }
 
@@ -39,10 +40,10 @@ programIn t w =
 abbrev pub turnIn : List ℕ → List ℕ → ℕ → ℕ
 turnIn job t k = getD job (length job - 2 * countIn t TURN + 2 * k + 1) 0
 
--- what decoding and loading leave of an accepted job: its program, and its turns
+-- what decoding and loading leave of an accepted job: its program, every command of its handlers, and its turns
 pub record Prepared (job t w : List ℕ) (past : List Command) : Type 0 where
   pub program : programIn t w ≡ programOf past
-  pub handlers : Holds w (programOf past)
+  pub fetched : (n i : ℕ) → i < length (programOf past .handler n) → fetchedIn w n i ≡ instructionAt (programOf past) n i
   pub turns : countIn t TURN ≡ length (turnsOf past)
   pub turn : (k : ℕ) → k < length (turnsOf past) → turnIn job t k ≡ getD (turnsOf past) k 0
 

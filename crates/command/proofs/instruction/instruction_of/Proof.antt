@@ -1,4 +1,4 @@
-use Rattle.command.proofs.Handled.{take-alone, skip-left}
+use Rattle.command.proofs.Handled.{skip-left}
 use Rattle.command.proofs.instruction.instruction_of.Statement.{statement}
 use Rattle.command.proofs.instruction.instruction_of.Tie as tie
 use Rattle.command.proofs.instruction.instruction_of.Reads as reads
@@ -6,50 +6,49 @@ use Rattle.command.proofs.instruction.instruction_of.Lts as lts
 
 -- src/instruction.rt:25:1
 returns : tie.Need-returns
-returns c = λ named. rw (c .match .keys1)
+returns c = rw (c .match .keys1)
 
 -- src/instruction.rt:25:1
 returns-2 : tie.Need-returns-2
-returns-2 c = λ named. take-alone _ _ named (c .match .keys2)
+returns-2 c = rw (c .match .keys2)
 
 -- src/instruction.rt:25:1
 returns-3 : tie.Need-returns-3
-returns-3 c = λ named. rw (c .match .keys3)
+returns-3 c = rw (c .match .keys3)
 
 -- src/instruction.rt:25:1
 returns-4 : tie.Need-returns-4
-returns-4 c = λ named. rw (c .match .keys4)
+returns-4 c = rw (c .match .keys4)
 
 -- src/instruction.rt:25:1
 returns-5 : tie.Need-returns-5
-returns-5 c = λ named. rw (c .match .keys5)
+returns-5 c = rw (c .match .keys5)
 
 -- src/instruction.rt:25:1
 returns-6 : tie.Need-returns-6
-returns-6 c = λ named. rw (c .match .keys6)
+returns-6 c = rw (c .match .keys6)
 
 -- src/instruction.rt:25:1
 returns-7 : tie.Need-returns-7
-returns-7 c = λ named. rw (c .match .keys7)
+returns-7 c = rw (c .match .keys7)
 
 -- src/instruction.rt:25:1
 returns-8 : tie.Need-returns-8
-returns-8 c = λ named. rw (c .match .keys8)
+returns-8 c = rw (c .match .keys8)
 
 -- src/instruction.rt:25:1
 returns-9 : tie.Need-returns-9
-returns-9 c = λ named. rw (c .match .keys9)
+returns-9 c = rw (c .match .keys9)
 
 -- src/instruction.rt:25:1
 returns-10 : tie.Need-returns-10
-returns-10 c = λ named. rw (c .match .keys10)
+returns-10 c = rw (c .match .keys10)
 
 -- src/instruction.rt:25:1
 returns-11 : tie.Need-returns-11
 returns-11 c =
-    λ named.
     let n = c .match .rest in
-    skip-left _ _ named (n .0 .0 .0 .0 .0 .0 .0 .0 .0 .1) (n .0 .0 .0 .0 .0 .0 .0 .0 .1) (n .0 .0 .0 .0 .0 .0 .0 .1) (n .0 .0 .0 .0 .0 .0 .1) (n .0 .0 .0 .0 .0 .1) (n .0 .0 .0 .0 .1) (n .0 .0 .0 .1) (n .0 .0 .1) (n .0 .1) (n .1)
+    skip-left _ _ (n .0 .0 .0 .0 .0 .0 .0 .0 .0 .1) (n .0 .0 .0 .0 .0 .0 .0 .0 .1) (n .0 .0 .0 .0 .0 .0 .0 .1) (n .0 .0 .0 .0 .0 .0 .1) (n .0 .0 .0 .0 .0 .1) (n .0 .0 .0 .0 .1) (n .0 .0 .0 .1) (n .0 .0 .1) (n .0 .1) (n .1)
 
 pub instruction-of-spec : {M : Type 1} → statement M
 instruction-of-spec =

@@ -1,7 +1,6 @@
 use mathlib.Core.Path.{refl}
 use mathlib.Core.Logic.{inl}
-use native.Mathlib.Omega.{arith}
-use Rattle.handlers.proofs.Fetched.{fetched}
+use Rattle.handlers.proofs.Fetched.{no-node, no-position, no-room, made}
 use borrow.Author.Needs.{needs}
 use Rattle.handlers.proofs.fetch.fetch.Statement.{statement}
 use Rattle.handlers.proofs.fetch.fetch.Tie as tie
@@ -10,53 +9,53 @@ use Rattle.handlers.proofs.fetch.fetch.Lts as lts
 use Rattle.command.proofs.instruction.instruction_of.Reads as instruction-of-reads
 use Rattle.command.proofs.read.operand.Reads as operand-reads
 
--- src/fetch.rt:20:16
+-- src/fetch.rt:14:16
 cast-node : tie.Need-cast-node
 cast-node c = search needs
 
--- src/fetch.rt:23:9
+-- src/fetch.rt:17:9
 returns : tie.Need-returns
-returns c = λ P holds h. let s = holds .slot _ _ h in absurd (omega (arith, s .node, c .if1 .taken))
+returns c = no-node (c .before .before .before .args .work .now) (c .before .before .before .args .n .0) (c .before .before .before .args .position) (c .if1 .taken)
 
--- src/fetch.rt:26:9
+-- src/fetch.rt:20:9
 returns-2 : tie.Need-returns-2
-returns-2 c = λ P holds h. let s = holds .slot _ _ h in absurd (omega (arith, s .position, c .if2 .taken))
+returns-2 c = no-position (c .before .before .before .before .args .work .now) (c .before .before .before .before .args .n .0) (c .before .before .before .before .args .position) (c .before .if1 .left) (c .if2 .taken)
 
--- src/fetch.rt:29:9
+-- src/fetch.rt:23:9
 returns-3 : tie.Need-returns-3
-returns-3 c = λ P holds h. absurd (omega (arith, holds .size, c .if3 .taken))
+returns-3 c = no-room (c .before .before .before .before .before .args .work .now) (c .before .before .before .before .before .args .n .0) (c .before .before .before .before .before .args .position) (c .before .before .if1 .left) (c .before .if2 .left) (c .if3 .taken)
 
--- src/fetch.rt:31:15
+-- src/fetch.rt:25:15
 mul-at : tie.Need-mul-at
 mul-at c = search needs
 
--- src/fetch.rt:31:15
+-- src/fetch.rt:25:15
 add-at : tie.Need-add-at
 add-at c = search needs
 
--- src/fetch.rt:31:14
+-- src/fetch.rt:25:14
 mul-at-2 : tie.Need-mul-at-2
 mul-at-2 c = search needs
 
--- src/fetch.rt:32:16
+-- src/fetch.rt:26:16
 shared-slice-read-byte : tie.Need-shared-slice-read-byte
 shared-slice-read-byte c = search needs
 
--- src/fetch.rt:33:27
+-- src/fetch.rt:27:27
 add-operand : tie.Need-add-operand
 add-operand c = search needs
 
--- src/fetch.rt:33:9
+-- src/fetch.rt:27:9
 operand-requires : tie.Need-operand-requires
 operand-requires c κs = (search needs, inl refl)
 
--- src/fetch.rt:34:5
+-- src/fetch.rt:28:5
 instruction-of-requires : tie.Need-instruction-of-requires
 instruction-of-requires c κs = search needs
 
--- src/fetch.rt:15:1
+-- src/fetch.rt:11:1
 returns-4 : tie.Need-returns-4
-returns-4 c = λ P holds h. fetched _ P _ _ _ (c .instruction-of .result) (holds .slot _ _ h) (c .before .operand .ensures) (c .instruction-of .ensures)
+returns-4 c = made (c .before .before .before .before .before .before .before .before .args .work .now) (c .before .before .before .before .before .before .before .before .args .n .0) (c .before .before .before .before .before .before .before .before .args .position) _ _ (c .before .before .before .before .before .if1 .left) (c .before .before .before .before .if2 .left) (c .before .before .before .if3 .left) (c .before .operand .ensures) (c .instruction-of .ensures)
 
 pub fetch-spec : {M : Type 1} → statement M
 fetch-spec =
