@@ -1,12 +1,12 @@
 -- A handler command by its byte: the bytes that are left for SKIP, and that every named command is recognised.
 use Prim.Native.Nat.{ℕ, suc, _≤_, _<_}
-use mathlib.Core.Path.{_≡_, refl, sym, _∙_}
+use mathlib.Core.Path.{_≡_, refl}
 use mathlib.Core.Bool.{Bool, true, false, cond, _&&_}
 use native.Mathlib.Omega.{arith}
 use lib.Dec.{leb, eqb}
-use borrow.Author.Tests.{leb-true, leb-false, le-leb, lt-leb, eqb-true, eqb-false, ne-eqb}
+use borrow.Author.Tests.{leb-true, leb-false, le-leb, lt-leb, eqb-true, ne-eqb}
 use Rattle.model.specs.Table.{SET, TAKE, CALL, SKIP, operandsIn, operandsOf}
-use Rattle.model.specs.Declared.{Instruction, instruction}
+use Rattle.model.specs.Declared.{instruction}
 use Rattle.model.specs.Valid.{NamedInstruction}
 use Rattle.model.proofs.Logic.{and-left, and-right}
 use Rattle.command.specs.Instructions.{recognised}

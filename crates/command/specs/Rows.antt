@@ -1,7 +1,7 @@
 -- The rows of the program's table, and what they say in the model's words.
 use Prim.Native.Nat.{ℕ, zero, suc, _<_}
 use mathlib.Core.Path.{_≡_}
-use mathlib.Core.List.{List, [], _∷_}
+use mathlib.Core.List.{[], _∷_}
 use mathlib.Core.Option.{Option, none, some}
 use lib.ListN.{getD}
 use Rattle.model.specs.Table.{OperandKind, scope, owner, start, answer, node, port, target, function, value, variable, jump, absent, width, Row, row, table, operandsOf, operandAt, groupOf, Limit, limit, largestOf}

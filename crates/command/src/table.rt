@@ -1,5 +1,4 @@
 // The command table: each command byte with its group, the widths and kinds of its operands, and its largest count.
-ghost use mathlib.Core.Path.{_≡_};
 ghost use Prim.Native.Nat.{_<_};
 ghost use Rattle.command.specs.Rows.{rowAt, Says, Finds};
 

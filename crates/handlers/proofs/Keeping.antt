@@ -1,9 +1,9 @@
 -- Loading by a loop over the commands of an accepted job: what the loop keeps.
 use Prim.Native.Nat.{ℕ, suc, _+_, _≤_, _<_}
-use mathlib.Core.Path.{_≡_, refl, sym, ap, _∙_}
+use mathlib.Core.Path.{_≡_, refl, sym, _∙_}
 use mathlib.Core.Bool.{Bool, true, false, cond, _&&_}
 use mathlib.Core.List.{List, [], _∷_}
-use mathlib.Core.Option.{none, some}
+use mathlib.Core.Option.{some}
 use native.Mathlib.Omega.{arith}
 use lib.Dec.{eqb, leb}
 use lib.ListN.{length}
@@ -11,7 +11,7 @@ use borrow.Author.Tests.{eqb-true, eq-eqb}
 use Rattle.model.specs.Table.{BODY}
 use Rattle.model.specs.Command.{Command, is, whole, readCommand}
 use Rattle.model.specs.Declared.{isHandler, openBody, bodyLength}
-use Rattle.model.specs.Refusal.{Decoded, accepted, rejected, decodeFrom, decode, decodeJob}
+use Rattle.model.specs.Refusal.{Decoded, accepted, rejected, decodeFrom, decodeJob}
 use Rattle.model.specs.Valid.{Valid}
 use Rattle.model.proofs.Reading.{read-at}
 use Rattle.model.proofs.Decoding.{decode-end, fuel-left}

@@ -1,19 +1,18 @@
 -- A stored command is read back from its slot, and the other slots keep theirs.
 use Prim.Native.Nat.{ℕ, _+_, _*_, _/_, _%_, _^_, _≤_, _<_}
-use mathlib.Core.Path.{_≡_, refl, sym, ap, _∙_}
+use mathlib.Core.Path.{_≡_, refl, sym, _∙_}
 use mathlib.Core.Bool.{Bool, true, false, cond}
-use mathlib.Core.List.{List, [], _∷_, _++_}
+use mathlib.Core.List.{List, [], _∷_}
 use native.Mathlib.Omega.{arith}
 use mathlib.Core.Logic.{_⊎_, inl, inr, ⊎-elim}
 use lib.Dec.{eqb, ltb}
-use lib.ListN.{length, getD, set, length-set, length-append, List·getD-append}
+use lib.ListN.{length, getD, set, length-set, List·getD-append}
 use lib.Seq.{getD-set-same, getD-set-other, getD-at}
 use borrow.Author.Tests.{eqb-true, eqb-false, eq-eqb, ne-eqb, ltb-true, ltb-false}
 use Rattle.model.specs.Command.{Command, numberAt}
 use Rattle.model.specs.Declared.{Instruction, instruction, isHandler, openBody, belongs, bodyLength, handlerOf}
 use Rattle.model.specs.Output.{bytes4}
 use Rattle.model.specs.Valid.{Valid}
-use Rattle.model.proofs.Logic.{and-left, and-right}
 use Rattle.model.proofs.Reading.{number-four}
 use Rattle.model.proofs.Growth.{length-handler, handler-new, handler-other, body-next}
 use Rattle.model.proofs.Ranges.{open-inside}

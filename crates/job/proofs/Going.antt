@@ -1,21 +1,18 @@
 -- The walk over the commands: what each step gives, and what the loop keeps.
-use Prim.Native.Nat.{ℕ, zero, suc, _+_, _≤_, _<_}
-use mathlib.Core.Path.{_≡_, refl, sym, ap, _∙_}
+use Prim.Native.Nat.{ℕ, suc, _+_, _≤_, _<_}
+use mathlib.Core.Path.{_≡_, refl, sym, _∙_}
 use mathlib.Core.List.{List, [], _∷_}
-use mathlib.Core.Option.{none, some}
+use mathlib.Core.Option.{some}
 use native.Mathlib.Omega.{arith}
 use lib.ListN.{length}
 use Rattle.model.specs.Command.{Command, Parsed as ParsedAs, whole, unknown, cutShort, readCommand}
-use Rattle.model.specs.Refusal.{violation, Refusal as RefusedFor, refuse, accepted, rejected, decodeFrom, decode}
+use Rattle.model.specs.Refusal.{violation, Refusal as RefusedFor, refuse, rejected, decodeFrom, decode}
 use Rattle.model.specs.Valid.{Valid, Plain}
 use Rattle.model.proofs.Reading.{read-at}
-use Rattle.model.proofs.Decoding.{decode-end, decode-unknown, decode-short, decode-refused, decode-on, decode-empty, decode-long, decoding-start, fuel-left}
+use Rattle.model.proofs.Decoding.{decode-end, decode-unknown, decode-short, decode-refused, decode-on, decoding-start, fuel-left}
 use Rattle.command.specs.declared.read.Command.{Command as Code}
 use Rattle.command.specs.declared.read.Refusal.{Refusal}
-use Rattle.command.specs.declared.read.Parsed.{Parsed}
-use Rattle.command.specs.declared.read.Parsed.the-variants.{Whole, Refused}
-use Rattle.command.specs.Rows.{RowOf}
-use Rattle.command.specs.Reading.{commandOf, refusalOf, refusalAt, Reads}
+use Rattle.command.specs.Reading.{commandOf, refusalOf, refusalAt}
 use Rattle.tables.specs.Cells.{blank}
 use Rattle.tables.specs.Stands.{Stands}
 use Rattle.tables.proofs.Blank.{stands-blank}

@@ -1,21 +1,20 @@
 -- The program's tests of one command are the model's, if the tables stand for the commands before it.
-use Prim.Native.Nat.{ℕ, zero, suc, _/_, _<_, _≤_}
-use mathlib.Core.Path.{_≡_, refl, sym, ap, _∙_}
+use Prim.Native.Nat.{ℕ, zero, suc, _/_}
+use mathlib.Core.Path.{_≡_, refl, sym, _∙_}
 use mathlib.Core.Bool.{Bool, true, false, cond, not, _&&_, _||_}
 use mathlib.Core.List.{List, [], _∷_}
-use mathlib.Core.Option.{Option, none, some}
+use mathlib.Core.Option.{none}
 use native.Mathlib.Omega.{arith}
 use lib.Dec.{ltb, leb, eqb}
 use lib.ListN.{getD}
-use borrow.Author.Tests.{ne-eqb, lt-ltb, le-ltb}
+use borrow.Author.Tests.{ne-eqb}
 use Rattle.model.specs.Table.{FLOW, NODE, VAR, FUN, WIRE, ANY, ARG, READ, WRITE, BODY, GET, PUT, PLUS, START, operandsIn, operandsOf, kindAt, start, answer, value, jump, absent, groupOf, largestOf}
-use Rattle.model.specs.Command.{Command, Operands, is, ternary, binary}
-use Rattle.model.specs.Declared.{countOf, occurs, openBody, bodyLength, flowOf, sees, shared, startedIn}
-use Rattle.model.specs.Refusal.{isReached, exceedsCount, Counts, countsOf, namesNothing, undeclared, outOfReach, mustDiffer, repeated, groupFalls, violation}
+use Rattle.model.specs.Command.{Command, Operands, ternary, binary}
+use Rattle.model.specs.Declared.{countOf, occurs, flowOf, sees}
+use Rattle.model.specs.Refusal.{isReached, exceedsCount, Counts, namesNothing, undeclared, outOfReach, mustDiffer, repeated, violation}
 use Rattle.model.specs.Valid.{Plain}
-use Rattle.model.proofs.Logic.{any-next, any-last, or-left, or-right}
+use Rattle.model.proofs.Logic.{any-next, any-last}
 use Rattle.model.proofs.Growth.{among-one}
-use Rattle.model.proofs.Reading.{kind-known}
 use Rattle.command.specs.declared.table.Row.{Row as Shape}
 use Rattle.command.specs.declared.read.Command.{Command as Code}
 use Rattle.command.specs.Rows.{rowAt, kindOf, limitOf, Says, RowOf}

@@ -1,18 +1,17 @@
 -- The program that tables and work buffer stand for is that of the job's commands, and so are its turns.
-use Prim.Native.Nat.{ℕ, _+_, _*_, _-_, _≤_, _<_}
-use mathlib.Core.Path.{_≡_, refl, sym, ap, _∙_}
-use mathlib.Core.List.{List, [], _∷_, _++_}
+use Prim.Native.Nat.{ℕ, _-_, _≤_, _<_}
+use mathlib.Core.Path.{_≡_, sym, _∙_}
+use mathlib.Core.List.{List}
 use native.Mathlib.Omega.{arith}
-use lib.ListN.{length, getD}
+use lib.ListN.{length}
 use lib.Seq.{ext-getD}
-use Rattle.model.specs.Table.{FLOW, NODE, VAR, FUN, ANY, ARG, TURN}
-use Rattle.model.specs.Command.{Command, binary, ternary}
-use Rattle.model.specs.Declared.{instruction, countOf, handlerOf, turnsOf}
-use Rattle.model.specs.Program.{Program, programOf}
+use Rattle.model.specs.Table.{FLOW, NODE, VAR, FUN, TURN}
+use Rattle.model.specs.Command.{Command}
+use Rattle.model.specs.Declared.{instruction, countOf, handlerOf}
+use Rattle.model.specs.Program.{programOf}
 use Rattle.model.specs.State.{tabulate}
 use Rattle.model.specs.Turn.{instructionAt}
-use Rattle.model.specs.Refusal.{accepted, decodeJob}
-use Rattle.model.specs.Valid.{Valid, Bytes}
+use Rattle.model.specs.Valid.{Valid}
 use Rattle.model.proofs.Lists.{length-tabulate, getD-tabulate}
 use Rattle.model.proofs.Growth.{length-handler, length-turns}
 use Rattle.model.proofs.Program.{agree}
@@ -22,7 +21,7 @@ use Rattle.tables.specs.Tables.{countIn, lengthIn}
 use Rattle.tables.specs.Stands.{Stands}
 use Rattle.handlers.specs.Loading.{fetchedIn, loaded}
 use Rattle.handlers.proofs.Fetched.{fetched-loaded}
-use Rattle.job.specs.Program.{programIn, Prepared, PreparedHolds}
+use Rattle.job.specs.Program.{programIn, PreparedHolds}
 use Rattle.job.proofs.Schedule.{turn-at}
 
 module _ (t w : List ℕ) (past : List Command) (s : Stands t past) (size : 16384 ≤ length w) (v : Valid past) (fit : CommandsFit past) where

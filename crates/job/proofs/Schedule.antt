@@ -8,9 +8,9 @@ use lib.Dec.{ltb, eqb}
 use lib.ListN.{length, getD, List·getD-append, List·getD-eq-default}
 use lib.Seq.{getD-at}
 use borrow.Author.Tests.{ltb-true, ltb-false, eqb-true, le-ltb}
-use Rattle.model.specs.Table.{TURN, operandsIn, operandsOf, OperandKind, node, groupOf}
+use Rattle.model.specs.Table.{TURN, operandsIn, operandsOf, node, groupOf}
 use Rattle.model.specs.Command.{Command, is, whole, readCommand, numberAt}
-use Rattle.model.specs.Declared.{only, countOf, turnsOf}
+use Rattle.model.specs.Declared.{countOf, turnsOf}
 use Rattle.model.specs.Refusal.{groupFalls, violation}
 use Rattle.model.specs.Conclusion.{Reads, begin, further}
 use Rattle.model.proofs.Logic.{not-both, or-left, or-right}

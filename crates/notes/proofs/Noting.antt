@@ -4,18 +4,16 @@ use mathlib.Core.Path.{_≡_, refl, sym, ap, _∙_}
 use mathlib.Core.Bool.{Bool, true, false, cond, not, _&&_, _||_, and-true}
 use mathlib.Core.List.{List, [], _∷_, _++_, append-nil}
 use mathlib.Core.Logic.{_⊎_, inl, inr}
-use mathlib.Core.Option.{Option, none, some}
 use native.Mathlib.Omega.{arith}
 use native.Mathlib.Numerals.{add-one}
 use lib.Dec.{ltb, leb, eqb}
 use lib.ListN.{length, length-append}
-use borrow.Author.Tests.{ltb-true, ltb-false, lt-ltb, le-ltb, eqb-true, eqb-false, eq-eqb, ne-eqb}
-use Rattle.model.specs.Table.{FLOW, NODE, VAR, FUN, WIRE, ANY, ARG, READ, WRITE, BODY, START, Row, table, operandsIn, operandsOf, OperandKind, groupOf}
-use Rattle.model.specs.Command.{Operands, Command, is, ternary, binary}
+use borrow.Author.Tests.{ltb-false, lt-ltb, le-ltb, eqb-true, eq-eqb, ne-eqb}
+use Rattle.model.specs.Table.{FLOW, NODE, VAR, FUN, WIRE, ANY, ARG, READ, WRITE, BODY, START, operandsIn, operandsOf, groupOf}
+use Rattle.model.specs.Command.{Command, is, ternary, binary}
 use Rattle.model.specs.Declared.{only, countOf, isSame, occurs, declared, flowOf, isHandler, openBody, bodyLength, startsOf, startedIn}
 use Rattle.model.specs.Refusal.{groupFalls}
 use Rattle.model.specs.Valid.{Valid, Named}
-use Rattle.model.proofs.Logic.{true-false, and-left, and-right}
 use Rattle.model.proofs.Growth.{count-same, count-other, count-grows, count-below, occurs-next, open-next, body-next, starts-next, started-next}
 use Rattle.model.proofs.Ranges.{open-inside, starts-one}
 use Rattle.model.proofs.Valid.{passes, limits, named}

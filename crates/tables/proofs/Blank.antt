@@ -1,18 +1,18 @@
 -- Cells of which none is noted stand for no command.
-use Prim.Native.Nat.{ℕ, _+_, _*_, _<_, _≤_, zero-le}
+use Prim.Native.Nat.{ℕ, _+_, _*_, _≤_, zero-le}
 use mathlib.Core.Path.{_≡_, refl, sym, _∙_}
 use mathlib.Core.Bool.{Bool, true, false, _&&_, and-false}
-use mathlib.Core.List.{List, []}
+use mathlib.Core.List.{[]}
 use native.Mathlib.Omega.{arith}
-use lib.Dec.{ltb, eqb}
-use lib.ListN.{length, getD, length-replicate, getD-replicate}
+use lib.Dec.{ltb}
+use lib.ListN.{length-replicate, getD-replicate}
 use borrow.Author.Tests.{ltb-true, ltb-false, le-ltb}
 use Rattle.model.specs.Table.{ARG, groupOf}
 use Rattle.model.specs.Declared.{countOf, occurs, declared, openBody, bodyLength, startsOf, startedIn}
 use Rattle.model.specs.Refusal.{groupFalls}
 use Rattle.tables.specs.declared.cells.Section.{Section}
 use Rattle.tables.specs.Cells.{entryIn, markIn, gridIn, blank}
-use Rattle.tables.specs.Tables.{countCells, progressCells, firstCells, wireCells, countIn, groupIn, listedIn}
+use Rattle.tables.specs.Tables.{countCells, progressCells, firstCells, wireCells, countIn, listedIn}
 use Rattle.tables.specs.Stands.{Stands}
 use Rattle.tables.proofs.Writing.{entry-inside, entry-outside}
 

@@ -1,13 +1,12 @@
 -- Reading and writing cells: what a program's tests give, and what a write changes in its section and in the others.
 use Prim.Native.Nat.{ℕ, _+_, _*_, _≤_, _<_}
-use mathlib.Core.Path.{_≡_, refl, sym, ap, _∙_}
-use mathlib.Core.Bool.{Bool, true, false, cond, not, _&&_, _||_}
-use mathlib.Core.List.{List, [], _∷_}
+use mathlib.Core.Path.{_≡_, refl, sym, _∙_}
+use mathlib.Core.Bool.{Bool, true, false}
+use mathlib.Core.List.{List}
 use native.Mathlib.Omega.{arith}
-use lib.Dec.{ltb, leb, eqb}
-use lib.ListN.{length, getD, set, length-set, List·getD-eq-default, length-replicate, getD-replicate}
-use lib.Seq.{getD-set-same, getD-set-other, set-out, ext-getD}
-use borrow.Author.Tests.{ltb-true, ltb-false, leb-true, lt-ltb, le-ltb, eqb-true, eqb-false, eq-eqb, ne-eqb}
+use lib.ListN.{length, getD, set, List·getD-eq-default, length-replicate, getD-replicate}
+use lib.Seq.{set-out, ext-getD}
+use borrow.Author.Tests.{lt-ltb, le-ltb}
 use Rattle.tables.specs.declared.cells.Section.{Section}
 use Rattle.tables.specs.Cells.{entryIn, putIn, markIn, gridIn, markAt, blank}
 

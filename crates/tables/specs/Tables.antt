@@ -3,7 +3,7 @@ use Prim.Native.Nat.{ℕ, zero, suc, _+_, _*_}
 use mathlib.Core.Bool.{Bool, false, _&&_, _||_}
 use mathlib.Core.List.{List}
 use lib.Dec.{ltb, eqb}
-use Rattle.model.specs.Table.{FLOW, NODE, VAR, FUN, ARG, BODY, TURN}
+use Rattle.model.specs.Table.{ARG}
 use Rattle.model.specs.Declared.{only, isShared, isSeen}
 use Rattle.tables.specs.declared.cells.Section.{Section}
 use Rattle.tables.specs.Cells.{section, entryIn, markIn, gridIn}

@@ -1,3 +1,4 @@
+-- `allowlists::is_listed` meets its contract.
 use mathlib.Core.Path.{_≡_, sym, _∙_}
 use native.Mathlib.Omega.{arith}
 use borrow.Author.Needs.{needs}
@@ -5,9 +6,6 @@ use Rattle.tables.specs.Tables.{listedIn}
 use Rattle.allowlists.proofs.Listing.{listed-hit, listed-miss, listed-none}
 use Rattle.allowlists.proofs.is_listed.Statement.{statement}
 use Rattle.allowlists.proofs.is_listed.Tie as tie
-use Rattle.allowlists.proofs.is_listed.Reads as reads
-use Rattle.allowlists.proofs.is_listed.Lts as lts
-use Rattle.tables.proofs.cells.entry.Reads as entry-reads
 
 abbrev Inv-loop : tie.InvT-loop
 Inv-loop t count n f argument i₀ i = listedIn t count (n .0) (f .0) argument ≡ listedIn t i (n .0) (f .0) argument
@@ -15,43 +13,34 @@ Inv-loop t count n f argument i₀ i = listedIn t count (n .0) (f .0) argument �
 abbrev μ-loop : tie.MeasureT-loop
 μ-loop t count n f argument i₀ i = i
 
--- src/ask.rt:163:5
 loop-holds : tie.Need-loop-holds Inv-loop μ-loop
 loop-holds c = search needs
 
--- src/ask.rt:164:9
 sub-i : tie.Need-sub-i Inv-loop μ-loop
 sub-i c = search needs
 
--- src/ask.rt:165:13
 entry-requires : tie.Need-entry-requires Inv-loop μ-loop
 entry-requires c κs = search needs
 
--- src/ask.rt:166:13
 entry-requires-2 : tie.Need-entry-requires-2 Inv-loop μ-loop
 entry-requires-2 c κs = search needs
 
--- src/ask.rt:167:13
 entry-requires-3 : tie.Need-entry-requires-3 Inv-loop μ-loop
 entry-requires-3 c κs = search needs
 
--- src/ask.rt:169:13
 returns : tie.Need-returns Inv-loop μ-loop
 returns c =
     let h = rw (c .before .before .before .before .before .entry .ensures, c .before .before .before .before .entry2 .ensures, c .before .before .before .entry3 .ensures) at (c .if1 .taken) in
     sym (c .before .before .before .before .before .before .before .loop .inv ∙ listed-hit _ _ _ _ (c .before .before .before .before .before .before .before .loop .i) (c .before .before .before .before .before .before .loop-test .taken) h)
 
--- src/ask.rt:163:5
 loop-less : tie.Need-loop-less Inv-loop μ-loop
 loop-less c = search needs
 
--- src/ask.rt:163:5
 loop-again : tie.Need-loop-again Inv-loop μ-loop
 loop-again c =
     let h = rw (c .before .before .before .before .before .entry .ensures, c .before .before .before .before .entry2 .ensures, c .before .before .before .entry3 .ensures) at (c .if1 .left) in
     c .before .before .before .before .before .before .before .loop .inv ∙ listed-miss _ _ _ _ (c .before .before .before .before .before .before .before .loop .i) (c .before .before .before .before .before .before .loop-test .taken) h
 
--- src/ask.rt:159:1
 returns-2 : tie.Need-returns-2 Inv-loop μ-loop
 returns-2 c = sym (c .before .loop .inv ∙ listed-none _ _ _ _ (c .before .loop .i) (omega arith))
 

@@ -1,25 +1,18 @@
+-- `allowlists::may_call` meets its contract.
 use mathlib.Core.Path.{sym, _∙_}
 use borrow.Author.Needs.{needs}
 use Rattle.allowlists.proofs.may_call.Statement.{statement}
 use Rattle.allowlists.proofs.may_call.Tie as tie
-use Rattle.allowlists.proofs.may_call.Reads as reads
-use Rattle.allowlists.proofs.may_call.Lts as lts
-use Rattle.allowlists.proofs.may_call_any.Reads as may-call-any-reads
-use Rattle.allowlists.proofs.may_call_with.Reads as may-call-with-reads
 
--- src/ask.rt:183:8
 may-call-any-requires : tie.Need-may-call-any-requires
 may-call-any-requires c κs = search needs
 
--- src/ask.rt:184:9
 returns : tie.Need-returns
 returns c = rw (sym (c .before .may-call-any .ensures) ∙ c .if1 .taken)
 
--- src/ask.rt:186:5
 may-call-with-requires : tie.Need-may-call-with-requires
 may-call-with-requires c κs = search needs
 
--- src/ask.rt:180:1
 returns-2 : tie.Need-returns-2
 returns-2 c = rw (sym (c .before .before .may-call-any .ensures) ∙ c .before .if1 .left) (c .may-call-with .ensures)
 

@@ -1,29 +1,21 @@
+-- `declared::first_of` meets its contract.
 use mathlib.Core.Path.{sym, _∙_}
 use borrow.Author.Needs.{needs}
 use Rattle.declared.proofs.first_of.Statement.{statement}
 use Rattle.declared.proofs.first_of.Tie as tie
-use Rattle.declared.proofs.first_of.Reads as reads
-use Rattle.declared.proofs.first_of.Lts as lts
-use Rattle.tables.proofs.cells.entry.Reads as entry-reads
-use Rattle.tables.proofs.cells.flagged.Reads as flagged-reads
 
--- src/ask.rt:117:13
 cast-i : tie.Need-cast-i
 cast-i c = search needs
 
--- src/ask.rt:118:8
 flagged-requires : tie.Need-flagged-requires
 flagged-requires c κs = search needs
 
--- src/ask.rt:119:31
 entry-requires : tie.Need-entry-requires
 entry-requires c κs = search needs
 
--- src/ask.rt:119:9
 returns : tie.Need-returns
 returns c = rw (sym (c .before .before .flagged .ensures) ∙ c .before .if1 .taken, c .entry .ensures)
 
--- src/ask.rt:114:1
 returns-2 : tie.Need-returns-2
 returns-2 c = rw (sym (c .before .flagged .ensures) ∙ c .if1 .left)
 

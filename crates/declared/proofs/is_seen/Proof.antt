@@ -1,18 +1,14 @@
+-- `declared::is_seen` meets its contract.
 use borrow.Author.Tests.{ne-eqb}
 use Rattle.declared.proofs.is_seen.Statement.{statement}
 use Rattle.declared.proofs.is_seen.Tie as tie
-use Rattle.declared.proofs.is_seen.Reads as reads
-use Rattle.declared.proofs.is_seen.Lts as lts
 
--- src/ask.rt:65:1
 returns : tie.Need-returns
 returns c = rw (c .before .match .keys1)
 
--- src/ask.rt:65:1
 returns-2 : tie.Need-returns-2
 returns-2 c = rw (c .before .match .keys2)
 
--- src/ask.rt:65:1
 returns-3 : tie.Need-returns-3
 returns-3 c = let n = c .match .rest in rw (ne-eqb _ 0 (n .0 .1), ne-eqb _ 1 (n .1))
 

@@ -1,33 +1,24 @@
-use Rattle.job.proofs.Judged.{judge-refused, judge-accepted}
+-- `job::decode` meets its contract.
 use borrow.Author.Needs.{needs}
+use Rattle.job.proofs.Judged.{judge-refused, judge-accepted}
 use Rattle.job.proofs.decode.Statement.{statement}
 use Rattle.job.proofs.decode.Tie as tie
-use Rattle.job.proofs.decode.Reads as reads
-use Rattle.job.proofs.decode.Lts as lts
-use Rattle.job.proofs.judge.Reads as judge-reads
-use Rattle.tables.proofs.cells.clear.Reads as clear-reads
 
--- src/lib.rt:30:9
 judge-requires : tie.Need-judge-requires
 judge-requires c κs = search needs
 
--- src/lib.rt:32:26
 enum-known-judged : tie.Need-enum-known-judged
 enum-known-judged c = search needs
 
--- src/lib.rt:33:13
 clear-requires : tie.Need-clear-requires
 clear-requires c κs = search needs
 
--- src/lib.rt:36:30
 enum-told : tie.Need-enum-told
 enum-told c = search needs
 
--- src/lib.rt:27:1
 returns : tie.Need-returns
 returns c = (judge-refused _ _ _ _ (c .before .before .before .before .before .judge .ensures) (c .before .before .before .judged .given .1), c .clear .ensures)
 
--- src/lib.rt:27:1
 returns-2 : tie.Need-returns-2
 returns-2 c = judge-accepted _ _ _ (c .before .before .judge .ensures) (c .enum-told .given .1)
 

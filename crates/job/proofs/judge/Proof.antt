@@ -1,41 +1,30 @@
-use Rattle.job.proofs.Judged.{walk-refused, walk-accepted, jumps-decide}
+-- `job::judge` meets its contract.
 use borrow.Author.Needs.{needs}
+use Rattle.job.proofs.Judged.{walk-refused, walk-accepted, jumps-decide}
 use Rattle.job.proofs.judge.Statement.{statement}
 use Rattle.job.proofs.judge.Tie as tie
-use Rattle.job.proofs.judge.Reads as reads
-use Rattle.job.proofs.judge.Lts as lts
-use Rattle.job.proofs.jumps.check_jumps.Reads as check-jumps-reads
-use Rattle.job.proofs.walk.walk.Reads as walk-reads
 
--- src/lib.rt:19:9
 walk-requires : tie.Need-walk-requires
 walk-requires c κs = search needs
 
--- src/lib.rt:21:26
 enum-known-walked : tie.Need-enum-known-walked
 enum-known-walked c = search needs
 
--- src/lib.rt:22:47
 enum-told : tie.Need-enum-told
 enum-told c = search needs
 
--- src/lib.rt:22:30
 check-jumps-requires : tie.Need-check-jumps-requires
 check-jumps-requires c κs = search needs
 
--- src/lib.rt:15:1
 same-length : tie.Need-same-length
 same-length c = search needs
 
--- src/lib.rt:15:1
 returns : tie.Need-returns
 returns c = walk-refused _ _ _ _ (c .before .before .before .before .before .walk .ensures) (c .before .walked .given .1)
 
--- src/lib.rt:15:1
 same-length-2 : tie.Need-same-length-2
 same-length-2 c = search needs
 
--- src/lib.rt:15:1
 returns-2 : tie.Need-returns-2
 returns-2 c = jumps-decide _ _ (c .check-jumps .result) (walk-accepted _ _ _ (c .before .before .before .before .before .before .walk .ensures) (c .before .before .enum-told .given .1)) (c .check-jumps .ensures)
 

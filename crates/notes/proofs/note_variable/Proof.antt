@@ -1,27 +1,20 @@
+-- `notes::note_variable` meets its contract.
 use borrow.Author.Needs.{needs}
 use Rattle.notes.proofs.note_variable.Statement.{statement}
 use Rattle.notes.proofs.note_variable.Tie as tie
-use Rattle.notes.proofs.note_variable.Reads as reads
-use Rattle.notes.proofs.note_variable.Lts as lts
-use Rattle.tables.proofs.cells.put.Reads as put-reads
 
--- src/note.rt:46:5
 put-requires : tie.Need-put-requires
 put-requires c κs = search needs
 
--- src/note.rt:47:5
 put-requires-2 : tie.Need-put-requires-2
 put-requires-2 c κs = search needs
 
--- src/note.rt:48:5
 put-requires-3 : tie.Need-put-requires-3
 put-requires-3 c κs = search needs
 
--- src/note.rt:41:1
 same-length : tie.Need-same-length
 same-length c = search needs
 
--- src/note.rt:41:1
 returns : tie.Need-returns
 returns c = rw (c .before .before .put3 .ensures, c .before .before .before .before .before .before .put2 .ensures, c .before .before .before .before .before .before .before .before .before .before .put .ensures)
 

@@ -1,59 +1,44 @@
+-- `handlers::fetch::fetch` meets its contract.
 use mathlib.Core.Path.{refl}
 use mathlib.Core.Logic.{inl}
-use Rattle.handlers.proofs.Fetched.{no-node, no-position, no-room, made}
 use borrow.Author.Needs.{needs}
+use Rattle.handlers.proofs.Fetched.{no-node, no-position, no-room, made}
 use Rattle.handlers.proofs.fetch.fetch.Statement.{statement}
 use Rattle.handlers.proofs.fetch.fetch.Tie as tie
-use Rattle.handlers.proofs.fetch.fetch.Reads as reads
-use Rattle.handlers.proofs.fetch.fetch.Lts as lts
-use Rattle.command.proofs.instruction.instruction_of.Reads as instruction-of-reads
-use Rattle.command.proofs.read.operand.Reads as operand-reads
 
--- src/fetch.rt:14:16
 cast-node : tie.Need-cast-node
 cast-node c = search needs
 
--- src/fetch.rt:17:9
 returns : tie.Need-returns
 returns c = no-node (c .before .before .before .args .work .now) (c .before .before .before .args .n .0) (c .before .before .before .args .position) (c .if1 .taken)
 
--- src/fetch.rt:20:9
 returns-2 : tie.Need-returns-2
 returns-2 c = no-position (c .before .before .before .before .args .work .now) (c .before .before .before .before .args .n .0) (c .before .before .before .before .args .position) (c .before .if1 .left) (c .if2 .taken)
 
--- src/fetch.rt:23:9
 returns-3 : tie.Need-returns-3
 returns-3 c = no-room (c .before .before .before .before .before .args .work .now) (c .before .before .before .before .before .args .n .0) (c .before .before .before .before .before .args .position) (c .before .before .if1 .left) (c .before .if2 .left) (c .if3 .taken)
 
--- src/fetch.rt:25:15
 mul-at : tie.Need-mul-at
 mul-at c = search needs
 
--- src/fetch.rt:25:15
 add-at : tie.Need-add-at
 add-at c = search needs
 
--- src/fetch.rt:25:14
 mul-at-2 : tie.Need-mul-at-2
 mul-at-2 c = search needs
 
--- src/fetch.rt:26:16
 shared-slice-read-byte : tie.Need-shared-slice-read-byte
 shared-slice-read-byte c = search needs
 
--- src/fetch.rt:27:27
 add-operand : tie.Need-add-operand
 add-operand c = search needs
 
--- src/fetch.rt:27:9
 operand-requires : tie.Need-operand-requires
 operand-requires c κs = (search needs, inl refl)
 
--- src/fetch.rt:28:5
 instruction-of-requires : tie.Need-instruction-of-requires
 instruction-of-requires c κs = search needs
 
--- src/fetch.rt:11:1
 returns-4 : tie.Need-returns-4
 returns-4 c = made (c .before .before .before .before .before .before .before .before .args .work .now) (c .before .before .before .before .before .before .before .before .args .n .0) (c .before .before .before .before .before .before .before .before .args .position) _ _ (c .before .before .before .before .before .if1 .left) (c .before .before .before .before .if2 .left) (c .before .before .before .if3 .left) (c .before .operand .ensures) (c .instruction-of .ensures)
 

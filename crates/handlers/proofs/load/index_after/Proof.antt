@@ -1,29 +1,22 @@
+-- `handlers::load::index_after` meets its contract.
 use mathlib.Core.Path.{sym, _∙_}
 use borrow.Author.Tests.{eq-eqb, ne-eqb}
 use borrow.Author.Needs.{needs}
 use Rattle.handlers.proofs.load.index_after.Statement.{statement}
 use Rattle.handlers.proofs.load.index_after.Tie as tie
-use Rattle.handlers.proofs.load.index_after.Reads as reads
-use Rattle.handlers.proofs.load.index_after.Lts as lts
-use Rattle.command.proofs.bytes.is_handler.Reads as is-handler-reads
 
--- src/load.rt:55:9
 returns : tie.Need-returns
 returns c = rw (eq-eqb _ 0x40 (c .if1 .taken))
 
--- src/load.rt:57:8
 is-handler-requires : tie.Need-is-handler-requires
 is-handler-requires c κs = search needs
 
--- src/load.rt:58:16
 add-result : tie.Need-add-result
 add-result c = search needs
 
--- src/load.rt:58:9
 returns-2 : tie.Need-returns-2
 returns-2 c = rw (ne-eqb _ 0x40 (c .before .before .if1 .left), sym (c .before .is-handler .ensures) ∙ c .if2 .taken)
 
--- src/load.rt:50:1
 returns-3 : tie.Need-returns-3
 returns-3 c = rw (ne-eqb _ 0x40 (c .before .before .if1 .left), sym (c .before .is-handler .ensures) ∙ c .if2 .left)
 

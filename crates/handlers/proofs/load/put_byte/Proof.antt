@@ -1,24 +1,19 @@
+-- `handlers::load::put_byte` meets its contract.
 use mathlib.Core.Path.{sym}
 use lib.Seq.{set-out}
 use borrow.Author.Needs.{needs}
 use Rattle.handlers.proofs.load.put_byte.Statement.{statement}
 use Rattle.handlers.proofs.load.put_byte.Tie as tie
-use Rattle.handlers.proofs.load.put_byte.Reads as reads
-use Rattle.handlers.proofs.load.put_byte.Lts as lts
 
--- src/load.rt:18:9
 slice-write-work : tie.Need-slice-write-work
 slice-write-work c = search needs
 
--- src/load.rt:14:1
 same-length : tie.Need-same-length
 same-length c = search needs
 
--- src/load.rt:14:1
 returns : tie.Need-returns
 returns c = search needs
 
--- src/load.rt:14:1
 returns-2 : tie.Need-returns-2
 returns-2 c = sym (set-out _ _ _ (c .if1 .left))
 

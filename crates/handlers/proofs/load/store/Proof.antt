@@ -1,67 +1,50 @@
+-- `handlers::load::store` meets its contract.
 use borrow.Author.Needs.{needs}
 use Rattle.handlers.proofs.load.store.Statement.{statement}
 use Rattle.handlers.proofs.load.store.Tie as tie
-use Rattle.handlers.proofs.load.store.Reads as reads
-use Rattle.handlers.proofs.load.store.Lts as lts
-use Rattle.handlers.proofs.load.put_byte.Reads as put-byte-reads
 
--- src/load.rt:27:5
 put-byte-requires : tie.Need-put-byte-requires
 put-byte-requires c κs = search needs
 
--- src/load.rt:28:20
 add-put-byte : tie.Need-add-put-byte
 add-put-byte c = search needs
 
--- src/load.rt:28:28
 cast-put-byte : tie.Need-cast-put-byte
 cast-put-byte c = search needs
 
--- src/load.rt:28:5
 put-byte-requires-2 : tie.Need-put-byte-requires-2
 put-byte-requires-2 c κs = search needs
 
--- src/load.rt:29:20
 add-put-byte-2 : tie.Need-add-put-byte-2
 add-put-byte-2 c = search needs
 
--- src/load.rt:29:28
 cast-put-byte-2 : tie.Need-cast-put-byte-2
 cast-put-byte-2 c = search needs
 
--- src/load.rt:29:5
 put-byte-requires-3 : tie.Need-put-byte-requires-3
 put-byte-requires-3 c κs = search needs
 
--- src/load.rt:30:20
 add-put-byte-3 : tie.Need-add-put-byte-3
 add-put-byte-3 c = search needs
 
--- src/load.rt:30:28
 cast-put-byte-3 : tie.Need-cast-put-byte-3
 cast-put-byte-3 c = search needs
 
--- src/load.rt:30:5
 put-byte-requires-4 : tie.Need-put-byte-requires-4
 put-byte-requires-4 c κs = search needs
 
--- src/load.rt:31:20
 add-put-byte-4 : tie.Need-add-put-byte-4
 add-put-byte-4 c = search needs
 
--- src/load.rt:31:28
 cast-put-byte-4 : tie.Need-cast-put-byte-4
 cast-put-byte-4 c = search needs
 
--- src/load.rt:31:5
 put-byte-requires-5 : tie.Need-put-byte-requires-5
 put-byte-requires-5 c κs = search needs
 
--- src/load.rt:23:1
 same-length : tie.Need-same-length
 same-length c = search needs
 
--- src/load.rt:23:1
 returns : tie.Need-returns
 returns c = rw (c .before .before .put-byte5 .ensures, c .before .before .before .before .before .before .put-byte4 .ensures, c .before .before .before .before .before .before .before .before .before .before .put-byte3 .ensures, c .before .before .before .before .before .before .before .before .before .before .before .before .before .before .put-byte2 .ensures, c .before .before .before .before .before .before .before .before .before .before .before .before .before .before .before .before .before .before .put-byte .ensures)
 

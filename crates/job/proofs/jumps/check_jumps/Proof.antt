@@ -1,4 +1,5 @@
-use Prim.Native.Nat.{_≤_, _<_, _-_}
+-- `job::jumps::check_jumps` meets its contract.
+use Prim.Native.Nat.{_<_, _-_}
 use mathlib.Core.Path.{_≡_}
 use mathlib.Core.List.{List}
 use native.Mathlib.Omega.{arith}
@@ -7,17 +8,11 @@ use borrow.Author.Needs.{needs}
 use Rattle.model.specs.Command.{Command}
 use Rattle.model.specs.Refusal.{accepted, decode}
 use Rattle.model.proofs.Reading.{read-at}
-use Rattle.tables.specs.Stands.{Stands}
 use Rattle.command.proofs.Taken.{reads-whole, reads-refused}
+use Rattle.tables.specs.Stands.{Stands}
 use Rattle.job.proofs.Looking.{Looking, looking-start, looking-end, looking-reads, looking-found, looking-on}
 use Rattle.job.proofs.jumps.check_jumps.Statement.{statement}
 use Rattle.job.proofs.jumps.check_jumps.Tie as tie
-use Rattle.job.proofs.jumps.check_jumps.Reads as reads
-use Rattle.job.proofs.jumps.check_jumps.Lts as lts
-use Rattle.command.proofs.read.read_command.Reads as read-command-reads
-use Rattle.job.proofs.jumps.is_far.Reads as is-far-reads
-use Rattle.command.proofs.read.open_after.Reads as open-after-reads
-use Rattle.declared.proofs.length_of.Reads as length-of-reads
 
 abbrev Inv-loop : tie.InvT-loop
 Inv-loop job t at₀ opened₀ at opened = (opened < 4294967296) × ((all : List Command) → decode job ≡ accepted all → Stands t all → Looking job all at opened)
@@ -25,35 +20,27 @@ Inv-loop job t at₀ opened₀ at opened = (opened < 4294967296) × ((all : List
 abbrev μ-loop : tie.MeasureT-loop
 μ-loop job t at₀ opened₀ at opened = length job - at
 
--- src/jumps.rt:40:5
 loop-holds : tie.Need-loop-holds Inv-loop μ-loop
 loop-holds c = (omega arith, λ all e stands. looking-start _ all e)
 
--- src/jumps.rt:41:13
 read-command-requires : tie.Need-read-command-requires Inv-loop μ-loop
 read-command-requires c κs = search needs
 
--- src/jumps.rt:42:27
 enum-known-read : tie.Need-enum-known-read Inv-loop μ-loop
 enum-known-read c = search needs
 
--- src/jumps.rt:43:13
 enum-told : tie.Need-enum-told Inv-loop μ-loop
 enum-told c = search needs
 
--- src/jumps.rt:43:13
 returns : tie.Need-returns Inv-loop μ-loop
 returns c = λ all e stands. looking-reads _ all _ _ (c .before .before .before .before .loop .inv .1 all e stands) (c .before .before .before .loop-test .taken) _ (reads-refused _ _ _ _ (c .before .before .read-command .ensures) (c .enum-told .given .1))
 
--- src/jumps.rt:45:13
 length-of-requires : tie.Need-length-of-requires Inv-loop μ-loop
 length-of-requires c κs = search needs
 
--- src/jumps.rt:46:12
 is-far-requires : tie.Need-is-far-requires Inv-loop μ-loop
 is-far-requires c κs = search needs
 
--- src/jumps.rt:47:13
 returns-2 : tie.Need-returns-2 Inv-loop μ-loop
 returns-2 c =
     λ all e stands.
@@ -61,17 +48,14 @@ returns-2 c =
     let r = reads-whole _ _ _ d _ (c .before .before .before .before .before .before .read-command .ensures) (c .before .before .before .before .read .given .1) in
     looking-found _ all _ _ (c .before .before .before .before .before .before .before .before .loop .inv .1 all e stands) _ stands (c .before .before .before .before .before .before .before .loop-test .taken) d _ _ _ (r .0) (c .before .before .length-of .ensures) (c .before .is-far .ensures) (c .if1 .taken)
 
--- src/jumps.rt:49:9
 open-after-requires : tie.Need-open-after-requires Inv-loop μ-loop
 open-after-requires c κs = search needs
 
--- src/jumps.rt:40:5
 loop-less : tie.Need-loop-less Inv-loop μ-loop
 loop-less c =
     let r = reads-whole _ _ _ (c .before .before .before .before .before .read .given .0 .0) _ (c .before .before .before .before .before .before .before .read-command .ensures) (c .before .before .before .before .before .read .given .1) in
     omega (arith, read-at _ _ _ _ (r .0) .later, c .before .before .before .before .before .before .before .before .loop-test .taken)
 
--- src/jumps.rt:40:5
 loop-again : tie.Need-loop-again Inv-loop μ-loop
 loop-again c =
     let d = c .before .before .before .before .before .read .given .0 .0 in
@@ -81,7 +65,6 @@ loop-again c =
           looking-on _ all _ _ (c .before .before .before .before .before .before .before .before .before .loop .inv .1 all e stands) _ stands (c .before .before .before .before .before .before .before .before .loop-test .taken) d _ _ _ (r .0) (c .before .before .before .length-of .ensures) (c .before .before .is-far .ensures) (c .before .if1 .left) _ (c .open-after .ensures),
     )
 
--- src/jumps.rt:35:1
 returns-3 : tie.Need-returns-3 Inv-loop μ-loop
 returns-3 c = λ all e stands. looking-end _ all _ _ (c .before .loop .inv .1 all e stands) (c .loop-test .left)
 

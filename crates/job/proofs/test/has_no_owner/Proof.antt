@@ -1,18 +1,14 @@
+-- `job::test::has_no_owner` meets its contract.
 use borrow.Author.Tests.{ne-eqb}
 use Rattle.job.proofs.test.has_no_owner.Statement.{statement}
 use Rattle.job.proofs.test.has_no_owner.Tie as tie
-use Rattle.job.proofs.test.has_no_owner.Reads as reads
-use Rattle.job.proofs.test.has_no_owner.Lts as lts
 
--- src/test.rt:42:1
 returns : tie.Need-returns
 returns c = rw (c .before .match .keys1)
 
--- src/test.rt:42:1
 returns-2 : tie.Need-returns-2
 returns-2 c = rw (c .before .match .keys2)
 
--- src/test.rt:42:1
 returns-3 : tie.Need-returns-3
 returns-3 c = let n = c .match .rest in rw (ne-eqb _ 0 (n .0 .1), ne-eqb _ 1 (n .1))
 

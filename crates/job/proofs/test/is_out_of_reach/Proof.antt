@@ -1,39 +1,27 @@
-use Rattle.job.proofs.Judging.{reach-same}
+-- `job::test::is_out_of_reach` meets its contract.
 use borrow.Author.Needs.{needs}
+use Rattle.job.proofs.Judging.{reach-same}
 use Rattle.job.proofs.test.is_out_of_reach.Statement.{statement}
 use Rattle.job.proofs.test.is_out_of_reach.Tie as tie
-use Rattle.job.proofs.test.is_out_of_reach.Reads as reads
-use Rattle.job.proofs.test.is_out_of_reach.Lts as lts
-use Rattle.declared.proofs.flow_of.Reads as flow-of-reads
-use Rattle.declared.proofs.is_shared.Reads as is-shared-reads
-use Rattle.declared.proofs.open_node.Reads as open-node-reads
-use Rattle.declared.proofs.sees.Reads as sees-reads
 
--- src/test.rt:98:9
 flow-of-requires : tie.Need-flow-of-requires
 flow-of-requires c κs = search needs
 
--- src/test.rt:99:9
 flow-of-requires-2 : tie.Need-flow-of-requires-2
 flow-of-requires-2 c κs = search needs
 
--- src/test.rt:100:9
 open-node-requires : tie.Need-open-node-requires
 open-node-requires c κs = search needs
 
--- src/test.rt:101:9
 sees-requires : tie.Need-sees-requires
 sees-requires c κs = search needs
 
--- src/test.rt:102:9
 sees-requires-2 : tie.Need-sees-requires-2
 sees-requires-2 c κs = search needs
 
--- src/test.rt:103:9
 is-shared-requires : tie.Need-is-shared-requires
 is-shared-requires c κs = search needs
 
--- src/test.rt:94:1
 returns : tie.Need-returns
 returns c =
     λ past s.

@@ -1,45 +1,34 @@
-use mathlib.Core.Path.{sym, _∙_}
-use Rattle.job.proofs.Judging.{names-none}
+-- `job::test::names_nothing` meets its contract.
+use mathlib.Core.Path.{sym}
 use borrow.Author.Needs.{needs}
+use Rattle.job.proofs.Judging.{names-none}
 use Rattle.job.proofs.test.names_nothing.Statement.{statement}
 use Rattle.job.proofs.test.names_nothing.Tie as tie
-use Rattle.job.proofs.test.names_nothing.Reads as reads
-use Rattle.job.proofs.test.names_nothing.Lts as lts
-use Rattle.job.proofs.test.has_no_owner.Reads as has-no-owner-reads
 
--- src/test.rt:58:25
 has-no-owner-requires : tie.Need-has-no-owner-requires
 has-no-owner-requires c κs = search needs
 
--- src/test.rt:53:1
 returns : tie.Need-returns
 returns c = rw (c .match .keys1)
 
--- src/test.rt:53:1
 returns-2 : tie.Need-returns-2
 returns-2 c = rw (c .before .match .keys2) (c .has-no-owner .ensures)
 
--- src/test.rt:53:1
 returns-3 : tie.Need-returns-3
 returns-3 c = rw (c .before .match .keys3)
 
--- src/test.rt:53:1
 returns-4 : tie.Need-returns-4
 returns-4 c = rw (c .match .keys4)
 
--- src/test.rt:53:1
 returns-5 : tie.Need-returns-5
 returns-5 c = rw (c .before .match .keys5)
 
--- src/test.rt:53:1
 returns-6 : tie.Need-returns-6
 returns-6 c = rw (c .before .match .keys6)
 
--- src/test.rt:53:1
 returns-7 : tie.Need-returns-7
 returns-7 c = rw (c .before .match .keys7)
 
--- src/test.rt:53:1
 returns-8 : tie.Need-returns-8
 returns-8 c = let n = c .match .rest in sym (names-none _ _ _ _ (n .0 .0 .0 .0 .0 .0 .1) (n .0 .0 .0 .0 .0 .1) (n .0 .0 .0 .0 .1) (n .0 .0 .0 .1) (n .0 .0 .1) (n .0 .1) (n .1))
 

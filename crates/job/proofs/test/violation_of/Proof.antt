@@ -1,52 +1,37 @@
+-- `job::test::violation_of` meets its contract.
 use mathlib.Core.Path.{sym, _∙_}
 use borrow.Author.Tests.{lt-ltb, le-ltb}
-use Rattle.job.proofs.Judging.{violation-as}
 use borrow.Author.Needs.{needs}
+use Rattle.job.proofs.Judging.{violation-as}
 use Rattle.job.proofs.test.violation_of.Statement.{statement}
 use Rattle.job.proofs.test.violation_of.Tie as tie
-use Rattle.job.proofs.test.violation_of.Reads as reads
-use Rattle.job.proofs.test.violation_of.Lts as lts
-use Rattle.job.proofs.test.exceeds_count.Reads as exceeds-count-reads
-use Rattle.job.proofs.test.is_out_of_reach.Reads as is-out-of-reach-reads
-use Rattle.job.proofs.test.is_repeated.Reads as is-repeated-reads
-use Rattle.job.proofs.test.is_undeclared.Reads as is-undeclared-reads
-use Rattle.declared.proofs.group.Reads as group-reads
 
--- src/test.rt:135:17
 cast-group : tie.Need-cast-group
 cast-group c = search needs
 
--- src/test.rt:136:16
 group-requires : tie.Need-group-requires
 group-requires c κs = search needs
 
--- src/test.rt:137:9
 returns : tie.Need-returns
 returns c = λ past s plain. rw (violation-as _ _ past s _ (c .before .group .ensures), lt-ltb _ _ (c .if1 .taken))
 
--- src/test.rt:139:8
 exceeds-count-requires : tie.Need-exceeds-count-requires
 exceeds-count-requires c κs = search needs
 
--- src/test.rt:140:9
 returns-2 : tie.Need-returns-2
 returns-2 c = λ past s plain. rw (violation-as _ _ past s _ (c .before .before .before .group .ensures), le-ltb _ _ (c .before .before .if1 .left), sym (c .before .exceeds-count .ensures past s) ∙ c .if2 .taken)
 
--- src/test.rt:142:8
 is-undeclared-requires : tie.Need-is-undeclared-requires
 is-undeclared-requires c κs = search needs
 
--- src/test.rt:143:9
 returns-3 : tie.Need-returns-3
 returns-3 c =
     λ past s plain.
     rw (violation-as _ _ past s _ (c .before .before .before .before .before .group .ensures), le-ltb _ _ (c .before .before .before .before .if1 .left), sym (c .before .before .before .exceeds-count .ensures past s) ∙ c .before .before .if2 .left, sym (c .before .is-undeclared .ensures past s) ∙ c .if3 .taken)
 
--- src/test.rt:145:8
 is-out-of-reach-requires : tie.Need-is-out-of-reach-requires
 is-out-of-reach-requires c κs = search needs
 
--- src/test.rt:146:9
 returns-4 : tie.Need-returns-4
 returns-4 c =
     λ past s plain.
@@ -58,11 +43,9 @@ returns-4 c =
       sym (c .before .is-out-of-reach .ensures past s) ∙ c .if4 .taken,
     )
 
--- src/test.rt:148:8
 is-repeated-requires : tie.Need-is-repeated-requires
 is-repeated-requires c κs = search needs
 
--- src/test.rt:149:9
 returns-5 : tie.Need-returns-5
 returns-5 c =
     λ past s plain.
@@ -75,7 +58,6 @@ returns-5 c =
       sym (c .before .is-repeated .ensures past s plain) ∙ c .if5 .taken,
     )
 
--- src/test.rt:131:1
 returns-6 : tie.Need-returns-6
 returns-6 c =
     λ past s plain.

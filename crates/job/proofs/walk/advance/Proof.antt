@@ -1,38 +1,28 @@
-use Rattle.job.proofs.Going.{step-unread}
-use Rattle.command.proofs.Taken.{reads-whole, reads-refused}
+-- `job::walk::advance` meets its contract.
 use borrow.Author.Needs.{needs}
+use Rattle.command.proofs.Taken.{reads-whole, reads-refused}
+use Rattle.job.proofs.Going.{step-unread}
 use Rattle.job.proofs.walk.advance.Statement.{statement}
 use Rattle.job.proofs.walk.advance.Tie as tie
-use Rattle.job.proofs.walk.advance.Reads as reads
-use Rattle.job.proofs.walk.advance.Lts as lts
-use Rattle.command.proofs.read.read_command.Reads as read-command-reads
-use Rattle.job.proofs.walk.take.Reads as take-reads
 
--- src/walk.rt:53:9
 read-command-requires : tie.Need-read-command-requires
 read-command-requires c κs = search needs
 
--- src/walk.rt:55:25
 enum-known-read : tie.Need-enum-known-read
 enum-known-read c = search needs
 
--- src/walk.rt:56:23
 enum-known-read-2 : tie.Need-enum-known-read-2
 enum-known-read-2 c = search needs
 
--- src/walk.rt:56:35
 take-requires : tie.Need-take-requires
 take-requires c κs = (c .before .before .before .before .before .before .before .pre, reads-whole _ _ _ _ _ (c .before .before .before .before .read-command .ensures) (c .before .before .read2 .given .1))
 
--- src/walk.rt:47:1
 returns : tie.Need-returns
 returns c = λ past stands valid short. step-unread _ _ (c .before .before .before .before .before .before .pre .0) past _ (reads-refused _ _ _ _ (c .before .before .before .read-command .ensures) (c .before .read .given .1))
 
--- src/walk.rt:47:1
 same-length : tie.Need-same-length
 same-length c = search needs
 
--- src/walk.rt:47:1
 returns-2 : tie.Need-returns-2
 returns-2 c = search needs
 

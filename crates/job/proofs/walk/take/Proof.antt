@@ -1,23 +1,16 @@
-use mathlib.Core.Path.{sym, _∙_}
+-- `job::walk::take` meets its contract.
 use native.Mathlib.Omega.{arith}
-use Rattle.job.proofs.Going.{read-plain, step-refused, step-valid, step-on}
 use borrow.Author.Needs.{needs}
+use Rattle.job.proofs.Going.{read-plain, step-refused, step-valid, step-on}
 use Rattle.job.proofs.walk.take.Statement.{statement}
 use Rattle.job.proofs.walk.take.Tie as tie
-use Rattle.job.proofs.walk.take.Reads as reads
-use Rattle.job.proofs.walk.take.Lts as lts
-use Rattle.job.proofs.test.violation_of.Reads as violation-of-reads
-use Rattle.notes.proofs.note.Reads as note-reads
 
--- src/walk.rt:38:9
 violation-of-requires : tie.Need-violation-of-requires
 violation-of-requires c κs = search needs
 
--- src/walk.rt:40:9
 same-length : tie.Need-same-length
 same-length c = search needs
 
--- src/walk.rt:40:9
 returns : tie.Need-returns
 returns c =
     λ past stands valid short.
@@ -25,15 +18,12 @@ returns c =
     let plain = read-plain _ _ (p .0 .0) past (c .before .before .before .before .before .args .c) _ (p .1 .0) in
     step-refused _ _ (p .0 .0) past (c .before .before .before .before .before .args .c) _ (p .1 .0) _ (c .before .violation-of .ensures past stands plain) (c .if1 .taken)
 
--- src/walk.rt:42:5
 note-requires : tie.Need-note-requires
 note-requires c κs = search needs
 
--- src/walk.rt:31:1
 same-length-2 : tie.Need-same-length-2
 same-length-2 c = search needs
 
--- src/walk.rt:31:1
 returns-2 : tie.Need-returns-2
 returns-2 c =
     λ past stands valid short.

@@ -1,3 +1,4 @@
+-- `job::walk::walk` meets its contract.
 use Prim.Native.Nat.{_≤_, _-_}
 use native.Mathlib.Omega.{arith}
 use lib.ListN.{length}
@@ -6,10 +7,6 @@ use Rattle.model.proofs.Decoding.{decode-empty, decode-long}
 use Rattle.job.proofs.Going.{Going, going-start, going-end, going-stop, going-on, steps-next, steps-stop}
 use Rattle.job.proofs.walk.walk.Statement.{statement}
 use Rattle.job.proofs.walk.walk.Tie as tie
-use Rattle.job.proofs.walk.walk.Reads as reads
-use Rattle.job.proofs.walk.walk.Lts as lts
-use Rattle.job.proofs.walk.advance.Reads as advance-reads
-use Rattle.tables.proofs.cells.clear.Reads as clear-reads
 
 abbrev Inv-loop : tie.InvT-loop
 Inv-loop job t₀ at₀ t at = (length job ≤ 16384) × Going job t at
@@ -17,74 +14,59 @@ Inv-loop job t₀ at₀ t at = (length job ≤ 16384) × Going job t at
 abbrev μ-loop : tie.MeasureT-loop
 μ-loop job t₀ at₀ t at = length job - at
 
--- src/walk.rt:65:5
 clear-requires : tie.Need-clear-requires Inv-loop μ-loop
 clear-requires c κs = search needs
 
--- src/walk.rt:67:9
 same-length : tie.Need-same-length Inv-loop μ-loop
 same-length c = omega (arith, c .before .before .before .clear .kept .0)
 
--- src/walk.rt:67:9
 returns : tie.Need-returns Inv-loop μ-loop
 returns c = decode-empty _ (c .if1 .taken)
 
--- src/walk.rt:70:9
 same-length-2 : tie.Need-same-length-2 Inv-loop μ-loop
 same-length-2 c = omega (arith, c .before .before .before .before .clear .kept .0)
 
--- src/walk.rt:70:9
 returns-2 : tie.Need-returns-2 Inv-loop μ-loop
 returns-2 c = decode-long _ (c .before .if1 .left) (c .if2 .taken)
 
--- src/walk.rt:73:5
 loop-holds : tie.Need-loop-holds Inv-loop μ-loop
 loop-holds c = (c .if2 .left, going-start _ _ (c .before .if1 .left) (c .if2 .left) (c .before .before .before .before .clear .ensures))
 
--- src/walk.rt:74:13
 advance-requires : tie.Need-advance-requires Inv-loop μ-loop
 advance-requires c κs = (c .before .loop-test .taken, c .before .before .loop .inv .0)
 
--- src/walk.rt:76:24
 enum-known-s : tie.Need-enum-known-s Inv-loop μ-loop
 enum-known-s c = search needs
 
--- src/walk.rt:77:17
 same-length-3 : tie.Need-same-length-3 Inv-loop μ-loop
 same-length-3 c =
     let g = c .before .before .before .before .before .before .before .before .loop .inv .1 in
     let h = c .before .before .before .before .before .advance .kept in
     omega (arith, h .1 .1 .0, g .stands .size, c .before .before .before .before .before .before .before .before .before .before .before .before .before .before .before .before .before .pre)
 
--- src/walk.rt:77:17
 returns-3 : tie.Need-returns-3 Inv-loop μ-loop
 returns-3 c =
     let g = c .before .before .before .before .before .before .before .before .loop .inv .1 in
     going-stop _ _ _ g (c .before .before .before .before .before .before .before .loop-test .taken) _ (steps-stop _ _ (g .past) _ _ _ (c .before .before .before .before .before .advance .ensures (g .past) (g .stands) (g .valid) (g .short)) (c .before .s .given .1))
 
--- src/walk.rt:79:24
 enum-known-s-2 : tie.Need-enum-known-s-2 Inv-loop μ-loop
 enum-known-s-2 c = search needs
 
--- src/walk.rt:73:5
 loop-less : tie.Need-loop-less Inv-loop μ-loop
 loop-less c =
     let g = c .before .before .before .before .before .before .before .before .loop .inv .1 in
     let o = steps-next _ _ (g .past) _ _ _ (c .before .before .before .before .before .advance .ensures (g .past) (g .stands) (g .valid) (g .short)) (c .before .s2 .given .1) in
     omega (arith, o .later, c .before .before .before .before .before .before .before .loop-test .taken)
 
--- src/walk.rt:73:5
 loop-again : tie.Need-loop-again Inv-loop μ-loop
 loop-again c =
     let g = c .before .before .before .before .before .before .before .before .loop .inv .1 in
     let o = steps-next _ _ (g .past) _ _ _ (c .before .before .before .before .before .advance .ensures (g .past) (g .stands) (g .valid) (g .short)) (c .before .s2 .given .1) in
     (c .before .before .before .before .before .before .before .before .loop .inv .0, going-on _ _ _ g (c .before .before .before .before .before .before .before .loop-test .taken) _ _ o)
 
--- src/walk.rt:61:1
 same-length-4 : tie.Need-same-length-4 Inv-loop μ-loop
 same-length-4 c = omega (arith, c .before .loop .inv .1 .stands .size, c .before .before .before .before .before .before .before .before .before .before .pre)
 
--- src/walk.rt:61:1
 returns-4 : tie.Need-returns-4 Inv-loop μ-loop
 returns-4 c = going-end _ _ _ (c .before .loop .inv .1) (c .loop-test .left)
 

@@ -1,3 +1,4 @@
+-- `tables::cells::clear` meets its contract.
 use Prim.Native.Nat.{ℕ, _≤_, _<_, _-_}
 use mathlib.Core.Path.{_≡_, _∙_}
 use native.Mathlib.Omega.{arith}
@@ -8,8 +9,6 @@ use borrow.Author.Count.{below-more}
 use Rattle.tables.proofs.Writing.{blank-each}
 use Rattle.tables.proofs.cells.clear.Statement.{statement}
 use Rattle.tables.proofs.cells.clear.Tie as tie
-use Rattle.tables.proofs.cells.clear.Reads as reads
-use Rattle.tables.proofs.cells.clear.Lts as lts
 
 abbrev Inv-loop : tie.InvT-loop
 Inv-loop t₀ i₀ t i = (i ≤ length t) × (length t ≡ 15936) × ((k : ℕ) → k < i → getD t k 0 ≡ 0)
@@ -17,27 +16,21 @@ Inv-loop t₀ i₀ t i = (i ≤ length t) × (length t ≡ 15936) × ((k : ℕ) 
 abbrev μ-loop : tie.MeasureT-loop
 μ-loop t₀ i₀ t i = 15936 - i
 
--- src/cells.rt:108:5
 loop-holds : tie.Need-loop-holds Inv-loop μ-loop
 loop-holds c = (omega arith, c .pre, λ k h. absurd (omega arith))
 
--- src/cells.rt:109:9
 mul-t : tie.Need-mul-t Inv-loop μ-loop
 mul-t c = search needs
 
--- src/cells.rt:109:9
 slice-write-t : tie.Need-slice-write-t Inv-loop μ-loop
 slice-write-t c = search needs
 
--- src/cells.rt:110:9
 add-i : tie.Need-add-i Inv-loop μ-loop
 add-i c = search needs
 
--- src/cells.rt:108:5
 loop-less : tie.Need-loop-less Inv-loop μ-loop
 loop-less c = let h = c .before .loop .inv .1 in omega arith
 
--- src/cells.rt:108:5
 loop-again : tie.Need-loop-again Inv-loop μ-loop
 loop-again c =
     let l = c .before .loop in
@@ -48,11 +41,9 @@ loop-again c =
       below-more (λ k. getD (set (l .t) (l .i) 0) k 0 ≡ 0) (l .i) (λ k h. getD-set-other (l .t) (l .i) k 0 0 (λ e. omega arith) ∙ z k h) (getD-set-same (l .t) (l .i) 0 0 m),
     )
 
--- src/cells.rt:103:1
 same-length : tie.Need-same-length Inv-loop μ-loop
 same-length c = search needs
 
--- src/cells.rt:103:1
 returns : tie.Need-returns Inv-loop μ-loop
 returns c = blank-each _ _ (c .before .loop .inv .1) (c .loop-test .left) (c .before .loop .inv .2)
 

@@ -1,37 +1,28 @@
+-- `tables::cells::mark` meets its contract.
 use mathlib.Core.Path.{sym, _∙_}
-use Rattle.tables.proofs.Writing.{mark-inside, mark-below, mark-beside}
 use borrow.Author.Needs.{needs}
+use Rattle.tables.proofs.Writing.{mark-inside, mark-below, mark-beside}
 use Rattle.tables.proofs.cells.mark.Statement.{statement}
 use Rattle.tables.proofs.cells.mark.Tie as tie
-use Rattle.tables.proofs.cells.mark.Reads as reads
-use Rattle.tables.proofs.cells.mark.Lts as lts
-use Rattle.tables.proofs.cells.put.Reads as put-reads
 
--- src/cells.rt:97:27
 mul-put : tie.Need-mul-put
 mul-put c = search needs
 
--- src/cells.rt:97:27
 add-put : tie.Need-add-put
 add-put c = search needs
 
--- src/cells.rt:97:13
 put-requires : tie.Need-put-requires
 put-requires c κs = search needs
 
--- src/cells.rt:91:1
 same-length : tie.Need-same-length
 same-length c = search needs
 
--- src/cells.rt:91:1
 returns : tie.Need-returns
 returns c = c .before .before .put .ensures ∙ sym (mark-inside _ _ _ _ _ (c .before .before .before .before .before .if1 .taken) (c .before .before .before .before .if2 .taken))
 
--- src/cells.rt:91:1
 returns-2 : tie.Need-returns-2
 returns-2 c = sym (mark-beside _ _ _ _ _ (c .before .if1 .taken) (c .if2 .left))
 
--- src/cells.rt:91:1
 returns-3 : tie.Need-returns-3
 returns-3 c = sym (mark-below _ _ _ _ _ (c .if1 .left))
 

@@ -1,33 +1,25 @@
+-- `tables::cells::marked` meets its contract.
 use mathlib.Core.Path.{sym, _∙_}
-use Rattle.tables.proofs.Writing.{grid-inside, grid-below, grid-beside}
 use borrow.Author.Needs.{needs}
+use Rattle.tables.proofs.Writing.{grid-inside, grid-below, grid-beside}
 use Rattle.tables.proofs.cells.marked.Statement.{statement}
 use Rattle.tables.proofs.cells.marked.Tie as tie
-use Rattle.tables.proofs.cells.marked.Reads as reads
-use Rattle.tables.proofs.cells.marked.Lts as lts
-use Rattle.tables.proofs.cells.flagged.Reads as flagged-reads
 
--- src/cells.rt:92:34
 mul-flagged : tie.Need-mul-flagged
 mul-flagged c = search needs
 
--- src/cells.rt:92:34
 add-flagged : tie.Need-add-flagged
 add-flagged c = search needs
 
--- src/cells.rt:92:13
 flagged-requires : tie.Need-flagged-requires
 flagged-requires c κs = search needs
 
--- src/cells.rt:92:13
 returns : tie.Need-returns
 returns c = c .flagged .ensures ∙ sym (grid-inside _ _ _ _ (c .before .before .if1 .taken) (c .before .if2 .taken))
 
--- src/cells.rt:86:1
 returns-2 : tie.Need-returns-2
 returns-2 c = sym (grid-beside _ _ _ _ (c .before .if1 .taken) (c .if2 .left))
 
--- src/cells.rt:86:1
 returns-3 : tie.Need-returns-3
 returns-3 c = sym (grid-below _ _ _ _ (c .if1 .left))
 
