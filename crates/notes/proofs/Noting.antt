@@ -364,7 +364,8 @@ module _ (t : List ℕ) (past : List Command) (c : Command) (s : Stands t past) 
 
 -- the tables behind the writes as a program makes them, one after the other
 pub stands-noted :
-    (t : List ℕ) (c : Code) (have flows nodes variables functions arguments opened len flow more longer less : ℕ) (body : Bool) (u₁ u₂ u₃ u₄ u₅ u₆ u₇ u₈ u₉ u₁₀ u₁₁ u₁₂ u₁₃ u₁₄ : List ℕ) (past : List Command)
+    (t : List ℕ) (c : Code) (have flows nodes variables functions arguments opened len flow more longer less : ℕ) (body : Bool)
+    (u₁ u₂ u₃ u₄ u₅ u₆ u₇ u₈ u₉ u₁₀ u₁₁ u₁₂ u₁₃ u₁₄ u₁₅ u₁₆ u₁₇ u₁₈ u₁₉ u₂₀ : List ℕ) (past : List Command)
     → Stands t past → Valid (commandOf c ∷ past) → length past < 65536
     → have ≡ countIn t (c .byte) → flows ≡ countIn t FLOW → nodes ≡ countIn t NODE → variables ≡ countIn t VAR → functions ≡ countIn t FUN → arguments ≡ countIn t ARG
     → opened ≡ openIn t → len ≡ lengthIn t opened → flow ≡ flowIn t (c .first) → body ≡ (leb 0x41 (c .byte) && leb (c .byte) 0x4B)
@@ -373,20 +374,26 @@ pub stands-noted :
     → u₂ ≡ putIn u₁ true progressCells 0 (c .byte / 16)
     → u₃ ≡ putIn u₂ (eqb (c .byte) BODY) progressCells 1 (c .first)
     → u₄ ≡ putIn u₃ (eqb (c .byte) NODE) flowCells nodes less
-    → u₅ ≡ putIn (putIn (putIn u₄ (eqb (c .byte) VAR) scopeCells variables (c .first)) (eqb (c .byte) VAR) ownerCells variables (c .second)) (eqb (c .byte) VAR) startCells variables (c .third)
-    → u₆ ≡ putIn u₅ (eqb (c .byte) FUN) answerCells functions (c .first)
-    → u₇ ≡ putIn u₆ body lengthCells opened longer
-    → u₈ ≡ putIn u₇ (eqb (c .byte) BODY) bodyCells (c .first) 1
-    → u₉ ≡ putIn (putIn (putIn u₈ (eqb (c .byte) START) startedCells flow 1) (eqb (c .byte) START) firstCells (c .first) 1) (eqb (c .byte) START) messageCells (c .first) (c .second)
-    → u₁₀ ≡ putIn (putIn (putIn u₉ (eqb (c .byte) ARG) argNodeCells arguments (c .first)) (eqb (c .byte) ARG) argFunctionCells arguments (c .second)) (eqb (c .byte) ARG) argValueCells arguments (c .third)
-    → u₁₁ ≡ markAt u₁₀ (eqb (c .byte) READ) readCells (c .first) (c .second)
-    → u₁₂ ≡ markAt u₁₁ (eqb (c .byte) WRITE) writeCells (c .first) (c .second)
-    → u₁₃ ≡ markAt u₁₂ (eqb (c .byte) ANY) anyCells (c .first) (c .second)
-    → u₁₄ ≡ markAt u₁₃ (eqb (c .byte) WIRE) wireCells (c .first * 4 + c .second) (c .third)
-    → Stands u₁₄ (commandOf c ∷ past)
+    → u₅ ≡ putIn u₄ (eqb (c .byte) VAR) scopeCells variables (c .first)
+    → u₆ ≡ putIn u₅ (eqb (c .byte) VAR) ownerCells variables (c .second)
+    → u₇ ≡ putIn u₆ (eqb (c .byte) VAR) startCells variables (c .third)
+    → u₈ ≡ putIn u₇ (eqb (c .byte) FUN) answerCells functions (c .first)
+    → u₉ ≡ putIn u₈ body lengthCells opened longer
+    → u₁₀ ≡ putIn u₉ (eqb (c .byte) BODY) bodyCells (c .first) 1
+    → u₁₁ ≡ putIn u₁₀ (eqb (c .byte) START) startedCells flow 1
+    → u₁₂ ≡ putIn u₁₁ (eqb (c .byte) START) firstCells (c .first) 1
+    → u₁₃ ≡ putIn u₁₂ (eqb (c .byte) START) messageCells (c .first) (c .second)
+    → u₁₄ ≡ putIn u₁₃ (eqb (c .byte) ARG) argNodeCells arguments (c .first)
+    → u₁₅ ≡ putIn u₁₄ (eqb (c .byte) ARG) argFunctionCells arguments (c .second)
+    → u₁₆ ≡ putIn u₁₅ (eqb (c .byte) ARG) argValueCells arguments (c .third)
+    → u₁₇ ≡ markAt u₁₆ (eqb (c .byte) READ) readCells (c .first) (c .second)
+    → u₁₈ ≡ markAt u₁₇ (eqb (c .byte) WRITE) writeCells (c .first) (c .second)
+    → u₁₉ ≡ markAt u₁₈ (eqb (c .byte) ANY) anyCells (c .first) (c .second)
+    → u₂₀ ≡ markAt u₁₉ (eqb (c .byte) WIRE) wireCells (c .first * 4 + c .second) (c .third)
+    → Stands u₂₀ (commandOf c ∷ past)
 unfolding markAt
-stands-noted t c have flows nodes variables functions arguments opened len flow more longer less body u₁ u₂ u₃ u₄ u₅ u₆ u₇ u₈ u₉ u₁₀ u₁₁ u₁₂ u₁₃ u₁₄ past s v l a₁ a₂ a₃ a₄ a₅ a₆ a₇ a₈ a₉ b₁ b₂ b₃ b₄ e₁ e₂ e₃ e₄ e₅ e₆ e₇ e₈ e₉ e₁₀ e₁₁ e₁₂ e₁₃ e₁₄ =
+stands-noted t c have flows nodes variables functions arguments opened len flow more longer less body u₁ u₂ u₃ u₄ u₅ u₆ u₇ u₈ u₉ u₁₀ u₁₁ u₁₂ u₁₃ u₁₄ u₁₅ u₁₆ u₁₇ u₁₈ u₁₉ u₂₀ past s v l a₁ a₂ a₃ a₄ a₅ a₆ a₇ a₈ a₉ b₁ b₂ b₃ b₄ e₁ e₂ e₃ e₄ e₅ e₆ e₇ e₈ e₉ e₁₀ e₁₁ e₁₂ e₁₃ e₁₄ e₁₅ e₁₆ e₁₇ e₁₈ e₁₉ e₂₀ =
     let p : more ≡ countIn t (c .byte) + 1 = b₂ (omega (arith, s .counts (c .byte) (byte-low (c .byte) (v .1 .known)), count-below (c .byte) past)) ∙ rw a₁ in
     let q : longer ≡ lengthIn t (openIn t) + 1 = b₃ (omega (arith, s .lengths opened, limits past (v .0) .handlers opened)) ∙ rw (a₈, a₇) in
-    let same : u₁₄ ≡ written t (noteWrites t (commandOf c)) = rw (e₁₄, e₁₃, e₁₂, e₁₁, e₁₀, e₉, e₈, e₇, e₆, e₅, e₄, e₃, e₂, e₁, p, q, b₄, b₁, a₂, a₃, a₄, a₅, a₆, a₇, a₉) in
+    let same : u₂₀ ≡ written t (noteWrites t (commandOf c)) = rw (e₂₀, e₁₉, e₁₈, e₁₇, e₁₆, e₁₅, e₁₄, e₁₃, e₁₂, e₁₁, e₁₀, e₉, e₈, e₇, e₆, e₅, e₄, e₃, e₂, e₁, p, q, b₄, b₁, a₂, a₃, a₄, a₅, a₆, a₇, a₉) in
     rw same (stands-next t past (commandOf c) s v)
