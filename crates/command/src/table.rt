@@ -84,9 +84,10 @@ pub enum Lookup {
 pub fn look_up(byte: u8) -> Lookup
     ensures { λ r. ⌜ Finds byte r ⌝ }
 {
+    let rows = ROWS;
     let mut i = 0;
     while i < 23 {
-        let r = row_at(i);
+        let r = rows[i];
         if r.0 == byte {
             return Lookup::Found(i);
         }
