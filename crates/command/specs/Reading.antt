@@ -4,6 +4,7 @@ use mathlib.Core.Path.{_≡_}
 use mathlib.Core.List.{List}
 use mathlib.Core.Logic.{_⊎_}
 use mathlib.Core.Option.{Option, none, some}
+use Rattle.model.specs.Table.{groupOf}
 use Rattle.model.specs.Command.{Command as Past, Parsed as ParsedAs, whole, unknown, cutShort, ternary, readCommand}
 use Rattle.model.specs.Refusal.{Refusal as RefusedFor, refuse}
 use Rattle.command.specs.declared.read.Command.{Command}
@@ -26,9 +27,14 @@ refusalAt place unknown = some (refuse 2 place)
 refusalAt place cutShort = some (refuse 3 place)
 refusalAt place (whole c next) = none
 
--- what the program answers is what the model reads: a whole command, with its row, or a refusal
+-- the row and the group that stand in a command of the code are those of its byte
+pub record Known (c : Command) : Type 0 where
+  pub row : RowOf (c .byte) (c .row)
+  pub group : c .group ≡ groupOf (c .byte)
+
+-- what the code answers is what the model reads: a whole command, with its row and group, or a refusal
 abbrev pub Reads : List ℕ → ℕ → Parsed → Type 0
-Reads job place (Whole c next) = (readCommand job place ≡ whole (commandOf c) next) × RowOf (c .byte) (c .row)
+Reads job place (Whole c next) = (readCommand job place ≡ whole (commandOf c) next) × Known c
 Reads job place (Refused r) = refusalAt place (readCommand job place) ≡ some (refusalOf r)
 
 -- the widths of operands

@@ -1,10 +1,12 @@
 -- The rows of the program's table, and what they say in the model's words.
 use Prim.Native.Nat.{ℕ, zero, suc, _<_}
 use mathlib.Core.Path.{_≡_}
+use mathlib.Core.Bool.{Bool, _&&_}
 use mathlib.Core.List.{[], _∷_}
 use mathlib.Core.Option.{Option, none, some}
+use lib.Dec.{leb}
 use lib.ListN.{getD}
-use Rattle.model.specs.Table.{OperandKind, scope, owner, start, answer, node, port, target, function, value, variable, jump, absent, width, Row, row, table, operandsOf, operandAt, groupOf, Limit, limit, largestOf}
+use Rattle.model.specs.Table.{SET, SKIP, OperandKind, scope, owner, start, answer, node, port, target, function, value, variable, jump, absent, width, Row, row, table, operandsOf, operandAt, groupOf, Limit, limit, largestOf}
 use Rattle.command.specs.declared.table.Row.{Row as Shape}
 use Rattle.command.specs.declared.table.Lookup.{Lookup}
 use Rattle.command.specs.declared.table.Lookup.the-variants.{Found, Missing}
@@ -44,3 +46,7 @@ pub record RowOf (b i : ℕ) : Type 0 where
 abbrev pub Finds : ℕ → Lookup → Type 0
 Finds b (Found i) = RowOf b i
 Finds b Missing = operandsOf b ≡ none
+
+-- the byte is that of a handler command: 41 SET to 4B SKIP
+abbrev pub isHandlerByte : ℕ → Bool
+isHandlerByte b = leb SET b && leb b SKIP

@@ -1,7 +1,6 @@
 // The command bytes.
 ghost use mathlib.Core.Path.{_≡_};
-ghost use mathlib.Core.Bool.{_&&_};
-ghost use lib.Dec.{leb};
+ghost use Rattle.command.specs.Rows.{isHandlerByte};
 
 pub const FLOW: u8 = 0x01;
 
@@ -51,7 +50,7 @@ pub const TURN: u8 = 0x60;
 
 // Whether the byte is that of a handler command: 41 SET to 4B SKIP.
 pub fn is_handler(byte: u8) -> bool
-    ensures { λ r. ⌜ r ≡ (leb 0x41 byte && leb byte 0x4B) ⌝ }
+    ensures { λ r. ⌜ r ≡ isHandlerByte byte ⌝ }
 {
     (SET <= byte) & (byte <= SKIP)
 }

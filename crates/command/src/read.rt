@@ -4,9 +4,11 @@ ghost use mathlib.Core.Bool.{cond};
 ghost use Prim.Native.Nat.{_+_, _<_, _≤_};
 ghost use lib.Dec.{eqb};
 ghost use lib.ListN.{length};
+ghost use Rattle.model.specs.Table.{BODY};
 ghost use Rattle.model.specs.Command.{numberAt};
 ghost use Rattle.command.specs.Reading.{Reads, IsWidth};
 use crate::bytes;
+use crate::numbers::NodeNum;
 use crate::table::Lookup;
 use crate::table::look_up;
 use crate::table::row_at;
@@ -17,11 +19,12 @@ pub struct Refusal {
     pub place: usize,
 }
 
-// A command that was read: its place in the job, its row of the table, its byte, and its operands, 0 where it has none.
+// A command that was read: its place in the job, its row of the table, its byte and group, and its operands, 0 where it has none.
 pub struct Command {
     pub place: usize,
     pub row: usize,
     pub byte: u8,
+    pub group: u8,
     pub first: u32,
     pub second: u32,
     pub third: u32,
@@ -92,6 +95,7 @@ pub fn read_command(job: &[u8], at: usize) -> Parsed
         place: at,
         row,
         byte,
+        group: shape.1,
         first,
         second,
         third,
@@ -100,11 +104,11 @@ pub fn read_command(job: &[u8], at: usize) -> Parsed
 }
 
 // The node of the open handler, behind a command.
-pub fn open_after(c: Command, opened: u32) -> u32
-    ensures { λ r. ⌜ r ≡ cond (eqb (c .byte) 0x40) (c .first) opened ⌝ }
+pub fn open_after(c: Command, opened: NodeNum) -> NodeNum
+    ensures { λ r. ⌜ r .0 ≡ cond (eqb (c .byte) BODY) (c .first) (opened .0) ⌝ }
 {
     if c.byte == bytes::BODY {
-        return c.first;
+        return NodeNum(c.first);
     }
     opened
 }

@@ -35,8 +35,8 @@ module _ (w : List ℕ) (n i : ℕ) where
   from-slot h k l = rw (lt-ltb n 32 h, lt-ltb i 64 k, le-leb 16384 (length w) l)
 
   pub made :
-      (x : ℕ) (r : Instruction) → n < 32 → i < 64 → 16384 ≤ length w → x ≡ numberAt w (slotOf n i + 1) 4 → r ≡ recognised (getD w (slotOf n i) 0) x → r ≡ fetchedIn w n i
-  made x r h k l e q = q ∙ rw e (sym (from-slot h k l))
+      (at x : ℕ) (r : Instruction) → n < 32 → i < 64 → 16384 ≤ length w → at ≡ slotOf n i → x ≡ numberAt w (at + 1) 4 → r ≡ recognised (getD w at 0) x → r ≡ fetchedIn w n i
+  made at x r h k l a e q = q ∙ rw (e, a) (sym (from-slot h k l))
 
 -- a handler is that of a node
 handler-inside : (past : List Command) → Valid past → (n i : ℕ) → i < length (handlerOf past n) → n < 32

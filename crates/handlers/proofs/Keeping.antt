@@ -22,6 +22,7 @@ use Rattle.model.proofs.Ranges.{open-inside, body-fresh}
 use Rattle.model.proofs.Valid.{job-accepted, limits}
 use Rattle.command.specs.declared.read.Command.{Command as Code}
 use Rattle.command.specs.declared.read.Refusal.{Refusal}
+use Rattle.command.specs.Rows.{isHandlerByte}
 use Rattle.command.specs.Reading.{commandOf, refusalOf, refusalAt}
 use Rattle.handlers.specs.Loading.{slotOf, stored, loaded, IsAccepted, commandsOf}
 
@@ -114,9 +115,9 @@ module _ (job : List ℕ) (all : List Command) (w u : List ℕ) (place opened in
 
       pub keeping-on :
           (x : List ℕ) (o i : ℕ)
-          → x ≡ cond (leb 0x41 (c .byte) && leb (c .byte) 0x4B) (stored u (slotOf opened index) (c .byte) (c .first)) u
-          → i ≡ cond (eqb (c .byte) 0x40) 0 (cond (leb 0x41 (c .byte) && leb (c .byte) 0x4B) (index + 1) index)
-          → o ≡ cond (eqb (c .byte) 0x40) (c .first) opened
+          → x ≡ cond (isHandlerByte (c .byte)) (stored u (slotOf opened index) (c .byte) (c .first)) u
+          → i ≡ cond (eqb (c .byte) BODY) 0 (cond (isHandlerByte (c .byte)) (index + 1) index)
+          → o ≡ cond (eqb (c .byte) BODY) (c .first) opened
           → Keeping job all w x next o i
       unfolding loaded
       keeping-on x o i e f g =

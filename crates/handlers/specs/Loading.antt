@@ -4,10 +4,10 @@ use mathlib.Core.Bool.{cond, _&&_}
 use mathlib.Core.List.{List, [], _∷_}
 use lib.Dec.{ltb, leb}
 use lib.ListN.{length, getD, set}
-use Rattle.model.specs.Table.{SKIP}
+use Rattle.model.specs.Table.{SKIP, maxNodes, maxHandler}
 use Rattle.model.specs.Command.{Command, numberAt}
 use Rattle.model.specs.Declared.{Instruction, instruction, isHandler, openBody, bodyLength}
-use Rattle.model.specs.Refusal.{Decoded, accepted, rejected}
+use Rattle.model.specs.Refusal.{Decoded, accepted, rejected, workSize}
 use Rattle.command.specs.Instructions.{recognised}
 
 -- the place of a node's command: 64 commands a node, 8 bytes a command
@@ -26,7 +26,7 @@ loaded w (c ∷ past) = cond (isHandler c) (stored (loaded w past) (slotOf (open
 -- the command of a node at a position, as it stands in the work buffer; SKIP where there is no slot
 abbrev pub fetchedIn : List ℕ → ℕ → ℕ → Instruction
 fetchedIn w n i =
-    cond (ltb n 32 && (ltb i 64 && leb 16384 (length w))) (recognised (getD w (slotOf n i) 0) (numberAt w (slotOf n i + 1) 4))
+    cond (ltb n maxNodes && (ltb i maxHandler && leb workSize (length w))) (recognised (getD w (slotOf n i) 0) (numberAt w (slotOf n i + 1) 4))
     (instruction SKIP 0)
 
 -- the job is accepted
@@ -34,7 +34,7 @@ abbrev pub IsAccepted : Decoded → Type 0
 IsAccepted (accepted past) = Unit {0}
 IsAccepted (rejected r) = ⊥
 
--- the commands of an accepted job
+-- the commands of an accepted job; none for a refused one
 abbrev pub commandsOf : Decoded → List Command
 commandsOf (accepted past) = past
 commandsOf (rejected r) = []

@@ -2,27 +2,26 @@
 ghost use mathlib.Core.Path.{_≡_};
 ghost use Rattle.command.specs.Instructions.{instructionOf};
 ghost use Rattle.handlers.specs.Loading.{fetchedIn};
+use crate::slot_of;
 use command::instruction::Instruction;
 use command::instruction::instruction_of;
 use command::numbers::NodeNum;
 use command::read::operand;
 
-// The command of a node's handler at a position; SKIP where there is none.
+// What stands in the slot of a node's command, SKIP where there is no slot; inside the handlers of a loaded job, its command.
 pub fn fetch(work: &[u8], n: NodeNum, position: u32) -> Instruction
     ensures { λ r. ⌜ instructionOf r ≡ fetchedIn (now (work .entry)) (n .0) position ⌝ }
 {
-    let node = n.0 as usize;
-    let i = position as usize;
-    if 32 <= node {
+    if 32 <= n.0 {
         return Instruction::Skip;
     }
-    if 64 <= i {
+    if 64 <= position {
         return Instruction::Skip;
     }
     if work.len() < 16384 {
         return Instruction::Skip;
     }
-    let at = (node * 64 + i) * 8;
+    let at = slot_of(n, position);
     let byte = work[at];
     let x = operand(work, at + 1, 4);
     instruction_of(byte, x)

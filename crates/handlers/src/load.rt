@@ -1,12 +1,16 @@
 // Loading the handlers of an accepted job into the work buffer: 8 bytes a command, 64 commands a node.
 ghost use mathlib.Core.Path.{_≡_};
-ghost use mathlib.Core.Bool.{cond, _&&_};
+ghost use mathlib.Core.Bool.{cond};
 ghost use Prim.Native.Nat.{_+_, _≤_, _<_};
-ghost use lib.Dec.{eqb, leb};
+ghost use lib.Dec.{eqb};
 ghost use lib.ListN.{set};
+ghost use Rattle.model.specs.Table.{BODY};
+ghost use Rattle.command.specs.Rows.{isHandlerByte};
 ghost use Rattle.model.specs.Refusal.{decodeJob};
 ghost use Rattle.handlers.specs.Loading.{slotOf, stored, loaded, commandsOf, IsAccepted};
+use crate::slot_of;
 use command::bytes;
+use command::numbers::NodeNum;
 use command::read::Command;
 use command::read::Parsed;
 use command::read::open_after;
@@ -34,22 +38,19 @@ fn store(work: &mut [u8], at: usize, b: u8, x: u32)
 }
 
 // Stores a command in its slot, if it is a handler command.
-fn keep(work: &mut [u8], opened: u32, index: u32, c: Command)
-    requires { ⌜ (opened < 32) × (index ≤ 64) ⌝ }
-    ensures { λ _. ⌜ now (work .exit) ≡ cond (leb 0x41 (c .byte) && leb (c .byte) 0x4B) (stored (now (work .entry)) (slotOf opened index) (c .byte) (c .first)) (now (work .entry)) ⌝ }
+fn keep(work: &mut [u8], opened: NodeNum, index: u32, c: Command)
+    requires { ⌜ (opened .0 < 32) × (index ≤ 64) ⌝ }
+    ensures { λ _. ⌜ now (work .exit) ≡ cond (isHandlerByte (c .byte)) (stored (now (work .entry)) (slotOf (opened .0) index) (c .byte) (c .first)) (now (work .entry)) ⌝ }
 {
-    let node = opened as usize;
-    let i = index as usize;
-    let at = (node * 64 + i) * 8;
     if bytes::is_handler(c.byte) {
-        store(work, at, c.byte, c.first);
+        store(work, slot_of(opened, index), c.byte, c.first);
     }
 }
 
 // The position of the next command in the open handler, behind a command.
 fn index_after(c: Command, index: u32) -> u32
     requires { ⌜ index < 65536 ⌝ }
-    ensures { λ r. ⌜ r ≡ cond (eqb (c .byte) 0x40) 0 (cond (leb 0x41 (c .byte) && leb (c .byte) 0x4B) (index + 1) index) ⌝ }
+    ensures { λ r. ⌜ r ≡ cond (eqb (c .byte) BODY) 0 (cond (isHandlerByte (c .byte)) (index + 1) index) ⌝ }
 {
     if c.byte == bytes::BODY {
         return 0;
@@ -66,7 +67,7 @@ pub fn load(job: &[u8], work: &mut [u8])
     ensures { λ _. ⌜ now (work .exit) ≡ loaded (now (work .entry)) (commandsOf (decodeJob (now (job .entry)))) ⌝ }
 {
     let mut at = 0;
-    let mut opened: u32 = 0;
+    let mut opened = NodeNum(0);
     let mut index: u32 = 0;
     while at < job.len() {
         let read = read_command(job, at);

@@ -3,11 +3,12 @@ ghost use mathlib.Core.Path.{_≡_};
 ghost use mathlib.Core.Bool.{_&&_, _||_};
 ghost use mathlib.Core.List.{List};
 ghost use lib.Dec.{eqb, ltb};
+ghost use Rattle.model.specs.Table.{JUMPZ, JUMP};
 ghost use Rattle.model.specs.Command.{Command as Past};
 ghost use Rattle.model.specs.Refusal.{accepted, decode};
 ghost use Rattle.tables.specs.Stands.{Stands};
 ghost use Rattle.job.specs.Decoding.{Jumps};
-use crate::walk::Verdict;
+use crate::Verdict;
 use command::bytes;
 use command::numbers::NodeNum;
 use command::read::Command;
@@ -17,33 +18,37 @@ use command::read::open_after;
 use command::read::read_command;
 use declared::length_of;
 
-// A jump behind the end of a handler with so many commands.
+// A jump whose target exceeds its handler's command count.
 fn is_far(c: Command, len: u32) -> bool
-    ensures { λ r. ⌜ r ≡ ((eqb (c .byte) 0x47 || eqb (c .byte) 0x48) && ltb len (c .first)) ⌝ }
+    ensures { λ r. ⌜ r ≡ ((eqb (c .byte) JUMPZ || eqb (c .byte) JUMP) && ltb len (c .first)) ⌝ }
 {
     ((c.byte == bytes::JUMPZ) | (c.byte == bytes::JUMP)) & (len < c.first)
 }
 
-// 9: refused at the first jump behind the end of its handler.
+// 9: refused at the first jump whose target exceeds its handler's command count.
 pub(crate) fn check_jumps(job: &[u8], t: &[u32]) -> Verdict
     ensures { λ r. ⌜ ((all : List Past) → decode (now (job .entry)) ≡ accepted all → Stands (now (t .entry)) all → Jumps all r) ⌝ }
 {
     let mut at = 0;
-    let mut opened: u32 = 0;
+    let mut opened = NodeNum(0);
     while at < job.len() {
         let read = read_command(job, at);
-        let Parsed::Whole(c, next) = read else {
-            return Verdict::Accepted;
-        };
-        let len = length_of(t, NodeNum(opened));
-        if is_far(c, len) {
-            return Verdict::Refused(Refusal {
-                number: 9,
-                place: at,
-            });
+        match read {
+            Parsed::Refused(r) => {
+                return Verdict::Refused(r);
+            }
+            Parsed::Whole(c, next) => {
+                let len = length_of(t, opened);
+                if is_far(c, len) {
+                    return Verdict::Refused(Refusal {
+                        number: 9,
+                        place: at,
+                    });
+                }
+                opened = open_after(c, opened);
+                at = next;
+            }
         }
-        opened = open_after(c, opened);
-        at = next;
     }
     Verdict::Accepted
 }

@@ -1,17 +1,23 @@
-// Decoding a job: the tests 4 to 8 of one command, the walk over all commands, the jumps, and the handlers in the work buffer.
-pub mod jumps;
-pub mod test;
+// Decoding a job: the tests 4 to 8 of one command, the walk over all commands, the jumps, and the turns.
+mod jumps;
+mod test;
 pub mod turns;
-pub mod walk;
+mod walk;
 
 ghost use mathlib.Core.Path.{_≡_};
 ghost use lib.ListN.{length};
 ghost use Rattle.job.specs.Decoding.{Judges, Decides};
+use command::read::Refusal;
 use jumps::check_jumps;
 use tables::cells::CELLS;
 use tables::cells::clear;
-use walk::Verdict;
 use walk::walk;
+
+// The verdict on a job.
+pub enum Verdict {
+    Accepted,
+    Refused(Refusal),
+}
 
 // The tests 1 to 9: the verdict, and the tables of an accepted job.
 fn judge(job: &[u8], t: &mut [u32]) -> Verdict

@@ -5,8 +5,8 @@ ghost use mathlib.Core.List.{List};
 ghost use Rattle.model.specs.Command.{Command as Past};
 ghost use Rattle.model.specs.Refusal.{exceedsCount, noOwner, namesNothing, undeclared, outOfReach, repeated, violation};
 ghost use Rattle.model.specs.Valid.{Plain};
-ghost use Rattle.command.specs.Rows.{kindOf, RowOf};
-ghost use Rattle.command.specs.Reading.{commandOf};
+ghost use Rattle.command.specs.Rows.{kindOf};
+ghost use Rattle.command.specs.Reading.{commandOf, Known};
 ghost use Rattle.tables.specs.Stands.{Stands};
 ghost use Rattle.job.specs.Tests.{countsAs};
 use command::bytes;
@@ -26,7 +26,7 @@ struct Counts {
 
 // 5: a largest count would be passed.
 fn exceeds_count(t: &[u32], c: Command) -> bool
-    requires { ⌜ RowOf (c .byte) (c .row) ⌝ }
+    requires { ⌜ Known c ⌝ }
     ensures { λ r. ⌜ ((past : List Past) → Stands (now (t .entry)) past → r ≡ exceedsCount past (commandOf c)) ⌝ }
 {
     let row = table::row_at(c.row);
@@ -34,8 +34,8 @@ fn exceeds_count(t: &[u32], c: Command) -> bool
     let have = declared::count_of(t, c.byte);
     let opened = declared::open_node(t);
     let inside = declared::length_of(t, opened);
-    let body = bytes::is_handler(c.byte);
-    ((most != 0) & (most <= have)) | (body & (64 <= inside))
+    let handler = bytes::is_handler(c.byte);
+    ((most != 0) & (most <= have)) | (handler & (64 <= inside))
 }
 
 // The owner of a variable of this scope is not declared.
@@ -67,7 +67,7 @@ fn names_nothing(d: Counts, scope: u32, kind: u8, x: u32) -> bool
 
 // 6: a NODE before every FLOW, a handler command before every BODY, or an operand that names nothing.
 fn is_undeclared(t: &[u32], c: Command) -> bool
-    requires { ⌜ RowOf (c .byte) (c .row) ⌝ }
+    requires { ⌜ Known c ⌝ }
     ensures { λ r. ⌜ ((past : List Past) → Stands (now (t .entry)) past → r ≡ undeclared past (commandOf c)) ⌝ }
 {
     let row = table::row_at(c.row);
@@ -82,11 +82,12 @@ fn is_undeclared(t: &[u32], c: Command) -> bool
         variables,
         functions,
     };
-    let body = bytes::is_handler(c.byte);
+    let handler = bytes::is_handler(c.byte);
     let first = names_nothing(d, c.first, row.5, c.first);
     let second = names_nothing(d, c.first, row.6, c.second);
     let third = names_nothing(d, c.first, row.7, c.third);
-    ((c.byte == bytes::NODE) & (flows == 0)) | ((body & (bodies == 0)) | (first | (second | third)))
+    ((c.byte == bytes::NODE) & (flows == 0))
+        | ((handler & (bodies == 0)) | (first | (second | third)))
 }
 
 // 7: a wire into another flow, a handler command with a variable that its node does not see, READ or WRITE of a variable unseen or
@@ -95,16 +96,24 @@ fn is_out_of_reach(t: &[u32], c: Command) -> bool
     ensures { λ r. ⌜ ((past : List Past) → Stands (now (t .entry)) past → r ≡ outOfReach past (commandOf c)) ⌝ }
 {
     let b = c.byte;
-    let from = declared::flow_of(t, NodeNum(c.first));
-    let to = declared::flow_of(t, NodeNum(c.third));
-    let opened = declared::open_node(t);
-    let own = declared::sees(t, opened, VarNum(c.first));
-    let seen = declared::sees(t, NodeNum(c.first), VarNum(c.second));
-    let shared = declared::is_shared(t, VarNum(c.second));
-    let uses = ((b == bytes::GET) | (b == bytes::PUT)) | (b == bytes::PLUS);
-    let access = (b == bytes::READ) | (b == bytes::WRITE);
-    ((b == bytes::WIRE) & (from.0 != to.0))
-        | ((uses & !own) | ((access & !seen) | (access & !shared)))
+    match b {
+        bytes::WIRE => {
+            let from = declared::flow_of(t, NodeNum(c.first));
+            let to = declared::flow_of(t, NodeNum(c.third));
+            from.0 != to.0
+        }
+        bytes::GET | bytes::PUT | bytes::PLUS => {
+            let opened = declared::open_node(t);
+            let seen = declared::sees(t, opened, VarNum(c.first));
+            !seen
+        }
+        bytes::READ | bytes::WRITE => {
+            let seen = declared::sees(t, NodeNum(c.first), VarNum(c.second));
+            let shared = declared::is_shared(t, VarNum(c.second));
+            !seen | !shared
+        }
+        _ => false,
+    }
 }
 
 // 8: the same WIRE or permission again, a node's second BODY, a flow's second START.
@@ -130,10 +139,10 @@ fn is_repeated(t: &[u32], c: Command) -> bool
 
 // The number of the first of the tests 4 to 8 that refuses a command, or 0.
 pub(crate) fn violation_of(t: &[u32], c: Command) -> u8
-    requires { ⌜ RowOf (c .byte) (c .row) ⌝ }
+    requires { ⌜ Known c ⌝ }
     ensures { λ r. ⌜ ((past : List Past) → Stands (now (t .entry)) past → Plain (commandOf c) → r ≡ violation past (commandOf c)) ⌝ }
 {
-    let group = (c.byte / 16) as u32;
+    let group = c.group as u32;
     if group < declared::group(t) {
         return 4;
     }

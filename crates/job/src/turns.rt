@@ -7,24 +7,24 @@ use command::numbers::NodeNum;
 use command::read::wide;
 use declared::count_of;
 
-// So many places before the end, and 0 where there are fewer.
-fn before_end(len: usize, back: usize) -> usize
-    ensures { λ r. ⌜ r ≡ len - back ⌝ }
+// a less b, and 0 where b is larger.
+fn less(a: usize, b: usize) -> usize
+    ensures { λ r. ⌜ r ≡ a - b ⌝ }
 {
-    if back < len {
-        return len - back;
+    if b < a {
+        return a - b;
     }
     0
 }
 
-// The node of turn k, counted from 0; node 0 behind the last turn.
+// The node of turn k, counted from 0, of the job that the tables stand for; node 0 behind the last turn.
 pub fn turn_at(job: &[u8], t: &[u32], k: u32) -> NodeNum
     ensures { λ r. ⌜ r .0 ≡ turnIn (now (job .entry)) (now (t .entry)) k ⌝ }
 {
     let count = count_of(t, bytes::TURN) as usize;
-    let first = before_end(job.len(), 2 * count);
+    let first = less(job.len(), 2 * count);
     let offset = 2 * (k as usize) + 1;
-    let left = before_end(job.len(), first);
+    let left = less(job.len(), first);
     if offset < left {
         let at = first + offset;
         return NodeNum(wide(job[at]));

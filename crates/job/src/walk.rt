@@ -5,10 +5,10 @@ ghost use Prim.Native.Nat.{_≤_, _<_};
 ghost use lib.ListN.{length};
 ghost use Rattle.model.specs.Command.{Command as Past, readCommand, whole};
 ghost use Rattle.model.specs.Valid.{Valid};
-ghost use Rattle.command.specs.Rows.{RowOf};
-ghost use Rattle.command.specs.Reading.{commandOf};
+ghost use Rattle.command.specs.Reading.{commandOf, Known};
 ghost use Rattle.tables.specs.Stands.{Stands};
 ghost use Rattle.job.specs.Decoding.{Steps, Walks};
+use crate::Verdict;
 use crate::test::violation_of;
 use command::read::Command;
 use command::read::Parsed;
@@ -20,24 +20,18 @@ use tables::cells::clear;
 // A step: to the place of the next command, or the refusal of the job.
 pub(crate) enum Step {
     Next(usize),
-    Stop(Refusal),
-}
-
-// The verdict on a job.
-pub enum Verdict {
-    Accepted,
     Refused(Refusal),
 }
 
-// Takes the command that was read at a place: it is refused there, or noted.
-fn take(job: &[u8], at: usize, c: Command, next: usize, t: &mut [u32]) -> Step
+// Admits the command that was read at a place: it is refused there, or noted.
+fn admit(job: &[u8], at: usize, c: Command, next: usize, t: &mut [u32]) -> Step
     requires { ⌜ (at < length (now job)) × (length (now job) ≤ 16384) ⌝ }
-    requires { ⌜ (readCommand (now job) at ≡ whole (commandOf c) next) × RowOf (c .byte) (c .row) ⌝ }
+    requires { ⌜ (readCommand (now job) at ≡ whole (commandOf c) next) × Known c ⌝ }
     ensures { λ r. ⌜ ((past : List Past) → Stands (now (t .entry)) past → Valid past → length past ≤ at → Steps (now (job .entry)) at past (now (t .exit)) r) ⌝ }
 {
     let number = violation_of(t, c);
     if number != 0 {
-        return Step::Stop(Refusal { number, place: at });
+        return Step::Refused(Refusal { number, place: at });
     }
     note(t, c);
     Step::Next(next)
@@ -50,8 +44,8 @@ fn advance(job: &[u8], at: usize, t: &mut [u32]) -> Step
 {
     let read = read_command(job, at);
     match read {
-        Parsed::Refused(r) => Step::Stop(r),
-        Parsed::Whole(c, next) => take(job, at, c, next, t),
+        Parsed::Refused(r) => Step::Refused(r),
+        Parsed::Whole(c, next) => admit(job, at, c, next, t),
     }
 }
 
@@ -77,7 +71,7 @@ pub(crate) fn walk(job: &[u8], t: &mut [u32]) -> Verdict
     while at < job.len() {
         let s = advance(job, at, t);
         match s {
-            Step::Stop(r) => {
+            Step::Refused(r) => {
                 return Verdict::Refused(r);
             }
             Step::Next(next) => {

@@ -366,12 +366,12 @@ module _ (t : List ℕ) (past : List Command) (c : Command) (s : Stands t past) 
 pub stands-noted :
     (t : List ℕ) (c : Code) (have flows nodes variables functions arguments opened len flow more longer less : ℕ) (body : Bool)
     (u₁ u₂ u₃ u₄ u₅ u₆ u₇ u₈ u₉ u₁₀ u₁₁ u₁₂ u₁₃ u₁₄ u₁₅ u₁₆ u₁₇ u₁₈ u₁₉ u₂₀ : List ℕ) (past : List Command)
-    → Stands t past → Valid (commandOf c ∷ past) → length past < 65536
+    → c .group ≡ groupOf (c .byte) → Stands t past → Valid (commandOf c ∷ past) → length past < 65536
     → have ≡ countIn t (c .byte) → flows ≡ countIn t FLOW → nodes ≡ countIn t NODE → variables ≡ countIn t VAR → functions ≡ countIn t FUN → arguments ≡ countIn t ARG
     → opened ≡ openIn t → len ≡ lengthIn t opened → flow ≡ flowIn t (c .first) → body ≡ (leb 0x41 (c .byte) && leb (c .byte) 0x4B)
     → (have < 65536 → more ≡ have + 1) → (len < 65536 → longer ≡ len + 1) → less ≡ flows - 1
     → u₁ ≡ putIn t true countCells (c .byte) more
-    → u₂ ≡ putIn u₁ true progressCells 0 (c .byte / 16)
+    → u₂ ≡ putIn u₁ true progressCells 0 (c .group)
     → u₃ ≡ putIn u₂ (eqb (c .byte) BODY) progressCells 1 (c .first)
     → u₄ ≡ putIn u₃ (eqb (c .byte) NODE) flowCells nodes less
     → u₅ ≡ putIn u₄ (eqb (c .byte) VAR) scopeCells variables (c .first)
@@ -392,8 +392,8 @@ pub stands-noted :
     → u₂₀ ≡ markAt u₁₉ (eqb (c .byte) WIRE) wireCells (c .first * 4 + c .second) (c .third)
     → Stands u₂₀ (commandOf c ∷ past)
 unfolding markAt
-stands-noted t c have flows nodes variables functions arguments opened len flow more longer less body u₁ u₂ u₃ u₄ u₅ u₆ u₇ u₈ u₉ u₁₀ u₁₁ u₁₂ u₁₃ u₁₄ u₁₅ u₁₆ u₁₇ u₁₈ u₁₉ u₂₀ past s v l a₁ a₂ a₃ a₄ a₅ a₆ a₇ a₈ a₉ b₁ b₂ b₃ b₄ e₁ e₂ e₃ e₄ e₅ e₆ e₇ e₈ e₉ e₁₀ e₁₁ e₁₂ e₁₃ e₁₄ e₁₅ e₁₆ e₁₇ e₁₈ e₁₉ e₂₀ =
+stands-noted t c have flows nodes variables functions arguments opened len flow more longer less body u₁ u₂ u₃ u₄ u₅ u₆ u₇ u₈ u₉ u₁₀ u₁₁ u₁₂ u₁₃ u₁₄ u₁₅ u₁₆ u₁₇ u₁₈ u₁₉ u₂₀ past g s v l a₁ a₂ a₃ a₄ a₅ a₆ a₇ a₈ a₉ b₁ b₂ b₃ b₄ e₁ e₂ e₃ e₄ e₅ e₆ e₇ e₈ e₉ e₁₀ e₁₁ e₁₂ e₁₃ e₁₄ e₁₅ e₁₆ e₁₇ e₁₈ e₁₉ e₂₀ =
     let p : more ≡ countIn t (c .byte) + 1 = b₂ (omega (arith, s .counts (c .byte) (byte-low (c .byte) (v .1 .known)), count-below (c .byte) past)) ∙ rw a₁ in
     let q : longer ≡ lengthIn t (openIn t) + 1 = b₃ (omega (arith, s .lengths opened, limits past (v .0) .handlers opened)) ∙ rw (a₈, a₇) in
-    let same : u₂₀ ≡ written t (noteWrites t (commandOf c)) = rw (e₂₀, e₁₉, e₁₈, e₁₇, e₁₆, e₁₅, e₁₄, e₁₃, e₁₂, e₁₁, e₁₀, e₉, e₈, e₇, e₆, e₅, e₄, e₃, e₂, e₁, p, q, b₄, b₁, a₂, a₃, a₄, a₅, a₆, a₇, a₉) in
+    let same : u₂₀ ≡ written t (noteWrites t (commandOf c)) = rw (e₂₀, e₁₉, e₁₈, e₁₇, e₁₆, e₁₅, e₁₄, e₁₃, e₁₂, e₁₁, e₁₀, e₉, e₈, e₇, e₆, e₅, e₄, e₃, e₂, e₁, g, p, q, b₄, b₁, a₂, a₃, a₄, a₅, a₆, a₇, a₉) in
     rw same (stands-next t past (commandOf c) s v)

@@ -1,4 +1,4 @@
-// Noting one more command: one write for each section, on for the commands that it is about.
+// Noting one more command: every write is made for every command, and changes something only for the commands that it belongs to.
 ghost use mathlib.Core.Path.{_≡_};
 ghost use Prim.Native.Nat.{_+_, _-_, _<_};
 ghost use Rattle.notes.specs.Notes.{Notes};
@@ -13,7 +13,7 @@ use tables::cells;
 use tables::cells::mark;
 use tables::cells::put;
 
-// One more, for a number that is small.
+// One more, for a number below 65,536.
 fn bumped(n: u32) -> u32
     ensures { λ r. ⌜ (n < 65536 → r ≡ n + 1) ⌝ }
 {
@@ -40,8 +40,8 @@ pub fn note(t: &mut [u32], c: Command)
     let b = c.byte;
     let first = c.first as usize;
     let second = c.second as usize;
-    let port = first * 4 + second;
-    let group = (b / 16) as u32;
+    let wires = first * 4 + second;
+    let group = c.group as u32;
     let have = count_of(t, b);
     let flows = count_of(t, bytes::FLOW);
     let nodes = count_of(t, bytes::NODE) as usize;
@@ -51,7 +51,7 @@ pub fn note(t: &mut [u32], c: Command)
     let opened = open_node(t);
     let len = length_of(t, opened);
     let flow = flow_of(t, NodeNum(c.first));
-    let body = bytes::is_handler(b);
+    let handler = bytes::is_handler(b);
     put(t, true, cells::COUNTS, b as usize, bumped(have));
     put(t, true, cells::PROGRESS, 0, group);
     put(t, b == bytes::BODY, cells::PROGRESS, 1, c.first);
@@ -60,7 +60,7 @@ pub fn note(t: &mut [u32], c: Command)
     put(t, b == bytes::VAR, cells::OWNER, variables, c.second);
     put(t, b == bytes::VAR, cells::INITIAL, variables, c.third);
     put(t, b == bytes::FUN, cells::ANSWER, functions, c.first);
-    put(t, body, cells::LENGTH, opened.0 as usize, bumped(len));
+    put(t, handler, cells::LENGTH, opened.0 as usize, bumped(len));
     put(t, b == bytes::BODY, cells::BODY, first, 1);
     put(t, b == bytes::START, cells::STARTED, flow.0 as usize, 1);
     put(t, b == bytes::START, cells::FIRST, first, 1);
@@ -71,5 +71,5 @@ pub fn note(t: &mut [u32], c: Command)
     mark(t, b == bytes::READ, cells::READS, first, second);
     mark(t, b == bytes::WRITE, cells::WRITES, first, second);
     mark(t, b == bytes::ANY, cells::CALLS, first, second);
-    mark(t, b == bytes::WIRE, cells::WIRES, port, c.third as usize);
+    mark(t, b == bytes::WIRE, cells::WIRES, wires, c.third as usize);
 }

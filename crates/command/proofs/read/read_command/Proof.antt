@@ -1,5 +1,7 @@
 -- `command::read::read_command` meets its contract.
+use mathlib.Core.Path.{ap, _∙_}
 use borrow.Author.Needs.{needs}
+use Rattle.model.specs.Table.{groupOf}
 use Rattle.command.proofs.Taken.{finds-row, read-missing, read-cut, read-all, is-width₁, is-width₂, is-width₃}
 use Rattle.command.proofs.read.read_command.Statement.{statement}
 use Rattle.command.proofs.read.read_command.Tie as tie
@@ -58,7 +60,7 @@ operand-requires-3 c κs = (search needs, is-width₃ (c .before .before .before
 returns-3 : tie.Need-returns-3
 returns-3 c =
     let known = finds-row _ _ _ (c .before .before .before .before .before .before .before .before .look-up .ensures) (c .before .before .before .before .before .before .found .given .1) in
-    (read-all _ _ _ _ known (c .before .before .before .before .row-at .ensures) _ _ _ (c .before .before .before .if1 .left) (c .before .before .operand .ensures) (c .before .operand2 .ensures) (c .operand3 .ensures), known)
+    (read-all _ _ _ _ known (c .before .before .before .before .row-at .ensures) _ _ _ (c .before .before .before .if1 .left) (c .before .before .operand .ensures) (c .before .operand2 .ensures) (c .operand3 .ensures), record { row = known; group = c .before .before .before .before .row-at .ensures .group ∙ ap groupOf (known .same) })
 
 pub read-command-spec : {M : Type 1} → statement M
 read-command-spec =
