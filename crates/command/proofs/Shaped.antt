@@ -1,4 +1,4 @@
--- The program's table says what the model's table says: one computed equation of the two.
+-- The code's table says what the model's table says: one computed equation of the two.
 use Prim.Native.Nat.{ℕ, zero, suc, _<_}
 use mathlib.Core.Path.{_≡_, refl, sym, ap, _∙_}
 use mathlib.Core.List.{List, [], _∷_, map}
@@ -13,11 +13,11 @@ use Rattle.command.specs.declared.table.Row.{Row as Shape}
 use Rattle.command.specs.Rows.{rowAt, kindOf, limitOf, Says}
 use Rattle.command.specs.Reading.{IsWidth}
 
--- a row of the program's table: byte, group, widths, kinds, largest count
+-- a row of the code's table: byte, group, widths, kinds, largest count
 abbrev pub shape : ℕ → ℕ → ℕ → ℕ → ℕ → ℕ → ℕ → ℕ → ℕ → Shape
 shape b g w₁ w₂ w₃ k₁ k₂ k₃ l = record { 0 = b; 1 = g; 2 = w₁; 3 = w₂; 4 = w₃; 5 = k₁; 6 = k₂; 7 = k₃; 8 = l }
 
--- the rows of the program's table, in its order
+-- the rows of the code's table, in its order
 abbrev pub shapes : List Shape
 shapes =
     shape 0x01 0 0 0 0 11 11 11 8
@@ -108,7 +108,7 @@ says-as r s e =
       most = rw b at (ap (λ (x : Said). x .most) e);
     }
 
--- row i of the program's table
+-- row i of the code's table
 pub says : (i : ℕ) → i < 23 → Says (rowAt i) (getD shapes i zeros)
 says i h = says-as (rowAt i) (getD shapes i zeros) (shaped i h)
 

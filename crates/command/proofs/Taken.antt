@@ -1,4 +1,4 @@
--- What is read at a place by a row of the program's table.
+-- What is read at a place by a row of the code's table.
 use Prim.Native.Nat.{ℕ, _+_, _≤_, _<_}
 use mathlib.Core.Path.{_≡_}
 use mathlib.Core.List.{List}

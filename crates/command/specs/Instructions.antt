@@ -1,4 +1,4 @@
--- Handler commands of the program, in the model's words.
+-- Handler commands of the code, in the model's words.
 use Prim.Native.Nat.{ℕ}
 use mathlib.Core.Bool.{cond, _&&_}
 use lib.Dec.{leb, eqb}
@@ -7,7 +7,7 @@ use Rattle.model.specs.Declared.{Instruction as Meant, instruction}
 use Rattle.command.specs.declared.instruction.Instruction.{Instruction}
 use Rattle.command.specs.declared.instruction.Instruction.the-variants as i
 
--- the model's handler command that a handler command of the program stands for
+-- the model's handler command that a handler command of the code stands for
 abbrev pub instructionOf : Instruction → Meant
 instructionOf (i.Set v) = instruction SET v
 instructionOf i.Take = instruction TAKE 0

@@ -1,4 +1,4 @@
--- What the program reads at a place of a job, in the model's words.
+-- What the code reads at a place of a job, in the model's words.
 use Prim.Native.Nat.{ℕ}
 use mathlib.Core.Path.{_≡_}
 use mathlib.Core.List.{List}
@@ -13,11 +13,11 @@ use Rattle.command.specs.declared.read.Parsed.{Parsed}
 use Rattle.command.specs.declared.read.Parsed.the-variants.{Whole, Refused}
 use Rattle.command.specs.Rows.{RowOf}
 
--- the model's command that a command of the program stands for
+-- the model's command that a command of the code stands for
 abbrev pub commandOf : Command → Past
 commandOf c = record { place = c .place; byte = c .byte; operands = ternary (c .first) (c .second) (c .third) }
 
--- the model's refusal that a refusal of the program stands for
+-- the model's refusal that a refusal of the code stands for
 abbrev pub refusalOf : Refusal → RefusedFor
 refusalOf r = refuse (r .number) (r .place)
 

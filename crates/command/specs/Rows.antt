@@ -1,4 +1,4 @@
--- The rows of the program's table, and what they say in the model's words.
+-- The rows of the code's table, and what they say in the model's words.
 use Prim.Native.Nat.{ℕ, zero, suc, _<_}
 use mathlib.Core.Path.{_≡_}
 use mathlib.Core.Bool.{Bool, _&&_}
@@ -15,16 +15,16 @@ use Rattle.command.specs.declared.table.Lookup.the-variants.{Found, Miss
 abbrev pub rowAt : ℕ → Row
 rowAt i = getD table i (row 0 [])
 
--- the kind that the program's number stands for
+-- the kind that the code's number stands for
 abbrev pub kindOf : ℕ → OperandKind
 kindOf i = getD (scope ∷ owner ∷ node ∷ port ∷ target ∷ function ∷ variable ∷ start ∷ answer ∷ value ∷ jump ∷ []) i absent
 
--- the largest count that the program's number stands for, 0 for none
+-- the largest count that the code's number stands for, 0 for none
 abbrev pub limitOf : ℕ → ℕ → Option Limit
 limitOf b zero = none
 limitOf b (suc k) = some (limit (b ∷ []) (suc k))
 
--- a row of the program's table says what the model's row says
+-- a row of the code's table says what the model's row says
 pub record Says (r : Row) (s : Shape) : Type 0 where
   pub byte : s .0 ≡ r .byte
   pub group : s .1 ≡ groupOf (r .byte)

@@ -1,4 +1,4 @@
--- What the program's answers stand for.
+-- What the code's answers stand for.
 use Prim.Native.Nat.{ℕ}
 use mathlib.Core.List.{List, [], _∷_}
 use Rattle.declared.specs.declared.First.{First}

@@ -1,4 +1,4 @@
--- What the contract of `read_job` cites. Assumes nothing.
+-- What the contract of `read_job` cites.
 use Prim.Native.Nat.{ℕ, _≤_}
 use mathlib.Core.List.{List}
 use lib.ListN.{length}

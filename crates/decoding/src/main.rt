@@ -19,15 +19,15 @@ const LONGEST: usize = 16400;
 const ROOM: usize = 4096;
 
 // Decodes one job after another and puts its line behind the text, which is written out whenever it is nearly full. Answers where the
-// text that still waits ends. A proved loop has to end, and nothing says that the input does: the turns are counted down from a number
+// text that still waits ends. A proved loop has to end, and nothing says that the input does: the rounds are counted down from a number
 // that no run uses up.
 fn judge_all(buffer: &mut [u8], text: &mut [u8], tables: &mut [u32; CELLS]) -> usize
     requires { ⌜ 64 ≤ length (now text) ⌝ }
     ensures { λ r. ⌜ r ≤ length (now (text .entry)) ⌝ }
 {
     let mut at = 0;
-    let mut turns = u64::MAX;
-    while turns > 0 {
+    let mut left = u64::MAX;
+    while left > 0 {
         let found = read_job(buffer);
         let Record::Job(size) = found else {
             return at;
@@ -35,7 +35,7 @@ fn judge_all(buffer: &mut [u8], text: &mut [u8], tables: &mut [u32; CELLS]) -> u
         let verdict = job::decode(&buffer[..size], tables);
         let end = put_line(text, at, verdict);
         at = make_room(text, end);
-        turns -= 1;
+        left -= 1;
     }
     at
 }

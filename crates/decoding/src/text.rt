@@ -1,6 +1,6 @@
 // The lines for standard output, put together before they are written.
 use command::read::Refusal;
-use job::walk::Verdict;
+use job::Verdict;
 use libc::STDOUT_FILENO;
 ghost use mathlib.Core.Path.{_≡_};
 ghost use Prim.Native.Nat.{_+_, _≤_};

@@ -1,4 +1,4 @@
--- What is fetched, by the program's tests; and that it is the command of the handler, for an accepted job.
+-- What is fetched, by the code's tests; and that it is the command of the handler, for an accepted job.
 use Prim.Native.Nat.{ℕ, _+_, _≤_, _<_}
 use mathlib.Core.Path.{_≡_, refl, sym, ap, _∙_}
 use mathlib.Core.Bool.{Bool, true, false}

@@ -130,31 +130,32 @@ slot-other w n i m j b x h l differ =
     kept : (k : ℕ) → k < 5 → getD (stored w (slotOf n i) b x) (slotOf m j + k) 0 ≡ getD w (slotOf m j + k) 0
     kept k z = other-byte w (slotOf n i) b x (slotOf m j + k) (⊎-elim (λ s. inl (omega arith)) (λ s. inr (omega arith)) side)
 
+-- a handler command has a slot
+here : (past : List Command) (c : Command) → isHandler c ≡ true → belongs past c (openBody past) ≡ true
+here past c handler = rw (handler, eq-eqb (openBody past) (openBody past) refl)
+
+room : (past : List Command) (c : Command) → Valid (c ∷ past) → isHandler c ≡ true → bodyLength past (openBody past) < 64
+room past c v handler =
+    let e : bodyLength (c ∷ past) (openBody past) ≡ bodyLength past (openBody past) + 1 = body-next c past (openBody past) ∙ rw (here past c handler) in
+    omega (arith, limits (c ∷ past) v .handlers (openBody past))
+
 -- one more handler command: it is read back at the end of its handler, and those before it stay
 module _ (u : List ℕ) (past : List Command) (c : Command) (size : 16384 ≤ length u) (v : Valid (c ∷ past)) (fit : c .operands .first < 2 ^ 32) (handler : isHandler c ≡ true)
     (ih : (n i : ℕ) → i < bodyLength past n → instructionIn u n i ≡ getD (handlerOf past n) i (instruction 0 0)) where
   more : List ℕ
   more = stored u (slotOf (openBody past) (bodyLength past (openBody past))) (c .byte) (c .operands .first)
 
-  here : belongs past c (openBody past) ≡ true
-  here = rw (handler, eq-eqb (openBody past) (openBody past) refl)
-
-  room : bodyLength past (openBody past) < 64
-  room =
-      let e : bodyLength (c ∷ past) (openBody past) ≡ bodyLength past (openBody past) + 1 = body-next c past (openBody past) ∙ rw here in
-      omega (arith, limits (c ∷ past) v .handlers (openBody past))
-
   newest : instructionIn more (openBody past) (bodyLength past (openBody past)) ≡ getD (handlerOf (c ∷ past) (openBody past)) (bodyLength past (openBody past)) (instruction 0 0)
   unfolding more
   newest =
-      slot-same u (openBody past) (bodyLength past (openBody past)) (c .byte) (c .operands .first) (omega (arith, room, open-inside past (v .0))) fit
+      slot-same u (openBody past) (bodyLength past (openBody past)) (c .byte) (c .operands .first) (omega (arith, (room past c v handler), open-inside past (v .0))) fit
       ∙ sym (getD-at (handlerOf past (openBody past)) (instruction (c .byte) (c .operands .first)) [] (instruction 0 0) (bodyLength past (openBody past)) (length-handler past (openBody past)))
-      ∙ rw (handler-new past c (openBody past) here)
+      ∙ rw (handler-new past c (openBody past) (here past c handler))
 
   older : (n i : ℕ) → i < bodyLength past n → (openBody past ≡ n → bodyLength past (openBody past) ≡ i → ⊥) → instructionIn more n i ≡ getD (handlerOf past n) i (instruction 0 0)
   unfolding more
   older n i h differ =
-      slot-other u (openBody past) (bodyLength past (openBody past)) n i (c .byte) (c .operands .first) room (omega (arith, limits past (v .0) .handlers n)) differ ∙ ih n i h
+      slot-other u (openBody past) (bodyLength past (openBody past)) n i (c .byte) (c .operands .first) (room past c v handler) (omega (arith, limits past (v .0) .handlers n)) differ ∙ ih n i h
 
   in-open : (i : ℕ) → i < bodyLength past (openBody past) + 1 → instructionIn more (openBody past) i ≡ getD (handlerOf (c ∷ past) (openBody past)) i (instruction 0 0)
   in-open i h = by-index (ltb i (bodyLength past (openBody past))) refl
@@ -164,7 +165,7 @@ module _ (u : List ℕ) (past : List Command) (c : Command) (size : 16384 ≤ le
           let l = ltb-true i (bodyLength past (openBody past)) e in
           older (openBody past) i l (λ p q. omega arith)
           ∙ sym (List·getD-append (handlerOf past (openBody past)) (instruction (c .byte) (c .operands .first) ∷ []) (instruction 0 0) i (omega (arith, length-handler past (openBody past))))
-          ∙ rw (handler-new past c (openBody past) here)
+          ∙ rw (handler-new past c (openBody past) (here past c handler))
       by-index false e = let q : i ≡ bodyLength past (openBody past) = omega (arith, ltb-false i (bodyLength past (openBody past)) e) in rw q newest
 
   in-other : (n i : ℕ) → ¬ (openBody past ≡ n) → i < bodyLength past n → instructionIn more n i ≡ getD (handlerOf (c ∷ past) n) i (instruction 0 0)
@@ -178,7 +179,7 @@ module _ (u : List ℕ) (past : List Command) (c : Command) (size : 16384 ≤ le
       by-node : (t : Bool) → eqb (openBody past) n ≡ t → instructionIn more n i ≡ getD (handlerOf (c ∷ past) n) i (instruction 0 0)
       by-node true e =
           let q : openBody past ≡ n = eqb-true (openBody past) n e in
-          rw (← q) (in-open i (rw (← q, body-next c past (openBody past), here) at h))
+          rw (← q) (in-open i (rw (← q, body-next c past (openBody past), (here past c handler)) at h))
       by-node false e =
           let d = eqb-false (openBody past) n e in
           let q : bodyLength (c ∷ past) n ≡ bodyLength past n = body-next c past n ∙ rw (handler, e) in
@@ -200,3 +201,17 @@ handler-loaded w (c ∷ past) size v fit = by-handler (isHandler c) refl (handle
     by-handler false e ih = λ n i h.
         let q : bodyLength (c ∷ past) n ≡ bodyLength past n = body-next c past n ∙ rw e in
         ih n i (omega arith) ∙ rw (handler-other past c n (rw e))
+
+-- the bytes behind the slots stay
+pub beyond-loaded : (w : List ℕ) (past : List Command) → Valid past → (k : ℕ) → 16384 ≤ k → getD (loaded w past) k 0 ≡ getD w k 0
+unfolding loaded
+beyond-loaded w [] v k h = refl
+beyond-loaded w (c ∷ past) v k h = by-handler (isHandler c) refl (beyond-loaded w past (v .0) k h)
+  where
+    by-handler :
+        (t : Bool) → isHandler c ≡ t → getD (loaded w past) k 0 ≡ getD w k 0
+        → getD (cond t (stored (loaded w past) (slotOf (openBody past) (bodyLength past (openBody past))) (c .byte) (c .operands .first)) (loaded w past)) k 0 ≡ getD w k 0
+    by-handler true e ih =
+        let r = room past c v e in
+        other-byte (loaded w past) (slotOf (openBody past) (bodyLength past (openBody past))) (c .byte) (c .operands .first) k (inr (omega (arith, open-inside past (v .0)))) ∙ ih
+    by-handler false e ih = ih

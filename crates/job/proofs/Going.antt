@@ -18,7 +18,9 @@ use Rattle.tables.specs.Stands.{Stands}
 use Rattle.tables.proofs.Blank.{stands-blank}
 use Rattle.job.specs.declared.walk.Step.{Step}
 use Rattle.job.specs.declared.walk.Step.the-variants as s
-use Rattle.job.specs.Decoding.{Onward, Steps, Walked}
+use Rattle.job.specs.declared.Verdict.the-variants as v
+use Rattle.job.specs.Decoding.{Onward, Steps, Verdicts}
+use Rattle.job.proofs.Judged.{accepts, refuses}
 
 module _ (job : List ℕ) (place : ℕ) (inside : place < length job) (past : List Command) where
   -- 2 and 3
@@ -54,11 +56,11 @@ module _ (job : List ℕ) (place : ℕ) (inside : place < length job) (past : Li
           same = λ fuel. decode-on fuel job place past inside (commandOf c) next read (valid .2);
         }
 
--- a step, by the program's answer
+-- a step, by the code's answer
 pub steps-next : (job : List ℕ) (place : ℕ) (past : List Command) (t : List ℕ) (r : Step) (next : ℕ) → Steps job place past t r → r ≡ s.Next next → Onward job place past t next
 steps-next job place past t r next h e = rw e at h
 
-pub steps-stop : (job : List ℕ) (place : ℕ) (past : List Command) (t : List ℕ) (r : Step) (q : Refusal) → Steps job place past t r → r ≡ s.Stop q → (fuel : ℕ) → decodeFrom (suc fuel) job place past ≡ rejected (refusalOf q)
+pub steps-stop : (job : List ℕ) (place : ℕ) (past : List Command) (t : List ℕ) (r : Step) (q : Refusal) → Steps job place past t r → r ≡ s.Refused q → (fuel : ℕ) → decodeFrom (suc fuel) job place past ≡ rejected (refusalOf q)
 steps-stop job place past t r q h e = rw e at h
 
 -- what the loop keeps
@@ -87,15 +89,15 @@ going-start job t n l e =
     }
 
 module _ (job t : List ℕ) (place : ℕ) (g : Going job t place) where
-  pub going-end : length job ≤ place → Walked job t
-  going-end h = record { past = g .past; decoded = sym (g .goesOn) ∙ decode-end (g .fuel) job place (g .past) h; stands = g .stands }
+  pub going-end : length job ≤ place → Verdicts (decode job) t v.Accepted
+  going-end h = accepts (decode job) t (g .past) (sym (g .goesOn) ∙ decode-end (g .fuel) job place (g .past) h) (g .stands)
 
   module _ (h : place < length job) where
     left : (f : ℕ) × (decodeFrom (suc f) job place (g .past) ≡ decode job) × (g .fuel ≡ suc f)
     left = let f = fuel-left job place (g .fuel) h (g .enough) in (f .0, rw (f .1) at (g .goesOn), f .1)
 
-    pub going-stop : (r : RefusedFor) → ((fuel : ℕ) → decodeFrom (suc fuel) job place (g .past) ≡ rejected r) → decode job ≡ rejected r
-    going-stop r e = sym (left .1) ∙ e (left .0)
+    pub going-stop : (u : List ℕ) (r : Refusal) → ((fuel : ℕ) → decodeFrom (suc fuel) job place (g .past) ≡ rejected (refusalOf r)) → Verdicts (decode job) u (v.Refused r)
+    going-stop u r e = refuses (decode job) u r (sym (left .1) ∙ e (left .0))
 
     pub going-on : (u : List ℕ) (next : ℕ) → Onward job place (g .past) u next → Going job u next
     going-on u next o =

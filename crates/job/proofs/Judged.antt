@@ -1,33 +1,58 @@
--- The verdicts of the walk and of the jumps, put together.
+-- Verdicts: how each is reached, and what follows of it.
 use Prim.Native.Nat.{ℕ}
-use mathlib.Core.Path.{_≡_}
+use mathlib.Core.Path.{_≡_, refl, sym, _∙_}
 use mathlib.Core.List.{List}
+use mathlib.Core.Option.{Option, none, some}
+use native.Mathlib.Omega.{arith}
 use Rattle.model.specs.Command.{Command}
-use Rattle.model.specs.Refusal.{accepted, rejected, decode, decodeJob}
+use Rattle.model.specs.Refusal.{Refusal, Decoded, accepted, rejected, decode, decodeJob, farJump}
 use Rattle.model.proofs.Results.{decode-job-rejected, decode-job-jump, decode-job-accepted}
-use Rattle.command.specs.declared.read.Refusal.{Refusal}
+use Rattle.command.specs.declared.read.Refusal.{Refusal as Refused}
 use Rattle.command.specs.Reading.{refusalOf}
+use Rattle.tables.specs.Cells.{blank}
 use Rattle.tables.specs.Stands.{Stands}
-use Rattle.job.specs.declared.walk.Verdict.{Verdict}
-use Rattle.job.specs.declared.walk.Verdict.the-variants.{Accepted, Refused}
-use Rattle.job.specs.Decoding.{Walked, Walks, Jumps, Admitted, Judges}
+use Rattle.job.specs.declared.Verdict.{Verdict}
+use Rattle.job.specs.declared.Verdict.the-variants as v
+use Rattle.job.specs.Decoding.{verdictOf, refusalIn, Verdicts, Decides}
 
-module _ (job t : List ℕ) (v : Verdict) where
-  -- refused by the walk
-  pub walk-refused : (q : Refusal) → Walks job t v → v ≡ Refused q → decodeJob job ≡ rejected (refusalOf q)
-  walk-refused q w e = decode-job-rejected job (refusalOf q) (rw e at w)
+-- a job that is accepted, and one that is refused
+pub accepts : (d : Decoded) (t : List ℕ) (all : List Command) → d ≡ accepted all → Stands t all → Verdicts d t v.Accepted
+accepts d t all e s = record { verdict = rw e; tables = λ past f. let q : all ≡ past = cc in rw q at s }
 
-  pub walk-accepted : Walks job t v → v ≡ Accepted → Walked job t
-  walk-accepted w e = rw e at w
+pub refuses : (d : Decoded) (t : List ℕ) (q : Refused) → d ≡ rejected (refusalOf q) → Verdicts d t (v.Refused q)
+refuses d t q e = record { verdict = rw e; tables = λ past f. let w : _≡_ {A = ℕ} 0 1 = cc in absurd (omega arith) }
 
-  pub judge-refused : (q : Refusal) → Judges job t v → v ≡ Refused q → decodeJob job ≡ rejected (refusalOf q)
-  judge-refused q w e = rw e at w
+-- what a verdict says of the job
+pub record Accepted (d : Decoded) (t : List ℕ) : Type 0 where
+  pub past : List Command
+  pub decoded : d ≡ accepted past
+  pub stands : Stands t past
 
-  pub judge-accepted : Judges job t v → v ≡ Accepted → Admitted job t
-  judge-accepted w e = rw e at w
+pub is-accepted : (d : Decoded) (t : List ℕ) (r : Verdict) → Verdicts d t r → r ≡ v.Accepted → Accepted d t
+is-accepted (accepted past) t r h e = record { past = past; decoded = refl; stands = h .tables past refl }
+is-accepted (rejected q) t r h e = let f = rw e at (h .verdict) in let w : _≡_ {A = ℕ} 0 1 = cc in absurd (omega arith)
 
--- behind the walk, the verdict on the jumps decides
-pub jumps-decide : (job t : List ℕ) (r : Verdict) → Walked job t → ((all : List Command) → decode job ≡ accepted all → Stands t all → Jumps all r) → Judges job t r
-jumps-decide job t Accepted w j =
-    record { past = w .past; decoded = decode-job-accepted job (w .past) (w .decoded) (j (w .past) (w .decoded) (w .stands)); stands = w .stands }
-jumps-decide job t (Refused q) w j = decode-job-jump job (w .past) (refusalOf q) (w .decoded) (j (w .past) (w .decoded) (w .stands))
+pub is-refused : (d : Decoded) (t : List ℕ) (r : Verdict) (q : Refused) → Verdicts d t r → r ≡ v.Refused q → d ≡ rejected (refusalOf q)
+is-refused (accepted past) t r q h e = let f = rw e at (h .verdict) in let w : _≡_ {A = ℕ} 0 1 = cc in absurd (omega arith)
+is-refused (rejected p) t r q h e = let f = rw e at (h .verdict) in cc
+
+-- refused by the walk; and behind the walk the verdict on the jumps decides
+pub walk-refuses : (job t : List ℕ) (q : Refused) → decode job ≡ rejected (refusalOf q) → Verdicts (decodeJob job) t (v.Refused q)
+walk-refuses job t q e = refuses (decodeJob job) t q (decode-job-rejected job (refusalOf q) e)
+
+pub jumps-decide :
+    (job t : List ℕ) (r : Verdict) → Accepted (decode job) t → ((all : List Command) → decode job ≡ accepted all → Stands t all → verdictOf r ≡ farJump all)
+    → Verdicts (decodeJob job) t r
+jumps-decide job t v.Accepted a j =
+    accepts (decodeJob job) t (a .past) (decode-job-accepted job (a .past) (a .decoded) (sym (j (a .past) (a .decoded) (a .stands)))) (a .stands)
+jumps-decide job t (v.Refused q) a j =
+    refuses (decodeJob job) t q (decode-job-jump job (a .past) (refusalOf q) (a .decoded) (sym (j (a .past) (a .decoded) (a .stands))))
+
+-- the whole verdict, with the tables as they are left
+pub decides-accepted : (d : Decoded) (t : List ℕ) → Accepted d t → Decides d t v.Accepted
+decides-accepted d t a =
+    let e = a .decoded in
+    record { judged = accepts d t (a .past) e (a .stands); cleared = λ q f. let w : _≡_ {A = ℕ} 0 1 = cc in absurd (omega arith) }
+
+pub decides-refused : (d : Decoded) (t : List ℕ) (q : Refused) → d ≡ rejected (refusalOf q) → t ≡ blank → Decides d t (v.Refused q)
+decides-refused d t q e b = record { judged = refuses d t q e; cleared = λ p f. b }

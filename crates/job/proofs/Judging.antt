@@ -1,4 +1,4 @@
--- The program's tests of one command are the model's, if the tables stand for the commands before it.
+-- The code's tests of one command are the model's, if the tables stand for the commands before it.
 use Prim.Native.Nat.{ℕ, zero, suc, _/_}
 use mathlib.Core.Path.{_≡_, refl, sym, _∙_}
 use mathlib.Core.Bool.{Bool, true, false, cond, not, _&&_, _||_}
@@ -7,18 +7,18 @@ use mathlib.Core.Option.{none}
 use native.Mathlib.Omega.{arith}
 use lib.Dec.{ltb, leb, eqb}
 use lib.ListN.{getD}
-use borrow.Author.Tests.{ne-eqb}
+use borrow.Author.Tests.{eqb-true, ne-eqb}
 use Rattle.model.specs.Table.{FLOW, NODE, VAR, FUN, WIRE, ANY, ARG, READ, WRITE, BODY, GET, PUT, PLUS, START, operandsIn, operandsOf, kindAt, start, answer, value, jump, absent, groupOf, largestOf}
 use Rattle.model.specs.Command.{Command, Operands, ternary, binary}
-use Rattle.model.specs.Declared.{countOf, occurs, flowOf, sees}
+use Rattle.model.specs.Declared.{countOf, occurs, openBody, flowOf, sees}
 use Rattle.model.specs.Refusal.{isReached, exceedsCount, Counts, namesNothing, undeclared, outOfReach, mustDiffer, repeated, violation}
 use Rattle.model.specs.Valid.{Plain}
-use Rattle.model.proofs.Logic.{any-next, any-last}
+use Rattle.model.proofs.Logic.{true-false, any-next, any-last}
 use Rattle.model.proofs.Growth.{among-one}
 use Rattle.command.specs.declared.table.Row.{Row as Shape}
 use Rattle.command.specs.declared.read.Command.{Command as Code}
 use Rattle.command.specs.Rows.{rowAt, kindOf, limitOf, Says, RowOf}
-use Rattle.command.specs.Reading.{commandOf}
+use Rattle.command.specs.Reading.{commandOf, Known}
 use Rattle.command.proofs.Known.{byte-low, permission-byte}
 use Rattle.tables.specs.Tables.{countIn, groupIn, openIn, flowIn, lengthIn, seesIn, sharedIn, wiredIn, anyIn, listedIn, readIn, writeIn, bodyIn, startedAt}
 use Rattle.tables.specs.Stands.{Stands}
@@ -27,7 +27,20 @@ use Rattle.tables.specs.Stands.{Stands}
 row-known : (b i : ℕ) → RowOf b i → ¬ (operandsOf b ≡ none)
 row-known b i r e = let o = r .operands in let w : _≡_ {A = ℕ} 0 1 = cc in omega arith
 
--- a largest count is reached, as the program tests it
+or-none : (p : Bool) → (p || false) ≡ p
+or-none true = refl
+or-none false = refl
+
+-- a handler command is no permission
+uses-apart : (b : ℕ) → ((eqb b GET || eqb b PUT) || eqb b PLUS) ≡ true → (eqb b READ || eqb b WRITE) ≡ false
+uses-apart b u = by-read (eqb b READ) refl (eqb b WRITE) refl
+  where
+    by-read : (p : Bool) → eqb b READ ≡ p → (q : Bool) → eqb b WRITE ≡ q → (p || q) ≡ false
+    by-read true e q f = let z : b ≡ READ = eqb-true b READ e in true-false (sym (rw z at u))
+    by-read false e true f = let z : b ≡ WRITE = eqb-true b WRITE f in true-false (sym (rw z at u))
+    by-read false e false f = refl
+
+-- a largest count is reached, as the code tests it
 reached : (b k have : ℕ) (past : List Command) → have ≡ countOf b past → (not (eqb k 0) && leb k have) ≡ isReached (limitOf b k) past
 reached b zero have past e = refl
 reached b (suc k) have past e = rw (ne-eqb (suc k) 0 (λ z. omega arith), among-one b past, e)
@@ -53,17 +66,17 @@ names-none d s (suc (suc (suc (suc (suc (suc (suc k))))))) x n₀ n₁ n₂ n₃
 module _ (t : List ℕ) (c : Code) (past : List Command) (s : Stands t past) where
   -- 5
   pub exceeds-same :
-      (row : Shape) (have opened inside : ℕ) (body : Bool) → RowOf (c .byte) (c .row) → Says (rowAt (c .row)) row
+      (row : Shape) (have opened inside : ℕ) (body : Bool) → Known c → Says (rowAt (c .row)) row
       → have ≡ countIn t (c .byte) → opened ≡ openIn t → inside ≡ lengthIn t opened → body ≡ (leb 0x41 (c .byte) && leb (c .byte) 0x4B)
       → ((not (eqb (row .8) 0) && leb (row .8) have) || (body && leb 64 inside)) ≡ exceedsCount past (commandOf c)
   exceeds-same row have opened inside body r says h o i b =
-      let n : have ≡ countOf (c .byte) past = h ∙ s .counts (c .byte) (byte-low (c .byte) (row-known (c .byte) (c .row) r)) in
-      let m : limitOf (c .byte) (row .8) ≡ largestOf (c .byte) = rw (r .same) at (says .most) in
+      let n : have ≡ countOf (c .byte) past = h ∙ s .counts (c .byte) (byte-low (c .byte) (row-known (c .byte) (c .row) (r .row))) in
+      let m : limitOf (c .byte) (row .8) ≡ largestOf (c .byte) = rw (r .row .same) at (says .most) in
       rw (any-next, any-last, reached (c .byte) (row .8) have past n, m, b, i, o, s .lengths (openIn t), s .opened)
 
   -- 6
   pub undeclared-same :
-      (row : Shape) (flows nodes variables functions bodies : ℕ) (body x y z : Bool) → RowOf (c .byte) (c .row) → Says (rowAt (c .row)) row
+      (row : Shape) (flows nodes variables functions bodies : ℕ) (body x y z : Bool) → Known c → Says (rowAt (c .row)) row
       → flows ≡ countIn t FLOW → nodes ≡ countIn t NODE → variables ≡ countIn t VAR → functions ≡ countIn t FUN → bodies ≡ countIn t BODY → body ≡ (leb 0x41 (c .byte) && leb (c .byte) 0x4B)
       → x ≡ namesNothing (record { flows = flows; nodes = nodes; variables = variables; functions = functions }) (c .first) (kindOf (row .5)) (c .first)
       → y ≡ namesNothing (record { flows = flows; nodes = nodes; variables = variables; functions = functions }) (c .first) (kindOf (row .6)) (c .second)
@@ -76,7 +89,7 @@ module _ (t : List ℕ) (c : Code) (past : List Command) (s : Stands t past) whe
         any-next,
         any-next,
         any-last,
-        r .operands,
+        r .row .operands,
         ← says .kind₁,
         ← says .kind₂,
         ← says .kind₃,
@@ -99,22 +112,29 @@ module _ (t : List ℕ) (c : Code) (past : List Command) (s : Stands t past) whe
   sees-same : (n x : ℕ) → seesIn t n x ≡ sees past n x
   sees-same n x = rw (s .scope x, s .owner x, s .flow n)
 
-  -- 7
-  pub reach-same :
-      (from to opened : ℕ) (own seen common : Bool) → from ≡ flowIn t (c .first) → to ≡ flowIn t (c .third) → opened ≡ openIn t
-      → own ≡ seesIn t opened (c .first) → seen ≡ seesIn t (c .first) (c .second) → common ≡ sharedIn t (c .second)
-      → ((eqb (c .byte) WIRE && not (eqb from to)) || ((((eqb (c .byte) GET || eqb (c .byte) PUT) || eqb (c .byte) PLUS) && not own)
-      || (((eqb (c .byte) READ || eqb (c .byte) WRITE) && not seen) || ((eqb (c .byte) READ || eqb (c .byte) WRITE) && not common)))) ≡ outOfReach past (commandOf c)
-  reach-same from to opened own seen common f g o p q r =
-      rw (any-next, any-next, any-next, any-last, p, q, r, o, f, g, sees-same (openIn t) (c .first), sees-same (c .first) (c .second), s .scope (c .second), s .flow (c .first), s .flow (c .third), s .opened)
+  -- 7: a wire, a handler command that names a variable, a permission that does, and all others
+  pub wire-reach : (r : Bool) (from to : ℕ) → c .byte ≡ WIRE → from ≡ flowIn t (c .first) → to ≡ flowIn t (c .third) → r ≡ not (eqb from to) → r ≡ outOfReach past (commandOf c)
+  wire-reach r from to e f g q = q ∙ rw (any-next, any-next, any-next, any-last, e, f, g, s .flow (c .first), s .flow (c .third)) (sym (or-none (not (eqb (flowOf past (c .first)) (flowOf past (c .third))))))
+
+  module _ (other : ¬ (c .byte ≡ WIRE)) (uses : Bool) (same : uses ≡ ((eqb (c .byte) GET || eqb (c .byte) PUT) || eqb (c .byte) PLUS)) where
+    pub use-reach : uses ≡ true → (r own : Bool) (opened : ℕ) → opened ≡ openIn t → own ≡ seesIn t opened (c .first) → r ≡ not own → r ≡ outOfReach past (commandOf c)
+    use-reach u r own opened o p q =
+        let h = sym same ∙ u in
+        q ∙ rw (any-next, any-next, any-next, any-last, ne-eqb (c .byte) WIRE other, h, uses-apart (c .byte) h, p, o, sees-same (openIn t) (c .first), s .opened)
+        (sym (or-none (not (sees past (openBody past) (c .first)))))
+
+    module _ (u : uses ≡ false) (access : Bool) (alike : access ≡ (eqb (c .byte) READ || eqb (c .byte) WRITE)) where
+      pub access-reach :
+          access ≡ true → (r seen common : Bool) → seen ≡ seesIn t (c .first) (c .second) → common ≡ sharedIn t (c .second) → r ≡ (not seen || not common) → r ≡ outOfReach past (commandOf c)
+      access-reach a r seen common p q h =
+          h ∙ rw (any-next, any-next, any-next, any-last, ne-eqb (c .byte) WIRE other, sym same ∙ u, sym alike ∙ a, p, q, sees-same (c .first) (c .second), s .scope (c .second))
+
+      pub other-reach : access ≡ false → false ≡ outOfReach past (commandOf c)
+      other-reach a = rw (any-next, any-next, any-next, any-last, ne-eqb (c .byte) WIRE other, sym same ∙ u, sym alike ∙ a)
 
   -- 8: a byte of those that may not be repeated, a START, and every other known byte
   repeated-as : (b : ℕ) (x : Operands) (r : Bool) → c .byte ≡ b → mustDiffer (record { place = 0; byte = b; operands = x }) ≡ true → eqb b START ≡ false → commandOf c .operands ≡ x → r ≡ occurs b x past → r ≡ repeated past (commandOf c)
   repeated-as b x r e m n o q = rw (any-next, any-last, e, o, n, m, ← q) (sym (or-none r))
-    where
-      or-none : (p : Bool) → (p || false) ≡ p
-      or-none true = refl
-      or-none false = refl
 
   module _ (plain : Plain (commandOf c)) where
     pub wire-same : (r : Bool) → c .byte ≡ WIRE → r ≡ wiredIn t (c .first) (c .second) (c .third) → r ≡ repeated past (commandOf c)
@@ -162,8 +182,8 @@ module _ (t : List ℕ) (c : Code) (past : List Command) (s : Stands t past) whe
 
   -- the tests in their order, the first by the highest group so far
   pub violation-as :
-      (g : ℕ) → g ≡ groupIn t
+      (g : ℕ) → Known c → g ≡ groupIn t
       → violation past (commandOf c)
-      ≡ cond (ltb (c .byte / 16) g) 4 (cond (exceedsCount past (commandOf c)) 5 (cond (undeclared past (commandOf c)) 6 (cond (outOfReach past (commandOf c)) 7 (cond (repeated past (commandOf c)) 8 0))))
+      ≡ cond (ltb (c .group) g) 4 (cond (exceedsCount past (commandOf c)) 5 (cond (undeclared past (commandOf c)) 6 (cond (outOfReach past (commandOf c)) 7 (cond (repeated past (commandOf c)) 8 0))))
   unfolding violation
-  violation-as g e = rw (s .group (commandOf c), e)
+  violation-as g k e = rw (s .group (commandOf c), e, k .group)

@@ -1,6 +1,6 @@
 pub mod Judging
+pub mod Judged
 pub mod Going
 pub mod Looking
-pub mod Judged
-pub mod Prepared
 pub mod Schedule
+pub mod Prepared

@@ -32,7 +32,7 @@ module _ (job : List ℕ) (all : List Command) (place opened : ℕ) (l : Looking
   pub looking-end : length job ≤ place → farJump all ≡ none
   looking-end h = scanning-end 9 (isFarJump all) job all place (l .past) (l .scanning) h
 
-  -- the program reads what the model reads there: a whole command
+  -- the code reads what the model reads there: a whole command
   pub looking-reads : {A : Type 0} → place < length job → (q : Refusal) → refusalAt place (readCommand job place) ≡ some (refusalOf q) → A
   looking-reads h q e =
       let r = scanning-reads 9 (isFarJump all) job all place (l .past) (l .scanning) h in

@@ -20,6 +20,7 @@ use Rattle.model.proofs.Words.{CommandsFit, job-fit}
 use Rattle.tables.specs.Tables.{countIn, lengthIn}
 use Rattle.tables.specs.Stands.{Stands}
 use Rattle.handlers.specs.Loading.{fetchedIn, loaded}
+use Rattle.handlers.proofs.Slots.{length-loaded, beyond-loaded}
 use Rattle.handlers.proofs.Fetched.{fetched-loaded}
 use Rattle.job.specs.Program.{programIn, PreparedHolds}
 use Rattle.job.proofs.Schedule.{turn-at}
@@ -72,4 +73,6 @@ prepared job t w past bytes e s size =
       fetched = same-fetched w past size (v .commands) fit;
       turns = counted ∙ sym (length-turns past);
       turn = λ k h. rw counted (turn-at job past (job-accepted job past e .read .reads) k (omega (arith, length-turns past)));
+      size = length-loaded w past;
+      beyond = beyond-loaded w past (v .commands);
     }

@@ -105,7 +105,7 @@ pub turn-at :
     → (k : ℕ) → k < countOf TURN past → getD job (length job - 2 * countOf TURN past + 2 * k + 1) 0 ≡ getD (turnsOf past) k 0
 turn-at job past reads = turning reads .turn
 
--- the place of a turn, as a program finds it: inside the job, or behind the last turn
+-- the place of a turn, as the code finds it: inside the job, or behind the last turn
 module _ (job : List ℕ) (m k count first left : ℕ) (counted : count ≡ m) (from : first ≡ length job - 2 * count) (rest : left ≡ length job - first) where
   pub turn-inside : (x : ℕ) → x ≡ getD job (first + (2 * k + 1)) 0 → x ≡ getD job (length job - 2 * m + 2 * k + 1) 0
   turn-inside x e = let q : first + (2 * k + 1) ≡ length job - 2 * m + 2 * k + 1 = omega arith in rw q at e

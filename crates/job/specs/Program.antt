@@ -9,7 +9,7 @@ use Rattle.model.specs.Declared.{turnsOf}
 use Rattle.model.specs.Program.{Program, programOf}
 use Rattle.model.specs.State.{tabulate}
 use Rattle.model.specs.Turn.{instructionAt}
-use Rattle.model.specs.Refusal.{accepted, decodeJob}
+use Rattle.model.specs.Refusal.{accepted, decodeJob, workSize}
 use Rattle.model.specs.Valid.{Bytes}
 use Rattle.tables.specs.Tables.{countIn, flowIn, scopeIn, ownerIn, startIn, answerIn, wiredIn, callIn, readIn, writeIn, lengthIn, firstsIn}
 use Rattle.tables.specs.Stands.{Stands}
@@ -40,15 +40,18 @@ programIn t w =
 abbrev pub turnIn : List ℕ → List ℕ → ℕ → ℕ
 turnIn job t k = getD job (length job - 2 * countIn t TURN + 2 * k + 1) 0
 
--- what decoding and loading leave of an accepted job: its program, every command of its handlers, and its turns
-pub record Prepared (job t w : List ℕ) (past : List Command) : Type 0 where
+-- what decoding and loading leave of an accepted job: its program, every command of its handlers, its turns, and the bytes behind the slots;
+-- `before` is the work buffer before loading, `w` the one behind it
+pub record Prepared (job t before w : List ℕ) (past : List Command) : Type 0 where
   pub program : programIn t w ≡ programOf past
   pub fetched : (n i : ℕ) → i < length (programOf past .handler n) → fetchedIn w n i ≡ instructionAt (programOf past) n i
   pub turns : countIn t TURN ≡ length (turnsOf past)
   pub turn : (k : ℕ) → k < length (turnsOf past) → turnIn job t k ≡ getD (turnsOf past) k 0
+  pub size : length w ≡ length before
+  pub beyond : (i : ℕ) → workSize ≤ i → getD w i 0 ≡ getD before i 0
 
 -- the claim: for every accepted job of bytes, with tables that stand for its commands and a work buffer that is long enough
 abbrev pub PreparedHolds : Type 0
 PreparedHolds =
-    (job t w : List ℕ) (past : List Command) → Bytes job → decodeJob job ≡ accepted past → Stands t past → 16384 ≤ length w
-    → Prepared job t (loaded w past) past
+    (job t w : List ℕ) (past : List Command) → Bytes job → decodeJob job ≡ accepted past → Stands t past → workSize ≤ length w
+    → Prepared job t w (loaded w past) past

@@ -1,4 +1,4 @@
--- What the program's counts stand for.
+-- What the code's counts stand for.
 use Rattle.model.specs.Refusal.{Counts}
 use Rattle.job.specs.declared.test.Counts.{Counts as Counted}
 

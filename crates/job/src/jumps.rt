@@ -5,9 +5,9 @@ ghost use mathlib.Core.List.{List};
 ghost use lib.Dec.{eqb, ltb};
 ghost use Rattle.model.specs.Table.{JUMPZ, JUMP};
 ghost use Rattle.model.specs.Command.{Command as Past};
-ghost use Rattle.model.specs.Refusal.{accepted, decode};
+ghost use Rattle.model.specs.Refusal.{accepted, decode, farJump};
 ghost use Rattle.tables.specs.Stands.{Stands};
-ghost use Rattle.job.specs.Decoding.{Jumps};
+ghost use Rattle.job.specs.Decoding.{verdictOf};
 use crate::Verdict;
 use command::bytes;
 use command::numbers::NodeNum;
@@ -27,7 +27,7 @@ fn is_far(c: Command, len: u32) -> bool
 
 // 9: refused at the first jump whose target exceeds its handler's command count.
 pub(crate) fn check_jumps(job: &[u8], t: &[u32]) -> Verdict
-    ensures { λ r. ⌜ ((all : List Past) → decode (now (job .entry)) ≡ accepted all → Stands (now (t .entry)) all → Jumps all r) ⌝ }
+    ensures { λ r. ⌜ ((all : List Past) → decode (now (job .entry)) ≡ accepted all → Stands (now (t .entry)) all → verdictOf r ≡ farJump all) ⌝ }
 {
     let mut at = 0;
     let mut opened = NodeNum(0);

@@ -6,7 +6,8 @@ mod walk;
 
 ghost use mathlib.Core.Path.{_≡_};
 ghost use lib.ListN.{length};
-ghost use Rattle.job.specs.Decoding.{Judges, Decides};
+ghost use Rattle.model.specs.Refusal.{decodeJob};
+ghost use Rattle.job.specs.Decoding.{Verdicts, Decides};
 use command::read::Refusal;
 use jumps::check_jumps;
 use tables::cells::CELLS;
@@ -22,7 +23,7 @@ pub enum Verdict {
 // The tests 1 to 9: the verdict, and the tables of an accepted job.
 fn judge(job: &[u8], t: &mut [u32]) -> Verdict
     requires { ⌜ length (now t) ≡ 15936 ⌝ }
-    ensures { λ r. ⌜ Judges (now (job .entry)) (now (t .exit)) r ⌝ }
+    ensures { λ r. ⌜ Verdicts (decodeJob (now (job .entry))) (now (t .exit)) r ⌝ }
 {
     let walked = walk(job, t);
     match walked {
@@ -33,7 +34,7 @@ fn judge(job: &[u8], t: &mut [u32]) -> Verdict
 
 // The verdict on a job of any length, whatever the tables held before: an accepted job leaves its tables, a refused one blank ones.
 pub fn decode(job: &[u8], t: &mut [u32; CELLS]) -> Verdict
-    ensures { λ r. ⌜ Decides (now (job .entry)) (now (t .exit)) r ⌝ }
+    ensures { λ r. ⌜ Decides (decodeJob (now (job .entry))) (now (t .exit)) r ⌝ }
 {
     let judged = judge(job, t);
     match judged {

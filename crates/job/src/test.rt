@@ -1,7 +1,9 @@
 // The tests 4 to 8 of a command, by the tables of those before it.
 ghost use mathlib.Core.Path.{_≡_};
-ghost use mathlib.Core.Bool.{false};
+ghost use mathlib.Core.Bool.{_||_};
 ghost use mathlib.Core.List.{List};
+ghost use lib.Dec.{eqb};
+ghost use Rattle.model.specs.Table.{READ, WRITE, GET, PUT, PLUS};
 ghost use Rattle.model.specs.Command.{Command as Past};
 ghost use Rattle.model.specs.Refusal.{exceedsCount, noOwner, namesNothing, undeclared, outOfReach, repeated, violation};
 ghost use Rattle.model.specs.Valid.{Plain};
@@ -90,30 +92,41 @@ fn is_undeclared(t: &[u32], c: Command) -> bool
         | ((handler & (bodies == 0)) | (first | (second | third)))
 }
 
+// The handler commands that name a variable.
+fn uses_variable(b: u8) -> bool
+    ensures { λ r. ⌜ r ≡ ((eqb b GET || eqb b PUT) || eqb b PLUS) ⌝ }
+{
+    ((b == bytes::GET) | (b == bytes::PUT)) | (b == bytes::PLUS)
+}
+
+// The permissions that name a variable.
+fn is_access(b: u8) -> bool
+    ensures { λ r. ⌜ r ≡ (eqb b READ || eqb b WRITE) ⌝ }
+{
+    (b == bytes::READ) | (b == bytes::WRITE)
+}
+
 // 7: a wire into another flow, a handler command with a variable that its node does not see, READ or WRITE of a variable unseen or
 // not shared.
 fn is_out_of_reach(t: &[u32], c: Command) -> bool
     ensures { λ r. ⌜ ((past : List Past) → Stands (now (t .entry)) past → r ≡ outOfReach past (commandOf c)) ⌝ }
 {
-    let b = c.byte;
-    match b {
-        bytes::WIRE => {
-            let from = declared::flow_of(t, NodeNum(c.first));
-            let to = declared::flow_of(t, NodeNum(c.third));
-            from.0 != to.0
-        }
-        bytes::GET | bytes::PUT | bytes::PLUS => {
-            let opened = declared::open_node(t);
-            let seen = declared::sees(t, opened, VarNum(c.first));
-            !seen
-        }
-        bytes::READ | bytes::WRITE => {
-            let seen = declared::sees(t, NodeNum(c.first), VarNum(c.second));
-            let shared = declared::is_shared(t, VarNum(c.second));
-            !seen | !shared
-        }
-        _ => false,
+    if c.byte == bytes::WIRE {
+        let from = declared::flow_of(t, NodeNum(c.first));
+        let to = declared::flow_of(t, NodeNum(c.third));
+        return from.0 != to.0;
     }
+    if uses_variable(c.byte) {
+        let opened = declared::open_node(t);
+        let seen = declared::sees(t, opened, VarNum(c.first));
+        return !seen;
+    }
+    if is_access(c.byte) {
+        let seen = declared::sees(t, NodeNum(c.first), VarNum(c.second));
+        let shared = declared::is_shared(t, VarNum(c.second));
+        return !seen | !shared;
+    }
+    false
 }
 
 // 8: the same WIRE or permission again, a node's second BODY, a flow's second START.

@@ -4,10 +4,11 @@ ghost use mathlib.Core.List.{List};
 ghost use Prim.Native.Nat.{_≤_, _<_};
 ghost use lib.ListN.{length};
 ghost use Rattle.model.specs.Command.{Command as Past, readCommand, whole};
+ghost use Rattle.model.specs.Refusal.{decode};
 ghost use Rattle.model.specs.Valid.{Valid};
 ghost use Rattle.command.specs.Reading.{commandOf, Known};
 ghost use Rattle.tables.specs.Stands.{Stands};
-ghost use Rattle.job.specs.Decoding.{Steps, Walks};
+ghost use Rattle.job.specs.Decoding.{Steps, Verdicts};
 use crate::Verdict;
 use crate::test::violation_of;
 use command::read::Command;
@@ -52,7 +53,7 @@ fn advance(job: &[u8], at: usize, t: &mut [u32]) -> Step
 // The tests 1 to 8: the verdict, and the tables of an accepted job.
 pub(crate) fn walk(job: &[u8], t: &mut [u32]) -> Verdict
     requires { ⌜ length (now t) ≡ 15936 ⌝ }
-    ensures { λ r. ⌜ Walks (now (job .entry)) (now (t .exit)) r ⌝ }
+    ensures { λ r. ⌜ Verdicts (decode (now (job .entry))) (now (t .exit)) r ⌝ }
 {
     clear(t);
     if job.len() == 0 {

@@ -362,7 +362,7 @@ module _ (t : List ℕ) (past : List Command) (c : Command) (s : Stands t past) 
         arguments = arguments-next;
       }
 
--- the tables behind the writes as a program makes them, one after the other
+-- the tables behind the writes as the code makes them, one after the other
 pub stands-noted :
     (t : List ℕ) (c : Code) (have flows nodes variables functions arguments opened len flow more longer less : ℕ) (body : Bool)
     (u₁ u₂ u₃ u₄ u₅ u₆ u₇ u₈ u₉ u₁₀ u₁₁ u₁₂ u₁₃ u₁₄ u₁₅ u₁₆ u₁₇ u₁₈ u₁₉ u₂₀ : List ℕ) (past : List Command)

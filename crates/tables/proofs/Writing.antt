@@ -1,4 +1,4 @@
--- Reading and writing cells: what a program's tests give, and what a write changes in its section and in the others.
+-- Reading and writing cells: what the code's tests give, and what a write changes in its section and in the others.
 use Prim.Native.Nat.{ℕ, _+_, _*_, _≤_, _<_}
 use mathlib.Core.Path.{_≡_, refl, sym, _∙_}
 use mathlib.Core.Bool.{Bool, true, false}

@@ -8,7 +8,7 @@ use Rattle.model.specs.Declared.{only, isShared, isSeen}
 use Rattle.tables.specs.declared.cells.Section.{Section}
 use Rattle.tables.specs.Cells.{section, entryIn, markIn, gridIn}
 
--- the sections, in the program's order
+-- the sections, in the code's order
 abbrev pub countCells : Section
 countCells = section 0 128
 

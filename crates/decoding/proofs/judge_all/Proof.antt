@@ -1,5 +1,5 @@
 -- `decoding::judge_all` meets its contract. The invariant: a line fits behind the text that waits, and the two slices keep their lengths.
--- The measure is the number of turns that are left. Assumes nothing.
+-- The measure is the number of left that are left. Assumes nothing.
 use mathlib.Core.Path.{_≡_, sym, subst}
 use mathlib.Core.List.{List}
 use Prim.Native.Nat.{ℕ, _+_, _≤_}
@@ -14,11 +14,11 @@ use Rattle.decoding.proofs.judge_all.Statement.{statement}
 use Rattle.decoding.proofs.judge_all.Tie as tie
 
 abbrev Inv-loop : tie.InvT-loop
-Inv-loop buffer₀ text₀ tables₀ at₀ turns₀ buffer text tables at turns =
+Inv-loop buffer₀ text₀ tables₀ at₀ left₀ buffer text tables at left =
     (at + 64 ≤ length text) × (length text ≡ length text₀) × (length buffer ≡ length buffer₀)
 
 abbrev μ-loop : tie.MeasureT-loop
-μ-loop buffer₀ text₀ tables₀ at₀ turns₀ buffer text tables at turns = turns
+μ-loop buffer₀ text₀ tables₀ at₀ left₀ buffer text tables at left = left
 
 -- the size of a job that was found
 fitting : (r : Record) (n : ℕ) (xs : List ℕ) → Fits r xs → r ≡ Job n → n ≤ length xs
@@ -61,8 +61,8 @@ put-line-requires c κs = search needs
 make-room-requires : tie.Need-make-room-requires Inv-loop μ-loop
 make-room-requires c κs = search needs
 
-sub-turns : tie.Need-sub-turns Inv-loop μ-loop
-sub-turns c = search needs
+sub-left : tie.Need-sub-left Inv-loop μ-loop
+sub-left c = search needs
 
 loop-less : tie.Need-loop-less Inv-loop μ-loop
 loop-less c = search needs
@@ -97,7 +97,7 @@ judge-all-spec =
     decode-requires
     put-line-requires
     make-room-requires
-    sub-turns
+    sub-left
     loop-less
     loop-again
     same-length-3

@@ -1,6 +1,6 @@
 -- `job::decode` meets its contract.
 use borrow.Author.Needs.{needs}
-use Rattle.job.proofs.Judged.{judge-refused, judge-accepted}
+use Rattle.job.proofs.Judged.{is-accepted, is-refused, decides-accepted, decides-refused}
 use Rattle.job.proofs.decode.Statement.{statement}
 use Rattle.job.proofs.decode.Tie as tie
 
@@ -17,10 +17,10 @@ enum-told : tie.Need-enum-told
 enum-told c = search needs
 
 returns : tie.Need-returns
-returns c = (judge-refused _ _ _ _ (c .before .before .before .before .before .judge .ensures) (c .before .before .before .judged .given .1), c .clear .ensures)
+returns c = decides-refused _ _ _ (is-refused _ _ _ _ (c .before .before .before .before .before .judge .ensures) (c .before .before .before .judged .given .1)) (c .clear .ensures)
 
 returns-2 : tie.Need-returns-2
-returns-2 c = judge-accepted _ _ _ (c .before .before .judge .ensures) (c .enum-told .given .1)
+returns-2 c = decides-accepted _ _ (is-accepted _ _ _ (c .before .before .judge .ensures) (c .enum-told .given .1))
 
 pub decode-spec : {M : Type 1} → statement M
 decode-spec =

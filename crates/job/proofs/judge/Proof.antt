@@ -1,6 +1,6 @@
 -- `job::judge` meets its contract.
 use borrow.Author.Needs.{needs}
-use Rattle.job.proofs.Judged.{walk-refused, walk-accepted, jumps-decide}
+use Rattle.job.proofs.Judged.{is-accepted, is-refused, walk-refuses, jumps-decide}
 use Rattle.job.proofs.judge.Statement.{statement}
 use Rattle.job.proofs.judge.Tie as tie
 
@@ -20,13 +20,13 @@ same-length : tie.Need-same-length
 same-length c = search needs
 
 returns : tie.Need-returns
-returns c = walk-refused _ _ _ _ (c .before .before .before .before .before .walk .ensures) (c .before .walked .given .1)
+returns c = walk-refuses _ _ _ (is-refused _ _ _ _ (c .before .before .before .before .before .walk .ensures) (c .before .walked .given .1))
 
 same-length-2 : tie.Need-same-length-2
 same-length-2 c = search needs
 
 returns-2 : tie.Need-returns-2
-returns-2 c = jumps-decide _ _ (c .check-jumps .result) (walk-accepted _ _ _ (c .before .before .before .before .before .before .walk .ensures) (c .before .before .enum-told .given .1)) (c .check-jumps .ensures)
+returns-2 c = jumps-decide _ _ (c .check-jumps .result) (is-accepted _ _ _ (c .before .before .before .before .before .before .walk .ensures) (c .before .before .enum-told .given .1)) (c .check-jumps .ensures)
 
 pub judge-spec : {M : Type 1} → statement M
 judge-spec =

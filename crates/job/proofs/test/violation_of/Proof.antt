@@ -13,13 +13,13 @@ group-requires : tie.Need-group-requires
 group-requires c κs = search needs
 
 returns : tie.Need-returns
-returns c = λ past s plain. rw (violation-as _ _ past s _ (c .before .group .ensures), lt-ltb _ _ (c .if1 .taken))
+returns c = λ past s plain. rw (violation-as _ (c .before .before .before .before .args .c) past s _ (c .before .before .before .before .pre) (c .before .group .ensures), lt-ltb _ _ (c .if1 .taken))
 
 exceeds-count-requires : tie.Need-exceeds-count-requires
 exceeds-count-requires c κs = search needs
 
 returns-2 : tie.Need-returns-2
-returns-2 c = λ past s plain. rw (violation-as _ _ past s _ (c .before .before .before .group .ensures), le-ltb _ _ (c .before .before .if1 .left), sym (c .before .exceeds-count .ensures past s) ∙ c .if2 .taken)
+returns-2 c = λ past s plain. rw (violation-as _ (c .before .before .before .before .before .before .args .c) past s _ (c .before .before .before .before .before .before .pre) (c .before .before .before .group .ensures), le-ltb _ _ (c .before .before .if1 .left), sym (c .before .exceeds-count .ensures past s) ∙ c .if2 .taken)
 
 is-undeclared-requires : tie.Need-is-undeclared-requires
 is-undeclared-requires c κs = search needs
@@ -27,7 +27,7 @@ is-undeclared-requires c κs = search needs
 returns-3 : tie.Need-returns-3
 returns-3 c =
     λ past s plain.
-    rw (violation-as _ _ past s _ (c .before .before .before .before .before .group .ensures), le-ltb _ _ (c .before .before .before .before .if1 .left), sym (c .before .before .before .exceeds-count .ensures past s) ∙ c .before .before .if2 .left, sym (c .before .is-undeclared .ensures past s) ∙ c .if3 .taken)
+    rw (violation-as _ (c .before .before .before .before .before .before .before .before .args .c) past s _ (c .before .before .before .before .before .before .before .before .pre) (c .before .before .before .before .before .group .ensures), le-ltb _ _ (c .before .before .before .before .if1 .left), sym (c .before .before .before .exceeds-count .ensures past s) ∙ c .before .before .if2 .left, sym (c .before .is-undeclared .ensures past s) ∙ c .if3 .taken)
 
 is-out-of-reach-requires : tie.Need-is-out-of-reach-requires
 is-out-of-reach-requires c κs = search needs
@@ -36,7 +36,7 @@ returns-4 : tie.Need-returns-4
 returns-4 c =
     λ past s plain.
     rw (
-      violation-as _ _ past s _ (c .before .before .before .before .before .before .before .group .ensures),
+      violation-as _ (c .before .before .before .before .before .before .before .before .before .before .args .c) past s _ (c .before .before .before .before .before .before .before .before .before .before .pre) (c .before .before .before .before .before .before .before .group .ensures),
       le-ltb _ _ (c .before .before .before .before .before .before .if1 .left),
       sym (c .before .before .before .before .before .exceeds-count .ensures past s) ∙ c .before .before .before .before .if2 .left,
       sym (c .before .before .before .is-undeclared .ensures past s) ∙ c .before .before .if3 .left,
@@ -50,7 +50,7 @@ returns-5 : tie.Need-returns-5
 returns-5 c =
     λ past s plain.
     rw (
-      violation-as _ _ past s _ (c .before .before .before .before .before .before .before .before .before .group .ensures),
+      violation-as _ (c .before .before .before .before .before .before .before .before .before .before .before .before .args .c) past s _ (c .before .before .before .before .before .before .before .before .before .before .before .before .pre) (c .before .before .before .before .before .before .before .before .before .group .ensures),
       le-ltb _ _ (c .before .before .before .before .before .before .before .before .if1 .left),
       sym (c .before .before .before .before .before .before .before .exceeds-count .ensures past s) ∙ c .before .before .before .before .before .before .if2 .left,
       sym (c .before .before .before .before .before .is-undeclared .ensures past s) ∙ c .before .before .before .before .if3 .left,
@@ -62,7 +62,7 @@ returns-6 : tie.Need-returns-6
 returns-6 c =
     λ past s plain.
     rw (
-      violation-as _ _ past s _ (c .before .before .before .before .before .before .before .before .before .group .ensures),
+      violation-as _ (c .before .before .before .before .before .before .before .before .before .before .before .before .args .c) past s _ (c .before .before .before .before .before .before .before .before .before .before .before .before .pre) (c .before .before .before .before .before .before .before .before .before .group .ensures),
       le-ltb _ _ (c .before .before .before .before .before .before .before .before .if1 .left),
       sym (c .before .before .before .before .before .before .before .exceeds-count .ensures past s) ∙ c .before .before .before .before .before .before .if2 .left,
       sym (c .before .before .before .before .before .is-undeclared .ensures past s) ∙ c .before .before .before .before .if3 .left,

@@ -10,11 +10,11 @@ count-of-requires c κs = search needs
 cast-count : tie.Need-cast-count
 cast-count c = search needs
 
-mul-before-end : tie.Need-mul-before-end
-mul-before-end c = search needs
+mul-less : tie.Need-mul-less
+mul-less c = search needs
 
-before-end-requires : tie.Need-before-end-requires
-before-end-requires c κs = search needs
+less-requires : tie.Need-less-requires
+less-requires c κs = search needs
 
 mul-offset : tie.Need-mul-offset
 mul-offset c = search needs
@@ -22,8 +22,8 @@ mul-offset c = search needs
 add-offset : tie.Need-add-offset
 add-offset c = search needs
 
-before-end-requires-2 : tie.Need-before-end-requires-2
-before-end-requires-2 c κs = search needs
+less-requires-2 : tie.Need-less-requires-2
+less-requires-2 c κs = search needs
 
 add-at : tie.Need-add-at
 add-at c = search needs
@@ -35,10 +35,10 @@ wide-requires : tie.Need-wide-requires
 wide-requires c κs = search needs
 
 returns : tie.Need-returns
-returns c = turn-inside (c .before .before .before .before .before .before .before .before .args .job .now) _ (c .before .before .before .before .before .before .before .before .args .k) _ _ _ (c .before .before .before .before .before .count-of .ensures) (c .before .before .before .before .before-end .ensures) (c .before .before .before .before-end2 .ensures) _ (c .wide .ensures .0)
+returns c = turn-inside (c .before .before .before .before .before .before .before .before .args .job .now) _ (c .before .before .before .before .before .before .before .before .args .k) _ _ _ (c .before .before .before .before .before .count-of .ensures) (c .before .before .before .before .less .ensures) (c .before .before .before .less2 .ensures) _ (c .wide .ensures .0)
 
 returns-2 : tie.Need-returns-2
-returns-2 c = turn-outside (c .before .before .before .before .before .before .args .job .now) _ (c .before .before .before .before .before .before .args .k) _ _ _ (c .before .before .before .count-of .ensures) (c .before .before .before-end .ensures) (c .before .before-end2 .ensures) (c .if1 .left)
+returns-2 c = turn-outside (c .before .before .before .before .before .before .args .job .now) _ (c .before .before .before .before .before .before .args .k) _ _ _ (c .before .before .before .count-of .ensures) (c .before .before .less .ensures) (c .before .less2 .ensures) (c .if1 .left)
 
 pub turn-at-spec : {M : Type 1} → statement M
 turn-at-spec =
@@ -46,11 +46,11 @@ turn-at-spec =
     (tie.spec
     count-of-requires
     cast-count
-    mul-before-end
-    before-end-requires
+    mul-less
+    less-requires
     mul-offset
     add-offset
-    before-end-requires-2
+    less-requires-2
     add-at
     shared-slice-read-wide
     wide-requires

@@ -14,8 +14,8 @@ enum-known-read c = search needs
 enum-known-read-2 : tie.Need-enum-known-read-2
 enum-known-read-2 c = search needs
 
-take-requires : tie.Need-take-requires
-take-requires c κs = (c .before .before .before .before .before .before .before .pre, reads-whole _ _ _ _ _ (c .before .before .before .before .read-command .ensures) (c .before .before .read2 .given .1))
+admit-requires : tie.Need-admit-requires
+admit-requires c κs = (c .before .before .before .before .before .before .before .pre, reads-whole _ _ _ _ _ (c .before .before .before .before .read-command .ensures) (c .before .before .read2 .given .1))
 
 returns : tie.Need-returns
 returns c = λ past stands valid short. step-unread _ _ (c .before .before .before .before .before .before .pre .0) past _ (reads-refused _ _ _ _ (c .before .before .before .read-command .ensures) (c .before .read .given .1))
@@ -33,7 +33,7 @@ advance-spec =
     read-command-requires
     enum-known-read
     enum-known-read-2
-    take-requires
+    admit-requires
     returns
     same-length
     returns-2)

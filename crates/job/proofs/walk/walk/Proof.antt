@@ -4,6 +4,7 @@ use native.Mathlib.Omega.{arith}
 use lib.ListN.{length}
 use borrow.Author.Needs.{needs}
 use Rattle.model.proofs.Decoding.{decode-empty, decode-long}
+use Rattle.job.proofs.Judged.{refuses}
 use Rattle.job.proofs.Going.{Going, going-start, going-end, going-stop, going-on, steps-next, steps-stop}
 use Rattle.job.proofs.walk.walk.Statement.{statement}
 use Rattle.job.proofs.walk.walk.Tie as tie
@@ -21,13 +22,13 @@ same-length : tie.Need-same-length Inv-loop μ-loop
 same-length c = omega (arith, c .before .before .before .clear .kept .0)
 
 returns : tie.Need-returns Inv-loop μ-loop
-returns c = decode-empty _ (c .if1 .taken)
+returns c = refuses _ _ _ (decode-empty _ (c .if1 .taken))
 
 same-length-2 : tie.Need-same-length-2 Inv-loop μ-loop
 same-length-2 c = omega (arith, c .before .before .before .before .clear .kept .0)
 
 returns-2 : tie.Need-returns-2 Inv-loop μ-loop
-returns-2 c = decode-long _ (c .before .if1 .left) (c .if2 .taken)
+returns-2 c = refuses _ _ _ (decode-long _ (c .before .if1 .left) (c .if2 .taken))
 
 loop-holds : tie.Need-loop-holds Inv-loop μ-loop
 loop-holds c = (c .if2 .left, going-start _ _ (c .before .if1 .left) (c .if2 .left) (c .before .before .before .before .clear .ensures))
@@ -47,7 +48,7 @@ same-length-3 c =
 returns-3 : tie.Need-returns-3 Inv-loop μ-loop
 returns-3 c =
     let g = c .before .before .before .before .before .before .before .before .loop .inv .1 in
-    going-stop _ _ _ g (c .before .before .before .before .before .before .before .loop-test .taken) _ (steps-stop _ _ (g .past) _ _ _ (c .before .before .before .before .before .advance .ensures (g .past) (g .stands) (g .valid) (g .short)) (c .before .s .given .1))
+    going-stop _ _ _ g (c .before .before .before .before .before .before .before .loop-test .taken) _ _ (steps-stop _ _ (g .past) _ _ _ (c .before .before .before .before .before .advance .ensures (g .past) (g .stands) (g .valid) (g .short)) (c .before .s .given .1))
 
 enum-known-s-2 : tie.Need-enum-known-s-2 Inv-loop μ-loop
 enum-known-s-2 c = search needs
