@@ -181,3 +181,11 @@ fn files_of_the_program() {
     assert!(!corpus(&[folder, folder]).success());
     assert!(!corpus(&[&folder.join("no such folder")]).success());
 }
+
+#[test]
+fn stored() {
+    let folder = concat!(env!("CARGO_MANIFEST_DIR"), "/../crates/decoding/");
+    let jobs = jobs();
+    assert!(std::fs::read(folder.to_owned() + "stdin").unwrap() == records(&jobs));
+    assert_eq!(std::fs::read_to_string(folder.to_owned() + "stdout").unwrap(), lines(&jobs));
+}

@@ -12,7 +12,7 @@ pub fn several(number: u8) -> Vec<Job> {
         4 => [lower(), lower_past_a_count()].concat(),
         5 => past_a_count(),
         6 => undeclared(),
-        _ => vec![],
+        _ => unreachable!("no test behind {number} can fail at the same command"),
     }
 }
 
@@ -131,7 +131,8 @@ fn past_a_count() -> Vec<Job> {
     jobs
 }
 
-/// 6 before 7: undeclared and into another flow; several operands undeclared; unseen before every BODY.
+/// 6 before 7 and 8: undeclared and into another flow; several operands undeclared; unseen before every BODY; a
+/// second START, of an undeclared node.
 fn undeclared() -> Vec<Job> {
     small_and(&[
         &[WIRE, 0, 4, 2],
@@ -146,6 +147,7 @@ fn undeclared() -> Vec<Job> {
         &[PUT, 9],
         &[JUMP, 99],
         &[VAR, 3, 9, 0, 0, 0, 0],
+        &[START, 0, 1, 0, 0, 0, START, 9, 1, 0, 0, 0],
     ])
 }
 
