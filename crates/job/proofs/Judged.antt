@@ -1,11 +1,10 @@
 -- Verdicts: how each is reached, and what follows of it.
 use Prim.Native.Nat.{ℕ}
-use mathlib.Core.Path.{_≡_, refl, sym, _∙_}
+use mathlib.Core.Path.{_≡_, refl, sym}
 use mathlib.Core.List.{List}
-use mathlib.Core.Option.{Option, none, some}
 use native.Mathlib.Omega.{arith}
 use Rattle.model.specs.Command.{Command}
-use Rattle.model.specs.Refusal.{Refusal, Decoded, accepted, rejected, decode, decodeJob, farJump}
+use Rattle.model.specs.Refusal.{Decoded, accepted, rejected, decode, decodeJob, farJump}
 use Rattle.model.proofs.Results.{decode-job-rejected, decode-job-jump, decode-job-accepted}
 use Rattle.command.specs.declared.read.Refusal.{Refusal as Refused}
 use Rattle.command.specs.Reading.{refusalOf}
@@ -13,7 +12,7 @@ use Rattle.tables.specs.Cells.{blank}
 use Rattle.tables.specs.Stands.{Stands}
 use Rattle.job.specs.declared.Verdict.{Verdict}
 use Rattle.job.specs.declared.Verdict.the-variants as v
-use Rattle.job.specs.Decoding.{verdictOf, refusalIn, Verdicts, Decides}
+use Rattle.job.specs.Decoding.{verdictOf, Verdicts, Decides}
 
 -- a job that is accepted, and one that is refused
 pub accepts : (d : Decoded) (t : List ℕ) (all : List Command) → d ≡ accepted all → Stands t all → Verdicts d t v.Accepted

@@ -1,209 +1,151 @@
+-- `notes::note` meets its contract.
 use native.Mathlib.Omega.{arith}
-use Rattle.notes.proofs.Noting.{stands-noted}
 use borrow.Author.Needs.{needs}
+use Rattle.notes.proofs.Noting.{stands-noted}
 use Rattle.notes.proofs.note.Statement.{statement}
 use Rattle.notes.proofs.note.Tie as tie
-use Rattle.notes.proofs.note.Reads as reads
-use Rattle.notes.proofs.note.Lts as lts
-use Rattle.command.proofs.bytes.is_handler.Reads as is-handler-reads
-use Rattle.declared.proofs.count_of.Reads as count-of-reads
-use Rattle.declared.proofs.flow_of.Reads as flow-of-reads
-use Rattle.declared.proofs.length_of.Reads as length-of-reads
-use Rattle.declared.proofs.open_node.Reads as open-node-reads
-use Rattle.notes.proofs.bumped.Reads as bumped-reads
-use Rattle.notes.proofs.lowered.Reads as lowered-reads
-use Rattle.tables.proofs.cells.mark.Reads as mark-reads
-use Rattle.tables.proofs.cells.put.Reads as put-reads
 
--- src/lib.rt:41:17
 cast-first : tie.Need-cast-first
 cast-first c = search needs
 
--- src/lib.rt:42:18
 cast-second : tie.Need-cast-second
 cast-second c = search needs
 
--- src/lib.rt:43:17
 mul-wires : tie.Need-mul-wires
 mul-wires c = search needs
 
--- src/lib.rt:43:17
 add-wires : tie.Need-add-wires
 add-wires c = search needs
 
--- src/lib.rt:44:17
 cast-group : tie.Need-cast-group
 cast-group c = search needs
 
--- src/lib.rt:45:9
 count-of-requires : tie.Need-count-of-requires
 count-of-requires c κs = search needs
 
--- src/lib.rt:46:9
 count-of-requires-2 : tie.Need-count-of-requires-2
 count-of-requires-2 c κs = search needs
 
--- src/lib.rt:47:17
 count-of-requires-3 : tie.Need-count-of-requires-3
 count-of-requires-3 c κs = search needs
 
--- src/lib.rt:47:17
 cast-nodes : tie.Need-cast-nodes
 cast-nodes c = search needs
 
--- src/lib.rt:48:21
 count-of-requires-4 : tie.Need-count-of-requires-4
 count-of-requires-4 c κs = search needs
 
--- src/lib.rt:48:21
 cast-variables : tie.Need-cast-variables
 cast-variables c = search needs
 
--- src/lib.rt:49:21
 count-of-requires-5 : tie.Need-count-of-requires-5
 count-of-requires-5 c κs = search needs
 
--- src/lib.rt:49:21
 cast-functions : tie.Need-cast-functions
 cast-functions c = search needs
 
--- src/lib.rt:50:21
 count-of-requires-6 : tie.Need-count-of-requires-6
 count-of-requires-6 c κs = search needs
 
--- src/lib.rt:50:21
 cast-arguments : tie.Need-cast-arguments
 cast-arguments c = search needs
 
--- src/lib.rt:51:9
 open-node-requires : tie.Need-open-node-requires
 open-node-requires c κs = search needs
 
--- src/lib.rt:52:9
 length-of-requires : tie.Need-length-of-requires
 length-of-requires c κs = search needs
 
--- src/lib.rt:53:9
 flow-of-requires : tie.Need-flow-of-requires
 flow-of-requires c κs = search needs
 
--- src/lib.rt:54:9
 is-handler-requires : tie.Need-is-handler-requires
 is-handler-requires c κs = search needs
 
--- src/lib.rt:55:33
 cast-put : tie.Need-cast-put
 cast-put c = search needs
 
--- src/lib.rt:55:45
 bumped-requires : tie.Need-bumped-requires
 bumped-requires c κs = search needs
 
--- src/lib.rt:55:5
 put-requires : tie.Need-put-requires
 put-requires c κs = search needs
 
--- src/lib.rt:56:5
 put-requires-2 : tie.Need-put-requires-2
 put-requires-2 c κs = search needs
 
--- src/lib.rt:57:5
 put-requires-3 : tie.Need-put-requires-3
 put-requires-3 c κs = search needs
 
--- src/lib.rt:58:50
 lowered-requires : tie.Need-lowered-requires
 lowered-requires c κs = search needs
 
--- src/lib.rt:58:5
 put-requires-4 : tie.Need-put-requires-4
 put-requires-4 c κs = search needs
 
--- src/lib.rt:59:5
 put-requires-5 : tie.Need-put-requires-5
 put-requires-5 c κs = search needs
 
--- src/lib.rt:60:5
 put-requires-6 : tie.Need-put-requires-6
 put-requires-6 c κs = search needs
 
--- src/lib.rt:61:5
 put-requires-7 : tie.Need-put-requires-7
 put-requires-7 c κs = search needs
 
--- src/lib.rt:62:5
 put-requires-8 : tie.Need-put-requires-8
 put-requires-8 c κs = search needs
 
--- src/lib.rt:63:36
 cast-put-2 : tie.Need-cast-put-2
 cast-put-2 c = search needs
 
--- src/lib.rt:63:55
 bumped-requires-2 : tie.Need-bumped-requires-2
 bumped-requires-2 c κs = search needs
 
--- src/lib.rt:63:5
 put-requires-9 : tie.Need-put-requires-9
 put-requires-9 c κs = search needs
 
--- src/lib.rt:64:5
 put-requires-10 : tie.Need-put-requires-10
 put-requires-10 c κs = search needs
 
--- src/lib.rt:65:47
 cast-put-3 : tie.Need-cast-put-3
 cast-put-3 c = search needs
 
--- src/lib.rt:65:5
 put-requires-11 : tie.Need-put-requires-11
 put-requires-11 c κs = search needs
 
--- src/lib.rt:66:5
 put-requires-12 : tie.Need-put-requires-12
 put-requires-12 c κs = search needs
 
--- src/lib.rt:67:5
 put-requires-13 : tie.Need-put-requires-13
 put-requires-13 c κs = search needs
 
--- src/lib.rt:68:5
 put-requires-14 : tie.Need-put-requires-14
 put-requires-14 c κs = search needs
 
--- src/lib.rt:69:5
 put-requires-15 : tie.Need-put-requires-15
 put-requires-15 c κs = search needs
 
--- src/lib.rt:70:5
 put-requires-16 : tie.Need-put-requires-16
 put-requires-16 c κs = search needs
 
--- src/lib.rt:71:5
 mark-requires : tie.Need-mark-requires
 mark-requires c κs = search needs
 
--- src/lib.rt:72:5
 mark-requires-2 : tie.Need-mark-requires-2
 mark-requires-2 c κs = search needs
 
--- src/lib.rt:73:5
 mark-requires-3 : tie.Need-mark-requires-3
 mark-requires-3 c κs = search needs
 
--- src/lib.rt:74:52
 cast-mark : tie.Need-cast-mark
 cast-mark c = search needs
 
--- src/lib.rt:74:5
 mark-requires-4 : tie.Need-mark-requires-4
 mark-requires-4 c κs = search needs
 
--- src/lib.rt:37:1
 same-length : tie.Need-same-length
 same-length c = omega (arith, c .before .before .mark4 .kept .0, c .before .before .before .before .before .before .before .mark3 .kept .0, c .before .before .before .before .before .before .before .before .before .before .before .mark2 .kept .0, c .before .before .before .before .before .before .before .before .before .before .before .before .before .before .before .mark .kept .0, c .before .before .before .before .before .before .before .before .before .before .before .before .before .before .before .before .before .before .before .put16 .kept .0, c .before .before .before .before .before .before .before .before .before .before .before .before .before .before .before .before .before .before .before .before .before .before .before .put15 .kept .0, c .before .before .before .before .before .before .before .before .before .before .before .before .before .before .before .before .before .before .before .before .before .before .before .before .before .before .before .put14 .kept .0, c .before .before .before .before .before .before .before .before .before .before .before .before .before .before .before .before .before .before .before .before .before .before .before .before .before .before .before .before .before .before .before .put13 .kept .0, c .before .before .before .before .before .before .before .before .before .before .before .before .before .before .before .before .before .before .before .before .before .before .before .before .before .before .before .before .before .before .before .before .before .before .before .put12 .kept .0, c .before .before .before .before .before .before .before .before .before .before .before .before .before .before .before .before .before .before .before .before .before .before .before .before .before .before .before .before .before .before .before .before .before .before .before .before .before .before .before .put11 .kept .0, c .before .before .before .before .before .before .before .before .before .before .before .before .before .before .before .before .before .before .before .before .before .before .before .before .before .before .before .before .before .before .before .before .before .before .before .before .before .before .before .before .before .before .before .before .put10 .kept .0, c .before .before .before .before .before .before .before .before .before .before .before .before .before .before .before .before .before .before .before .before .before .before .before .before .before .before .before .before .before .before .before .before .before .before .before .before .before .before .before .before .before .before .before .before .before .before .before .before .put9 .kept .0, c .before .before .before .before .before .before .before .before .before .before .before .before .before .before .before .before .before .before .before .before .before .before .before .before .before .before .before .before .before .before .before .before .before .before .before .before .before .before .before .before .before .before .before .before .before .before .before .before .before .before .before .before .before .before .put8 .kept .0, c .before .before .before .before .before .before .before .before .before .before .before .before .before .before .before .before .before .before .before .before .before .before .before .before .before .before .before .before .before .before .before .before .before .before .before .before .before .before .before .before .before .before .before .before .before .before .before .before .before .before .before .before .before .before .before .before .before .before .put7 .kept .0, c .before .before .before .before .before .before .before .before .before .before .before .before .before .before .before .before .before .before .before .before .before .before .before .before .before .before .before .before .before .before .before .before .before .before .before .before .before .before .before .before .before .before .before .before .before .before .before .before .before .before .before .before .before .before .before .before .before .before .before .before .before .before .put6 .kept .0, c .before .before .before .before .before .before .before .before .before .before .before .before .before .before .before .before .before .before .before .before .before .before .before .before .before .before .before .before .before .before .before .before .before .before .before .before .before .before .before .before .before .before .before .before .before .before .before .before .before .before .before .before .before .before .before .before .before .before .before .before .before .before .before .before .before .before .put5 .kept .0, c .before .before .before .before .before .before .before .before .before .before .before .before .before .before .before .before .before .before .before .before .before .before .before .before .before .before .before .before .before .before .before .before .before .before .before .before .before .before .before .before .before .before .before .before .before .before .before .before .before .before .before .before .before .before .before .before .before .before .before .before .before .before .before .before .before .before .before .before .before .before .put4 .kept .0, c .before .before .before .before .before .before .before .before .before .before .before .before .before .before .before .before .before .before .before .before .before .before .before .before .before .before .before .before .before .before .before .before .before .before .before .before .before .before .before .before .before .before .before .before .before .before .before .before .before .before .before .before .before .before .before .before .before .before .before .before .before .before .before .before .before .before .before .before .before .before .before .before .before .before .before .put3 .kept .0, c .before .before .before .before .before .before .before .before .before .before .before .before .before .before .before .before .before .before .before .before .before .before .before .before .before .before .before .before .before .before .before .before .before .before .before .before .before .before .before .before .before .before .before .before .before .before .before .before .before .before .before .before .before .before .before .before .before .before .before .before .before .before .before .before .before .before .before .before .before .before .before .before .before .before .before .before .before .before .before .put2 .kept .0, c .before .before .before .before .before .before .before .before .before .before .before .before .before .before .before .before .before .before .before .before .before .before .before .before .before .before .before .before .before .before .before .before .before .before .before .before .before .before .before .before .before .before .before .before .before .before .before .before .before .before .before .before .before .before .before .before .before .before .before .before .before .before .before .before .before .before .before .before .before .before .before .before .before .before .before .before .before .before .before .before .before .before .before .put .kept .0)
 
--- src/lib.rt:37:1
 returns : tie.Need-returns
 returns c =
     λ past g s v l.

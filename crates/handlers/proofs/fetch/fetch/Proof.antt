@@ -1,49 +1,36 @@
+-- `handlers::fetch::fetch` meets its contract.
 use mathlib.Core.Path.{refl}
 use mathlib.Core.Logic.{inl}
 use native.Mathlib.Omega.{arith}
-use Rattle.handlers.proofs.Fetched.{no-node, no-position, no-room, made}
 use borrow.Author.Needs.{needs}
+use Rattle.handlers.proofs.Fetched.{no-node, no-position, no-room, made}
 use Rattle.handlers.proofs.fetch.fetch.Statement.{statement}
 use Rattle.handlers.proofs.fetch.fetch.Tie as tie
-use Rattle.handlers.proofs.fetch.fetch.Reads as reads
-use Rattle.handlers.proofs.fetch.fetch.Lts as lts
-use Rattle.command.proofs.instruction.instruction_of.Reads as instruction-of-reads
-use Rattle.command.proofs.read.operand.Reads as operand-reads
-use Rattle.handlers.proofs.slot_of.Reads as slot-of-reads
 
--- src/fetch.rt:16:9
 returns : tie.Need-returns
 returns c = no-node (c .before .before .before .args .work .now) (c .before .before .before .args .n .0) (c .before .before .before .args .position) (c .if1 .taken)
 
--- src/fetch.rt:19:9
 returns-2 : tie.Need-returns-2
 returns-2 c = no-position (c .before .before .before .before .args .work .now) (c .before .before .before .before .args .n .0) (c .before .before .before .before .args .position) (c .before .if1 .left) (c .if2 .taken)
 
--- src/fetch.rt:22:9
 returns-3 : tie.Need-returns-3
 returns-3 c = no-room (c .before .before .before .before .before .args .work .now) (c .before .before .before .before .before .args .n .0) (c .before .before .before .before .before .args .position) (c .before .before .if1 .left) (c .before .if2 .left) (c .if3 .taken)
 
--- src/fetch.rt:24:9
 slot-of-requires : tie.Need-slot-of-requires
 slot-of-requires c κs = search needs
 
--- src/fetch.rt:25:16
 shared-slice-read-byte : tie.Need-shared-slice-read-byte
 shared-slice-read-byte c = search needs
 
--- src/fetch.rt:26:27
 add-operand : tie.Need-add-operand
 add-operand c = search needs
 
--- src/fetch.rt:26:9
 operand-requires : tie.Need-operand-requires
 operand-requires c κs = (omega (arith, c .before .slot-of .ensures, c .before .before .if3 .left, c .before .before .before .if2 .left, c .before .before .before .before .if1 .left), inl refl)
 
--- src/fetch.rt:27:5
 instruction-of-requires : tie.Need-instruction-of-requires
 instruction-of-requires c κs = search needs
 
--- src/fetch.rt:12:1
 returns-4 : tie.Need-returns-4
 returns-4 c =
     made (c .before .before .before .before .before .before .before .before .before .args .work .now) (c .before .before .before .before .before .before .before .before .before .args .n .0) (c .before .before .before .before .before .before .before .before .before .args .position) _ _ _ (c .before .before .before .before .before .before .if1 .left) (c .before .before .before .before .before .if2 .left) (c .before .before .before .before .if3 .left) (c .before .before .before .slot-of .ensures) (c .before .operand .ensures) (c .instruction-of .ensures)

@@ -1,34 +1,24 @@
+-- `handlers::load::keep` meets its contract.
 use mathlib.Core.Path.{sym, _∙_}
 use borrow.Author.Needs.{needs}
 use Rattle.handlers.proofs.load.keep.Statement.{statement}
 use Rattle.handlers.proofs.load.keep.Tie as tie
-use Rattle.handlers.proofs.load.keep.Reads as reads
-use Rattle.handlers.proofs.load.keep.Lts as lts
-use Rattle.command.proofs.bytes.is_handler.Reads as is-handler-reads
-use Rattle.handlers.proofs.load.store.Reads as store-reads
-use Rattle.handlers.proofs.slot_of.Reads as slot-of-reads
 
--- src/load.rt:45:8
 is-handler-requires : tie.Need-is-handler-requires
 is-handler-requires c κs = search needs
 
--- src/load.rt:46:21
 slot-of-requires : tie.Need-slot-of-requires
 slot-of-requires c κs = search needs
 
--- src/load.rt:46:9
 store-requires : tie.Need-store-requires
 store-requires c κs = search needs
 
--- src/load.rt:41:1
 same-length : tie.Need-same-length
 same-length c = search needs
 
--- src/load.rt:41:1
 returns : tie.Need-returns
 returns c = rw (sym (c .before .before .before .before .before .before .is-handler .ensures) ∙ c .before .before .before .before .before .if1 .taken, c .before .before .store .ensures, c .before .before .before .slot-of .ensures)
 
--- src/load.rt:41:1
 returns-2 : tie.Need-returns-2
 returns-2 c = rw (sym (c .before .is-handler .ensures) ∙ c .if1 .left)
 

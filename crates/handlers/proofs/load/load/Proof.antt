@@ -1,3 +1,4 @@
+-- `handlers::load::load` meets its contract.
 use Prim.Native.Nat.{_-_}
 use mathlib.Core.Path.{ap}
 use native.Mathlib.Omega.{arith}
@@ -11,12 +12,6 @@ use Rattle.handlers.proofs.Slots.{length-loaded}
 use Rattle.handlers.proofs.Keeping.{accepted-is, Keeping, keeping-start, keeping-end, keeping-open, keeping-position, keeping-reads, keeping-on}
 use Rattle.handlers.proofs.load.load.Statement.{statement}
 use Rattle.handlers.proofs.load.load.Tie as tie
-use Rattle.handlers.proofs.load.load.Reads as reads
-use Rattle.handlers.proofs.load.load.Lts as lts
-use Rattle.command.proofs.read.open_after.Reads as open-after-reads
-use Rattle.command.proofs.read.read_command.Reads as read-command-reads
-use Rattle.handlers.proofs.load.index_after.Reads as index-after-reads
-use Rattle.handlers.proofs.load.keep.Reads as keep-reads
 
 abbrev Inv-loop : tie.InvT-loop
 Inv-loop job work₀ at₀ opened₀ index₀ work at opened index = Keeping job (commandsOf (decodeJob job)) work₀ work at (opened .0) index
@@ -24,60 +19,47 @@ Inv-loop job work₀ at₀ opened₀ index₀ work at opened index = Keeping job
 abbrev μ-loop : tie.MeasureT-loop
 μ-loop job work₀ at₀ opened₀ index₀ work at opened index = length job - at
 
--- src/load.rt:72:5
 loop-holds : tie.Need-loop-holds Inv-loop μ-loop
 loop-holds c = keeping-start _ _ _ (accepted-is _ (c .before .before .pre))
 
--- src/load.rt:73:13
 read-command-requires : tie.Need-read-command-requires Inv-loop μ-loop
 read-command-requires c κs = c .loop-test .taken
 
--- src/load.rt:74:27
 enum-known-read : tie.Need-enum-known-read Inv-loop μ-loop
 enum-known-read c = search needs
 
--- src/load.rt:75:13
 enum-told : tie.Need-enum-told Inv-loop μ-loop
 enum-told c = search needs
 
--- src/load.rt:75:13
 same-length : tie.Need-same-length Inv-loop μ-loop
 same-length c = let k = c .before .before .before .before .loop .inv in omega (arith, ap length (k .same), length-loaded (c .before .before .before .before .before .before .before .args .work .now) (k .past))
 
--- src/load.rt:75:13
 returns : tie.Need-returns Inv-loop μ-loop
 returns c = keeping-reads _ _ _ _ _ _ _ (c .before .before .before .before .loop .inv) (c .before .before .before .loop-test .taken) _ (reads-refused _ _ _ _ (c .before .before .read-command .ensures) (c .enum-told .given .1))
 
--- src/load.rt:77:9
 keep-requires : tie.Need-keep-requires Inv-loop μ-loop
 keep-requires c κs = (keeping-open _ _ _ _ _ _ _ (c .before .before .before .before .before .before .loop .inv), keeping-position _ _ _ _ _ _ _ (c .before .before .before .before .before .before .loop .inv))
 
--- src/load.rt:78:9
 index-after-requires : tie.Need-index-after-requires Inv-loop μ-loop
 index-after-requires c κs = omega (arith, keeping-position _ _ _ _ _ _ _ (c .before .before .before .before .before .before .before .before .before .loop .inv))
 
--- src/load.rt:79:9
 open-after-requires : tie.Need-open-after-requires Inv-loop μ-loop
 open-after-requires c κs = search needs
 
--- src/load.rt:72:5
 loop-less : tie.Need-loop-less Inv-loop μ-loop
 loop-less c =
     let r = reads-whole _ _ _ (c .before .before .before .before .before .before .before .read .given .0 .0) _ (c .before .before .before .before .before .before .before .before .before .read-command .ensures) (c .before .before .before .before .before .before .before .read .given .1) in
     omega (arith, read-at _ _ _ _ (r .0) .later, c .before .before .before .before .before .before .before .before .before .before .loop-test .taken)
 
--- src/load.rt:72:5
 loop-again : tie.Need-loop-again Inv-loop μ-loop
 loop-again c =
     let d = c .before .before .before .before .before .before .before .read .given .0 .0 in
     let r = reads-whole _ _ _ d _ (c .before .before .before .before .before .before .before .before .before .read-command .ensures) (c .before .before .before .before .before .before .before .read .given .1) in
     keeping-on _ _ _ _ _ _ _ (c .before .before .before .before .before .before .before .before .before .before .before .loop .inv) (c .before .before .before .before .before .before .before .before .before .before .loop-test .taken) d _ (r .0) _ _ _ (c .before .before .before .before .keep .ensures) (c .before .index-after .ensures) (c .open-after .ensures)
 
--- src/load.rt:65:1
 same-length-2 : tie.Need-same-length-2 Inv-loop μ-loop
 same-length-2 c = let k = c .before .loop .inv in omega (arith, ap length (k .same), length-loaded (c .before .before .before .before .args .work .now) (k .past))
 
--- src/load.rt:65:1
 returns-2 : tie.Need-returns-2 Inv-loop μ-loop
 returns-2 c = keeping-end _ _ _ _ _ _ _ (c .before .loop .inv) (c .loop-test .left)
 

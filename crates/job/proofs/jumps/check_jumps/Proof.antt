@@ -1,3 +1,4 @@
+-- `job::jumps::check_jumps` meets its contract.
 use Prim.Native.Nat.{_-_}
 use mathlib.Core.Path.{_≡_, sym}
 use mathlib.Core.List.{List}
@@ -12,12 +13,6 @@ use Rattle.tables.specs.Stands.{Stands}
 use Rattle.job.proofs.Looking.{Looking, looking-start, looking-end, looking-reads, looking-found, looking-on}
 use Rattle.job.proofs.jumps.check_jumps.Statement.{statement}
 use Rattle.job.proofs.jumps.check_jumps.Tie as tie
-use Rattle.job.proofs.jumps.check_jumps.Reads as reads
-use Rattle.job.proofs.jumps.check_jumps.Lts as lts
-use Rattle.command.proofs.read.open_after.Reads as open-after-reads
-use Rattle.command.proofs.read.read_command.Reads as read-command-reads
-use Rattle.declared.proofs.length_of.Reads as length-of-reads
-use Rattle.job.proofs.jumps.is_far.Reads as is-far-reads
 
 abbrev Inv-loop : tie.InvT-loop
 Inv-loop job t at₀ opened₀ at opened = (all : List Command) → decode job ≡ accepted all → Stands t all → Looking job all at (opened .0)
@@ -25,35 +20,27 @@ Inv-loop job t at₀ opened₀ at opened = (all : List Command) → decode job �
 abbrev μ-loop : tie.MeasureT-loop
 μ-loop job t at₀ opened₀ at opened = length job - at
 
--- src/jumps.rt:34:5
 loop-holds : tie.Need-loop-holds Inv-loop μ-loop
 loop-holds c = λ all e stands. looking-start _ all e
 
--- src/jumps.rt:35:13
 read-command-requires : tie.Need-read-command-requires Inv-loop μ-loop
 read-command-requires c κs = search needs
 
--- src/jumps.rt:37:29
 enum-known-read : tie.Need-enum-known-read Inv-loop μ-loop
 enum-known-read c = search needs
 
--- src/jumps.rt:38:17
 returns : tie.Need-returns Inv-loop μ-loop
 returns c = λ all e stands. looking-reads _ all _ _ (c .before .before .before .before .before .loop .inv all e stands) (c .before .before .before .before .loop-test .taken) _ (reads-refused _ _ _ _ (c .before .before .before .read-command .ensures) (c .before .read .given .1))
 
--- src/jumps.rt:40:27
 enum-known-read-2 : tie.Need-enum-known-read-2 Inv-loop μ-loop
 enum-known-read-2 c = search needs
 
--- src/jumps.rt:41:21
 length-of-requires : tie.Need-length-of-requires Inv-loop μ-loop
 length-of-requires c κs = search needs
 
--- src/jumps.rt:42:20
 is-far-requires : tie.Need-is-far-requires Inv-loop μ-loop
 is-far-requires c κs = search needs
 
--- src/jumps.rt:43:21
 returns-2 : tie.Need-returns-2 Inv-loop μ-loop
 returns-2 c =
     λ all e stands.
@@ -61,17 +48,14 @@ returns-2 c =
     let r = reads-whole _ _ _ d _ (c .before .before .before .before .before .before .read-command .ensures) (c .before .before .before .before .read2 .given .1) in
     sym (looking-found _ all _ _ (c .before .before .before .before .before .before .before .before .loop .inv all e stands) _ stands (c .before .before .before .before .before .before .before .loop-test .taken) d _ _ _ (r .0) (c .before .before .length-of .ensures) (c .before .is-far .ensures) (c .if1 .taken))
 
--- src/jumps.rt:48:17
 open-after-requires : tie.Need-open-after-requires Inv-loop μ-loop
 open-after-requires c κs = search needs
 
--- src/jumps.rt:34:5
 loop-less : tie.Need-loop-less Inv-loop μ-loop
 loop-less c =
     let r = reads-whole _ _ _ (c .before .before .before .before .before .read2 .given .0 .0) _ (c .before .before .before .before .before .before .before .read-command .ensures) (c .before .before .before .before .before .read2 .given .1) in
     omega (arith, read-at _ _ _ _ (r .0) .later, c .before .before .before .before .before .before .before .before .loop-test .taken)
 
--- src/jumps.rt:34:5
 loop-again : tie.Need-loop-again Inv-loop μ-loop
 loop-again c =
     let d = c .before .before .before .before .before .read2 .given .0 .0 in
@@ -79,7 +63,6 @@ loop-again c =
     λ all e stands.
     looking-on _ all _ _ (c .before .before .before .before .before .before .before .before .before .loop .inv all e stands) _ stands (c .before .before .before .before .before .before .before .before .loop-test .taken) d _ _ _ (r .0) (c .before .before .before .length-of .ensures) (c .before .before .is-far .ensures) (c .before .if1 .left) _ (c .open-after .ensures)
 
--- src/jumps.rt:29:1
 returns-3 : tie.Need-returns-3 Inv-loop μ-loop
 returns-3 c = λ all e stands. sym (looking-end _ all _ _ (c .before .loop .inv all e stands) (c .loop-test .left))
 

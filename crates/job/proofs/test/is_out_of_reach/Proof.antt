@@ -1,64 +1,45 @@
+-- `job::test::is_out_of_reach` meets its contract.
 use mathlib.Core.Path.{refl}
-use Rattle.job.proofs.Judging.{wire-reach, use-reach, access-reach, other-reach}
 use borrow.Author.Needs.{needs}
+use Rattle.job.proofs.Judging.{wire-reach, use-reach, access-reach, other-reach}
 use Rattle.job.proofs.test.is_out_of_reach.Statement.{statement}
 use Rattle.job.proofs.test.is_out_of_reach.Tie as tie
-use Rattle.job.proofs.test.is_out_of_reach.Reads as reads
-use Rattle.job.proofs.test.is_out_of_reach.Lts as lts
-use Rattle.declared.proofs.flow_of.Reads as flow-of-reads
-use Rattle.declared.proofs.is_shared.Reads as is-shared-reads
-use Rattle.declared.proofs.open_node.Reads as open-node-reads
-use Rattle.declared.proofs.sees.Reads as sees-reads
-use Rattle.job.proofs.test.is_access.Reads as is-access-reads
-use Rattle.job.proofs.test.uses_variable.Reads as uses-variable-reads
 
--- src/test.rt:115:13
 flow-of-requires : tie.Need-flow-of-requires
 flow-of-requires c κs = search needs
 
--- src/test.rt:116:13
 flow-of-requires-2 : tie.Need-flow-of-requires-2
 flow-of-requires-2 c κs = search needs
 
--- src/test.rt:117:9
 returns : tie.Need-returns
 returns c = λ past s. wire-reach _ (c .before .before .before .before .before .before .before .args .c) past s _ _ _ (c .before .before .before .before .if1 .taken) (c .before .before .before .flow-of .ensures) (c .before .before .flow-of2 .ensures) refl
 
--- src/test.rt:119:8
 uses-variable-requires : tie.Need-uses-variable-requires
 uses-variable-requires c κs = search needs
 
--- src/test.rt:120:13
 open-node-requires : tie.Need-open-node-requires
 open-node-requires c κs = search needs
 
--- src/test.rt:121:13
 sees-requires : tie.Need-sees-requires
 sees-requires c κs = search needs
 
--- src/test.rt:122:9
 returns-2 : tie.Need-returns-2
 returns-2 c = λ past s. use-reach _ (c .before .before .before .before .before .before .before .args .c) past s (c .before .before .before .before .if1 .left) _ (c .before .before .before .uses-variable .ensures) (c .before .before .if2 .taken) _ _ _ (c .before .open-node .ensures) (c .sees .ensures) refl
 
--- src/test.rt:124:8
 is-access-requires : tie.Need-is-access-requires
 is-access-requires c κs = search needs
 
--- src/test.rt:125:13
 sees-requires-2 : tie.Need-sees-requires-2
 sees-requires-2 c κs = search needs
 
--- src/test.rt:126:13
 is-shared-requires : tie.Need-is-shared-requires
 is-shared-requires c κs = search needs
 
--- src/test.rt:127:9
 returns-3 : tie.Need-returns-3
 returns-3 c =
     λ past s.
     access-reach _ (c .before .before .before .before .before .before .before .before .before .args .c) past s (c .before .before .before .before .before .before .if1 .left) _ (c .before .before .before .before .before .uses-variable .ensures) (c .before .before .before .before .if2 .left) _ (c .before .before .before .is-access .ensures) (c .before .before .if3 .taken) _ _ _ (c .before .sees2 .ensures) (c .is-shared .ensures) refl
 
--- src/test.rt:111:1
 returns-4 : tie.Need-returns-4
 returns-4 c = λ past s. other-reach _ (c .before .before .before .before .before .before .before .args .c) past s (c .before .before .before .before .if1 .left) _ (c .before .before .before .uses-variable .ensures) (c .before .before .if2 .left) _ (c .before .is-access .ensures) (c .if3 .left)
 
