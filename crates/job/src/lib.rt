@@ -7,6 +7,7 @@ mod walk;
 ghost use mathlib.Core.Path.{_≡_};
 ghost use lib.ListN.{length};
 ghost use Rattle.model.specs.Refusal.{decodeJob};
+ghost use Rattle.tables.specs.Cells.{cellCount};
 ghost use Rattle.job.specs.Decoding.{Verdicts, Decides};
 use command::read::Refusal;
 use jumps::check_jumps;
@@ -22,7 +23,7 @@ pub enum Verdict {
 
 // The tests 1 to 9: the verdict, and the tables of an accepted job.
 fn judge(job: &[u8], t: &mut [u32]) -> Verdict
-    requires { ⌜ length (now t) ≡ 15936 ⌝ }
+    requires { ⌜ length (now t) ≡ cellCount ⌝ }
     ensures { λ r. ⌜ Verdicts (decodeJob (now (job .entry))) (now (t .exit)) r ⌝ }
 {
     let walked = walk(job, t);

@@ -8,6 +8,7 @@ ghost use Rattle.model.specs.Refusal.{decode};
 ghost use Rattle.model.specs.Valid.{Valid};
 ghost use Rattle.command.specs.Reading.{commandOf, Known};
 ghost use Rattle.tables.specs.Stands.{Stands};
+ghost use Rattle.tables.specs.Cells.{cellCount};
 ghost use Rattle.job.specs.Decoding.{Steps, Verdicts};
 use crate::Verdict;
 use crate::test::violation_of;
@@ -52,7 +53,7 @@ fn advance(job: &[u8], at: usize, t: &mut [u32]) -> Step
 
 // The tests 1 to 8: the verdict, and the tables of an accepted job.
 pub(crate) fn walk(job: &[u8], t: &mut [u32]) -> Verdict
-    requires { ⌜ length (now t) ≡ 15936 ⌝ }
+    requires { ⌜ length (now t) ≡ cellCount ⌝ }
     ensures { λ r. ⌜ Verdicts (decode (now (job .entry))) (now (t .exit)) r ⌝ }
 {
     clear(t);

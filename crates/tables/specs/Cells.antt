@@ -6,6 +6,10 @@ use lib.Dec.{ltb, eqb}
 use lib.ListN.{getD, set, replicate}
 use Rattle.tables.specs.declared.cells.Section.{Section}
 
+-- how many cells there are
+abbrev pub cellCount : ℕ
+cellCount = 15936
+
 -- the section with this first cell and this many cells
 abbrev pub section : ℕ → ℕ → Section
 section base size = record { 0 = base; 1 = size }
@@ -32,4 +36,4 @@ markAt t on s r x = putIn t (on && (ltb r 128 && ltb x 64)) s (r * 64 + x) 1
 
 -- cells of which none is noted
 unfoldable pub blank : List ℕ
-blank = replicate 15936 0
+blank = replicate cellCount 0

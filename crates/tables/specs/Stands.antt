@@ -1,4 +1,5 @@
--- The tables stand for the commands read so far: every cell's name has the value that the model gives it, also where nothing is declared.
+-- The tables stand for the commands read so far: each name in `Tables` has the value that the model gives it, also where nothing is declared.
+-- What this leaves open of the cells: docs/DECISIONS.md.
 use Prim.Native.Nat.{ℕ, _<_}
 use mathlib.Core.Path.{_≡_}
 use mathlib.Core.List.{List}
@@ -8,10 +9,11 @@ use Rattle.model.specs.Table.{WIRE, ANY, ARG, READ, WRITE, BODY, groupOf}
 use Rattle.model.specs.Command.{Command, ternary, binary}
 use Rattle.model.specs.Declared.{countOf, occurs, flowOf, scopeOf, ownerOf, startOf, answerOf, openBody, bodyLength, startsOf, startedIn}
 use Rattle.model.specs.Refusal.{groupFalls}
+use Rattle.tables.specs.Cells.{cellCount}
 use Rattle.tables.specs.Tables.{countIn, groupIn, openIn, flowIn, scopeIn, ownerIn, startIn, answerIn, lengthIn, bodyIn, startedAt, firstsIn, wiredIn, readIn, writeIn, anyIn, listedIn}
 
 pub record Stands (t : List ℕ) (past : List Command) : Type 0 where
-  pub size : length t ≡ 15936
+  pub size : length t ≡ cellCount
   pub counts : (b : ℕ) → b < 128 → countIn t b ≡ countOf b past
   pub group : (c : Command) → groupFalls past c ≡ ltb (groupOf (c .byte)) (groupIn t)
   pub opened : openIn t ≡ openBody past

@@ -2,7 +2,7 @@
 ghost use mathlib.Core.Path.{_≡_};
 ghost use Prim.Native.Nat.{_+_, _≤_};
 ghost use lib.ListN.{length};
-ghost use Rattle.tables.specs.Cells.{entryIn, putIn, markIn, gridIn, markAt, blank};
+ghost use Rattle.tables.specs.Cells.{cellCount, entryIn, putIn, markIn, gridIn, markAt, blank};
 
 pub const CELLS: usize = 15936;
 
@@ -50,7 +50,7 @@ pub const WIRES: Section = Section(7744, 8192);
 
 // Cell i of a section.
 pub fn entry(t: &[u32], s: Section, i: usize) -> u32
-    requires { ⌜ s .0 + s .1 ≤ 15936 ⌝ }
+    requires { ⌜ s .0 + s .1 ≤ cellCount ⌝ }
     ensures { λ r. ⌜ r ≡ entryIn (now (t .entry)) s i ⌝ }
 {
     let base = s.0;
@@ -66,7 +66,7 @@ pub fn entry(t: &[u32], s: Section, i: usize) -> u32
 
 // Sets cell i of a section, if on.
 pub fn put(t: &mut [u32], on: bool, s: Section, i: usize, x: u32)
-    requires { ⌜ s .0 + s .1 ≤ 15936 ⌝ }
+    requires { ⌜ s .0 + s .1 ≤ cellCount ⌝ }
     ensures { λ _. ⌜ now (t .exit) ≡ putIn (now (t .entry)) on s i x ⌝ }
 {
     let base = s.0;
@@ -83,7 +83,7 @@ pub fn put(t: &mut [u32], on: bool, s: Section, i: usize, x: u32)
 
 // Whether cell i of a section is marked.
 pub fn flagged(t: &[u32], s: Section, i: usize) -> bool
-    requires { ⌜ s .0 + s .1 ≤ 15936 ⌝ }
+    requires { ⌜ s .0 + s .1 ≤ cellCount ⌝ }
     ensures { λ r. ⌜ r ≡ markIn (now (t .entry)) s i ⌝ }
 {
     let x = entry(t, s, i);
@@ -92,7 +92,7 @@ pub fn flagged(t: &[u32], s: Section, i: usize) -> bool
 
 // Whether a cell of a section with 64 cells a row is marked.
 pub fn marked(t: &[u32], s: Section, row: usize, column: usize) -> bool
-    requires { ⌜ s .0 + s .1 ≤ 15936 ⌝ }
+    requires { ⌜ s .0 + s .1 ≤ cellCount ⌝ }
     ensures { λ r. ⌜ r ≡ gridIn (now (t .entry)) s row column ⌝ }
 {
     if row < 128 {
@@ -105,7 +105,7 @@ pub fn marked(t: &[u32], s: Section, row: usize, column: usize) -> bool
 
 // Marks a cell of such a section, if on.
 pub fn mark(t: &mut [u32], on: bool, s: Section, row: usize, column: usize)
-    requires { ⌜ s .0 + s .1 ≤ 15936 ⌝ }
+    requires { ⌜ s .0 + s .1 ≤ cellCount ⌝ }
     ensures { λ _. ⌜ now (t .exit) ≡ markAt (now (t .entry)) on s row column ⌝ }
 {
     if row < 128 {
@@ -117,7 +117,7 @@ pub fn mark(t: &mut [u32], on: bool, s: Section, row: usize, column: usize)
 
 // Makes every cell 0.
 pub fn clear(t: &mut [u32])
-    requires { ⌜ length (now t) ≡ 15936 ⌝ }
+    requires { ⌜ length (now t) ≡ cellCount ⌝ }
     ensures { λ _. ⌜ now (t .exit) ≡ blank ⌝ }
 {
     let mut i = 0;
