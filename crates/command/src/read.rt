@@ -75,22 +75,19 @@ pub fn read_command(job: &[u8], at: usize) -> Parsed
         });
     };
     let shape = row_at(row);
-    let w1 = shape.2;
-    let w2 = shape.3;
-    let w3 = shape.4;
     let first_at = at + 1;
-    let second_at = first_at + (w1 as usize);
-    let third_at = second_at + (w2 as usize);
-    let end = third_at + (w3 as usize);
+    let second_at = first_at + (shape.2 as usize);
+    let third_at = second_at + (shape.3 as usize);
+    let end = third_at + (shape.4 as usize);
     if job.len() < end {
         return Parsed::Refused(Refusal {
             number: 3,
             place: at,
         });
     }
-    let first = operand(job, first_at, w1);
-    let second = operand(job, second_at, w2);
-    let third = operand(job, third_at, w3);
+    let first = operand(job, first_at, shape.2);
+    let second = operand(job, second_at, shape.3);
+    let third = operand(job, third_at, shape.4);
     let command = Command {
         place: at,
         row,
