@@ -5,7 +5,7 @@ use mathlib.Core.List.{List, [], _∷_, map}
 use mathlib.Core.Logic.{inl, inr}
 use mathlib.Core.Option.{Option}
 use native.Mathlib.Omega.{arith}
-use lib.ListN.{length, getD}
+use lib.ListN.{length, getD, List·getD-map}
 use Rattle.model.specs.Table.{OperandKind, scope, owner, start, answer, node, port, target, function, value, variable, jump, absent, width, Row, row, table, operandAt, groupOf, Limit, isAmong, largestIn, largestOf}
 use Rattle.model.specs.Command.{numberAt}
 use Rattle.model.proofs.Reading.{number-none}
@@ -74,12 +74,6 @@ same : map given shapes ≡ map wanted table
 unfolding isAmong largestIn largestOf
 same = refl
 
--- element i of a list that was mapped
-getD-map : {A B : Type 0} (f : A → B) (l : List A) (i : ℕ) (d : A) → getD (map f l) i (f d) ≡ f (getD l i d)
-getD-map f [] i d = refl
-getD-map f (a ∷ l) zero d = refl
-getD-map f (a ∷ l) (suc i) d = getD-map f l i d
-
 -- another default changes nothing inside the list
 getD-default : {A : Type 0} (l : List A) (i : ℕ) (d e : A) → i < length l → getD l i d ≡ getD l i e
 getD-default [] i d e h = absurd (omega arith)
@@ -88,10 +82,10 @@ getD-default (a ∷ l) (suc i) d e h = getD-default l i d e (omega arith)
 
 shaped : (i : ℕ) → i < 23 → given (getD shapes i zeros) ≡ wanted (rowAt i)
 shaped i h =
-    sym (getD-map given shapes i zeros)
+    sym (List·getD-map given shapes i zeros)
     ∙ ap (λ (l : List Said). getD l i (given zeros)) same
     ∙ getD-default (map wanted table) i (given zeros) (wanted (row 0 [])) h
-    ∙ getD-map wanted table i (row 0 [])
+    ∙ List·getD-map wanted table i (row 0 [])
 
 says-as : (r : Row) (s : Shape) → given s ≡ wanted r → Says r s
 says-as r s e =

@@ -1,7 +1,7 @@
 -- The code's tests of one command are the model's, if the tables stand for the commands before it.
 use Prim.Native.Nat.{ℕ, zero, suc}
 use mathlib.Core.Path.{_≡_, refl, sym, _∙_}
-use mathlib.Core.Bool.{Bool, true, false, cond, not, _&&_, _||_}
+use mathlib.Core.Bool.{Bool, true, false, cond, not, _&&_, _||_, or-false}
 use mathlib.Core.List.{List, [], _∷_}
 use mathlib.Core.Option.{none}
 use native.Mathlib.Omega.{arith}
@@ -26,10 +26,6 @@ use Rattle.tables.specs.Stands.{Stands}
 -- a known byte is in the table
 row-known : (b i : ℕ) → RowOf b i → ¬ (operandsOf b ≡ none)
 row-known b i r e = let o = r .operands in let w : _≡_ {A = ℕ} 0 1 = cc in omega arith
-
-or-none : (p : Bool) → (p || false) ≡ p
-or-none true = refl
-or-none false = refl
 
 -- a handler command is no permission
 uses-apart : (b : ℕ) → ((eqb b GET || eqb b PUT) || eqb b PLUS) ≡ true → (eqb b READ || eqb b WRITE) ≡ false
@@ -114,14 +110,14 @@ module _ (t : List ℕ) (c : Code) (past : List Command) (s : Stands t past) whe
 
   -- 7: a wire, a handler command that names a variable, a permission that does, and all others
   pub wire-reach : (r : Bool) (from to : ℕ) → c .byte ≡ WIRE → from ≡ flowIn t (c .first) → to ≡ flowIn t (c .third) → r ≡ not (eqb from to) → r ≡ outOfReach past (commandOf c)
-  wire-reach r from to e f g q = q ∙ rw (any-next, any-next, any-next, any-last, e, f, g, s .flow (c .first), s .flow (c .third)) (sym (or-none (not (eqb (flowOf past (c .first)) (flowOf past (c .third))))))
+  wire-reach r from to e f g q = q ∙ rw (any-next, any-next, any-next, any-last, e, f, g, s .flow (c .first), s .flow (c .third)) (sym (or-false (not (eqb (flowOf past (c .first)) (flowOf past (c .third))))))
 
   module _ (other : ¬ (c .byte ≡ WIRE)) (uses : Bool) (same : uses ≡ ((eqb (c .byte) GET || eqb (c .byte) PUT) || eqb (c .byte) PLUS)) where
     pub use-reach : uses ≡ true → (r own : Bool) (opened : ℕ) → opened ≡ openIn t → own ≡ seesIn t opened (c .first) → r ≡ not own → r ≡ outOfReach past (commandOf c)
     use-reach u r own opened o p q =
         let h = sym same ∙ u in
         q ∙ rw (any-next, any-next, any-next, any-last, ne-eqb (c .byte) WIRE other, h, uses-apart (c .byte) h, p, o, sees-same (openIn t) (c .first), s .opened)
-        (sym (or-none (not (sees past (openBody past) (c .first)))))
+        (sym (or-false (not (sees past (openBody past) (c .first)))))
 
     module _ (u : uses ≡ false) (access : Bool) (alike : access ≡ (eqb (c .byte) READ || eqb (c .byte) WRITE)) where
       pub access-reach :
@@ -134,7 +130,7 @@ module _ (t : List ℕ) (c : Code) (past : List Command) (s : Stands t past) whe
 
   -- 8: a byte of those that may not be repeated, a START, and every other known byte
   repeated-as : (b : ℕ) (x : Operands) (r : Bool) → c .byte ≡ b → mustDiffer (record { place = 0; byte = b; operands = x }) ≡ true → eqb b START ≡ false → commandOf c .operands ≡ x → r ≡ occurs b x past → r ≡ repeated past (commandOf c)
-  repeated-as b x r e m n o q = rw (any-next, any-last, e, o, n, m, ← q) (sym (or-none r))
+  repeated-as b x r e m n o q = rw (any-next, any-last, e, o, n, m, ← q) (sym (or-false r))
 
   module _ (plain : Plain (commandOf c)) where
     pub wire-same : (r : Bool) → c .byte ≡ WIRE → r ≡ wiredIn t (c .first) (c .second) (c .third) → r ≡ repeated past (commandOf c)

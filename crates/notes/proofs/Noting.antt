@@ -1,7 +1,7 @@
 -- One more command in the tables: every section then says what the model says of one command more.
 use Prim.Native.Nat.{ℕ, zero, suc, _+_, _-_, _*_, _≤_, _<_, zero-le}
 use mathlib.Core.Path.{_≡_, refl, sym, ap, _∙_}
-use mathlib.Core.Bool.{Bool, true, false, cond, not, _&&_, _||_, and-true}
+use mathlib.Core.Bool.{Bool, true, false, cond, not, _&&_, _||_, and-true, and-false}
 use mathlib.Core.List.{List, [], _∷_, _++_, append-nil}
 use mathlib.Core.Logic.{_⊎_, inl, inr}
 use native.Mathlib.Omega.{arith}
@@ -220,11 +220,7 @@ module _ (t : List ℕ) (past : List Command) (c : Command) (s : Stands t past) 
   same-one b n h = by-byte (is b c) h
     where
       by-byte : (p : Bool) → (p ≡ true → (c .operands .second ≡ 0) × (c .operands .third ≡ 0)) → (p && (eqb (c .operands .first) n && (eqb (c .operands .second) 0 && eqb (c .operands .third) 0))) ≡ (p && eqb (c .operands .first) n)
-      by-byte true h = rw (h refl .0, h refl .1) (by-first (eqb (c .operands .first) n))
-        where
-          by-first : (q : Bool) → (q && true) ≡ q
-          by-first true = refl
-          by-first false = refl
+      by-byte true h = rw (h refl .0, h refl .1) (and-true (eqb (c .operands .first) n))
       by-byte false h = refl
 
   bodies-next : (n : ℕ) → markIn after bodyCells n ≡ occurs BODY (binary n 0) (c ∷ past)
@@ -314,11 +310,7 @@ module _ (t : List ℕ) (past : List Command) (c : Command) (s : Stands t past) 
   -- those so far are searched as before
   listed-before : (n f w : ℕ) → listedIn after (countIn t ARG) n f w ≡ occurs ARG (ternary n f w) past
   listed-before n f w =
-      same-listed t after n f w (countIn t ARG) (λ i h. argument-kept i (rw (ne-eqb (countIn t ARG) i (λ e. omega arith)) (and-none (is ARG c)))) ∙ s .arguments n f w
-    where
-      and-none : (b : Bool) → (b && false) ≡ false
-      and-none true = refl
-      and-none false = refl
+      same-listed t after n f w (countIn t ARG) (λ i h. argument-kept i (rw (ne-eqb (countIn t ARG) i (λ e. omega arith)) (and-false (is ARG c)))) ∙ s .arguments n f w
 
   arguments-next : (n f w : ℕ) → listedIn after (countIn after ARG) n f w ≡ occurs ARG (ternary n f w) (c ∷ past)
   arguments-next n f w = rw (counts-next ARG (omega arith), occurs-next c past ARG (ternary n f w)) (by-byte (is ARG c) refl)

@@ -31,11 +31,7 @@ mark-blank s i h = rw (entry-blank s i h)
 
 grid-blank : (s : Section) (r x : ℕ) → s .0 + s .1 ≤ 15936 → gridIn blank s r x ≡ false
 unfolding gridIn
-grid-blank s r x h = rw (mark-blank s (r * 64 + x) h) (none (ltb r 128 && ltb x 64))
-  where
-    none : (b : Bool) → (b && false) ≡ false
-    none true = refl
-    none false = refl
+grid-blank s r x h = rw (mark-blank s (r * 64 + x) h) (and-false (ltb r 128 && ltb x 64))
 
 listed-blank : (k n f v : ℕ) → k ≡ 0 → listedIn blank k n f v ≡ false
 unfolding listedIn
