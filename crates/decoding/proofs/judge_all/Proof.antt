@@ -1,5 +1,5 @@
 -- `decoding::judge_all` meets its contract. The invariant: a line fits behind the text that waits, and the two slices keep their lengths.
--- The measure is the number of left that are left. Assumes nothing.
+-- The measure is the number of rounds that are left.
 use mathlib.Core.Path.{_≡_, sym, subst}
 use mathlib.Core.List.{List}
 use Prim.Native.Nat.{ℕ, _+_, _≤_}
@@ -14,11 +14,11 @@ use Rattle.decoding.proofs.judge_all.Statement.{statement}
 use Rattle.decoding.proofs.judge_all.Tie as tie
 
 abbrev Inv-loop : tie.InvT-loop
-Inv-loop buffer₀ text₀ tables₀ at₀ left₀ buffer text tables at left =
+Inv-loop buffer₀ text₀ tables₀ work₀ at₀ left₀ buffer text tables work at left =
     (at + 64 ≤ length text) × (length text ≡ length text₀) × (length buffer ≡ length buffer₀)
 
 abbrev μ-loop : tie.MeasureT-loop
-μ-loop buffer₀ text₀ tables₀ at₀ left₀ buffer text tables at left = left
+μ-loop buffer₀ text₀ tables₀ work₀ at₀ left₀ buffer text tables work at left = left
 
 -- the size of a job that was found
 fitting : (r : Record) (n : ℕ) (xs : List ℕ) → Fits r xs → r ≡ Job n → n ≤ length xs
@@ -45,15 +45,15 @@ same-length-2 c = search needs
 returns : tie.Need-returns Inv-loop μ-loop
 returns c = search needs
 
-slice-reshare-prefix-decode : tie.Need-slice-reshare-prefix-decode Inv-loop μ-loop
-slice-reshare-prefix-decode c =
+slice-reshare-prefix-judge : tie.Need-slice-reshare-prefix-judge Inv-loop μ-loop
+slice-reshare-prefix-judge c =
     omega (arith, fitting _ _ _ (c .before .before .before .before .before .read-job .ensures) (c .before .found .given .1))
 
-slice-aggregate-decode : tie.Need-slice-aggregate-decode Inv-loop μ-loop
-slice-aggregate-decode c = sym (length-take-le _ _ (slice-reshare-prefix-decode (c .before)))
+slice-aggregate-judge : tie.Need-slice-aggregate-judge Inv-loop μ-loop
+slice-aggregate-judge c = sym (length-take-le _ _ (slice-reshare-prefix-judge (c .before)))
 
-decode-requires : tie.Need-decode-requires Inv-loop μ-loop
-decode-requires c κs = search needs
+judge-requires : tie.Need-judge-requires Inv-loop μ-loop
+judge-requires c κs = search needs
 
 put-line-requires : tie.Need-put-line-requires Inv-loop μ-loop
 put-line-requires c κs = search needs
@@ -92,9 +92,9 @@ judge-all-spec =
     same-length
     same-length-2
     returns
-    slice-reshare-prefix-decode
-    slice-aggregate-decode
-    decode-requires
+    slice-reshare-prefix-judge
+    slice-aggregate-judge
+    judge-requires
     put-line-requires
     make-room-requires
     sub-left

@@ -1,4 +1,4 @@
--- `decoding::main` is safe and ends. A part of the text is as long as its end says. Assumes nothing.
+-- `decoding::main` is safe and ends. A part of the text is as long as its end says.
 use mathlib.Core.Path.{sym}
 use lib.Seq.{length-take-le}
 use borrow.Author.Needs.{needs}

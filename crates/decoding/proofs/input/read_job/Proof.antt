@@ -1,4 +1,4 @@
--- `decoding::input::read_job` meets its contract. A part of the buffer is as long as its end says. Assumes nothing.
+-- `decoding::input::read_job` meets its contract. A part of the buffer is as long as its end says.
 use mathlib.Core.Path.{sym}
 use lib.Seq.{length-take-le}
 use borrow.Author.Needs.{needs}

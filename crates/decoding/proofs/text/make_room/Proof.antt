@@ -1,4 +1,4 @@
--- `decoding::text::make_room` meets its contract. A part of the text is as long as its end says. Assumes nothing.
+-- `decoding::text::make_room` meets its contract. A part of the text is as long as its end says.
 use mathlib.Core.Path.{sym}
 use lib.Seq.{length-take-le}
 use borrow.Author.Needs.{needs}

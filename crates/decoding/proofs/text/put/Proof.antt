@@ -1,5 +1,5 @@
 -- `decoding::text::put` meets its contract. The invariant: `i` is at most the count of bytes, and the text keeps its length.
--- The measure is what is left of the bytes. Assumes nothing.
+-- The measure is what is left of the bytes.
 use mathlib.Core.Path.{_≡_}
 use Prim.Native.Nat.{_≤_, _-_}
 use borrow.Author.Needs.{needs}

@@ -1,4 +1,4 @@
--- `decoding::text::put_number` meets its contract: a number below 2 ^ 64 has at most 20 decimal digits. Assumes nothing.
+-- `decoding::text::put_number` meets its contract: a number below 2 ^ 64 has at most 20 decimal digits.
 use Prim.Native.Nat.{ℕ, _-_, _^_, _≤_, _<_}
 use native.Mathlib.Nat.{le-trans, le-of-suc-le-suc, lt-of-not-le, not-le-of-lt, pow-le-pow-right}
 use native.Mathlib.Omega.{arith}
