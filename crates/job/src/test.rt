@@ -1,6 +1,6 @@
 // The tests 4 to 8 of a command, by the tables of those before it.
 ghost use mathlib.Core.Path.{_≡_};
-ghost use mathlib.Core.Bool.{_||_};
+ghost use mathlib.Core.Bool.{cond, _||_};
 ghost use mathlib.Core.List.{List};
 ghost use lib.Dec.{eqb};
 ghost use Rattle.model.specs.Table.{READ, WRITE, GET, PUT, PLUS};
@@ -150,26 +150,38 @@ fn is_repeated(t: &[u32], c: Command) -> bool
     }
 }
 
+// The number of the first of the tests 4 to 8 that refuses, or 0.
+fn first_of(falls: bool, exceeds: bool, undeclared: bool, outside: bool, again: bool) -> u8
+    ensures { λ r. ⌜ r ≡ cond falls 4 (cond exceeds 5 (cond undeclared 6 (cond outside 7 (cond again 8 0)))) ⌝ }
+{
+    if falls {
+        return 4;
+    }
+    if exceeds {
+        return 5;
+    }
+    if undeclared {
+        return 6;
+    }
+    if outside {
+        return 7;
+    }
+    if again {
+        return 8;
+    }
+    0
+}
+
 // The number of the first of the tests 4 to 8 that refuses a command, or 0.
 pub(crate) fn violation_of(t: &[u32], c: Command) -> u8
     requires { ⌜ Known c ⌝ }
     ensures { λ r. ⌜ ((past : List Past) → Stands (now (t .entry)) past → Plain (commandOf c) → r ≡ violation past (commandOf c)) ⌝ }
 {
     let group = c.group as u32;
-    if group < declared::group(t) {
-        return 4;
-    }
-    if exceeds_count(t, c) {
-        return 5;
-    }
-    if is_undeclared(t, c) {
-        return 6;
-    }
-    if is_out_of_reach(t, c) {
-        return 7;
-    }
-    if is_repeated(t, c) {
-        return 8;
-    }
-    0
+    let highest = declared::group(t);
+    let exceeds = exceeds_count(t, c);
+    let undeclared = is_undeclared(t, c);
+    let outside = is_out_of_reach(t, c);
+    let again = is_repeated(t, c);
+    first_of(group < highest, exceeds, undeclared, outside, again)
 }
