@@ -1,0 +1,107 @@
+// Trace entries: what a handler command leaves, whether the lists permit it, and what a stop shows of it.
+ghost use mathlib.Core.Path.{_≡_};
+ghost use mathlib.Core.Bool.{cond};
+ghost use lib.ListN.{getD};
+ghost use Rattle.tables.specs.Tables.{sharedIn};
+ghost use Rattle.entries.specs.Entries.{Leaves, Judges, Redacts};
+use allowlists::may_call;
+use allowlists::may_read;
+use allowlists::may_write;
+use command::instruction::Instruction;
+use command::numbers::FunNum;
+use command::numbers::NodeNum;
+use command::numbers::VarNum;
+use declared::is_shared;
+
+// What a turn did, each kind with its own numbers.
+pub enum Event {
+    Other,
+    Begin(u32),
+    Finish,
+    Read(VarNum, u32),
+    Write(VarNum, u32),
+    Call(FunNum, u32),
+    Send(u32, u32),
+}
+
+// A trace entry.
+pub struct Entry {
+    pub node: NodeNum,
+    pub event: Event,
+}
+
+// What a turn comes to: its entry; or the stop with what it attempted.
+pub enum Outcome {
+    Made(Entry),
+    Forbidden(Entry),
+    Unready(NodeNum),
+    Full(Entry),
+}
+
+// The value of a variable.
+pub fn variable_at(variable: &[u32], x: VarNum) -> u32
+    ensures { λ r. ⌜ r ≡ getD (now (variable .entry)) (x .0) 0 ⌝ }
+{
+    let i = x.0 as usize;
+    if i < variable.len() { variable[i] } else { 0 }
+}
+
+// Reading a variable.
+fn read_of(t: &[u32], x: VarNum, variable: &[u32]) -> Event
+    ensures { λ r. ⌜ r ≡ cond (sharedIn (now (t .entry)) (x .0)) (Event.Read x (getD (now (variable .entry)) (x .0) 0)) Event.Other ⌝ }
+{
+    if is_shared(t, x) {
+        let value = variable_at(variable, x);
+        Event::Read(x, value)
+    } else {
+        Event::Other
+    }
+}
+
+// Writing a variable.
+fn write_of(t: &[u32], x: VarNum, value: u32) -> Event
+    ensures { λ r. ⌜ r ≡ cond (sharedIn (now (t .entry)) (x .0)) (Event.Write x value) Event.Other ⌝ }
+{
+    if is_shared(t, x) {
+        Event::Write(x, value)
+    } else {
+        Event::Other
+    }
+}
+
+// What a handler command leaves, by the accumulator and the variables before it.
+pub fn event_of(t: &[u32], instruction: Instruction, accumulator: u32, variable: &[u32]) -> Event
+    ensures { λ r. ⌜ Leaves (now (t .entry)) instruction accumulator (now (variable .entry)) r ⌝ }
+{
+    match instruction {
+        Instruction::Get(x) => read_of(t, x, variable),
+        Instruction::Put(x) => write_of(t, x, accumulator),
+        Instruction::Plus(x) => read_of(t, x, variable),
+        Instruction::Send(port) => Event::Send(port, accumulator),
+        Instruction::Call(f) => Event::Call(f, accumulator),
+        _ => Event::Other,
+    }
+}
+
+// Whether the lists permit a node's event.
+pub fn is_permitted(t: &[u32], n: NodeNum, event: Event) -> bool
+    ensures { λ r. ⌜ Judges (now (t .entry)) (n .0) event r ⌝ }
+{
+    match event {
+        Event::Read(x, _) => may_read(t, n, x),
+        Event::Write(x, _) => may_write(t, n, x),
+        Event::Call(f, argument) => may_call(t, n, f, argument),
+        _ => true,
+    }
+}
+
+// The event as a stop shows it: a read without its value.
+pub fn redact(event: Event) -> Event
+    ensures { λ r. ⌜ Redacts event r ⌝ }
+{
+    if let Event::Read(x, _) = event {
+        Event::Read(x, 0)
+    } else {
+        event
+    }
+}
