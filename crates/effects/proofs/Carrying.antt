@@ -36,8 +36,8 @@ module _ (P : Program) (s : State) (n : ℕ) where
 
   -- the position is new, and what the change makes
   goes : (p : ℕ) (x : Change) → carried P s n (local p (accumulatorAt s n) (messageAt s n)) x
-      ≡ record { position = set (s .position) n p; accumulator = s .accumulator; message = s .message; queue = queuesBehind P s n x; variable = variablesBehind s n x }
-  goes p x = λ j. record { position = set (s .position) n p; accumulator = accumulator-same j; message = message-same j; queue = queuesBehind P s n x; variable = variablesBehind s n x }
+      ≡ record { position = set (s .position) n p; accumulator = s .accumulator; message = s .message; queue = queuesBehind (P .wired n) n (accumulatorAt s n) (s .queue) x; variable = variablesBehind (accumulatorAt s n) (s .variable) x }
+  goes p x = λ j. record { position = set (s .position) n p; accumulator = accumulator-same j; message = message-same j; queue = queuesBehind (P .wired n) n (accumulatorAt s n) (s .queue) x; variable = variablesBehind (accumulatorAt s n) (s .variable) x }
 
 -- what the commands do, by the effect that they have in a state with these numbers
 module _ (t : List ℕ) (l : Local) (xs : List ℕ) (k : Instruction) (r : Effect) where
@@ -69,7 +69,7 @@ module _ (t : List ℕ) (l : Local) (xs : List ℕ) (k : Instruction) (r : Effec
   pub leads : (x : Change) → r ≡ effect (l .position + 1) (l .accumulator) (l .message) x
       → ((w : List ℕ) (s : State) (n : ℕ)
       → performed (programIn t w) s n (instructionOf k)
-      ≡ record { position = set (s .position) n (positionAt s n + 1); accumulator = s .accumulator; message = s .message; queue = queuesBehind (programIn t w) s n x; variable = variablesBehind s n x })
+      ≡ record { position = set (s .position) n (positionAt s n + 1); accumulator = s .accumulator; message = s .message; queue = queuesBehind (programIn t w .wired n) n (accumulatorAt s n) (s .queue) x; variable = variablesBehind (accumulatorAt s n) (s .variable) x })
       → Performs t k l xs r
   unfolding Performs
   leads x e same w s n h = ap (λ (y : Effect). carried P s n (y .local) (y .change)) e ∙ by-own ∙ sym (same w s n)
@@ -78,7 +78,7 @@ module _ (t : List ℕ) (l : Local) (xs : List ℕ) (k : Instruction) (r : Effec
       P = programIn t w
 
       after : State
-      after = record { position = set (s .position) n (positionAt s n + 1); accumulator = s .accumulator; message = s .message; queue = queuesBehind P s n x; variable = variablesBehind s n x }
+      after = record { position = set (s .position) n (positionAt s n + 1); accumulator = s .accumulator; message = s .message; queue = queuesBehind (P .wired n) n (accumulatorAt s n) (s .queue) x; variable = variablesBehind (accumulatorAt s n) (s .variable) x }
 
       by-own : carried P s n (local (l .position + 1) (l .accumulator) (l .message)) x ≡ after
       by-own = subst (λ (o : Local). carried P s n (local (o .position + 1) (o .accumulator) (o .message)) x ≡ after) (h .own) (goes P s n (positionAt s n + 1) x)

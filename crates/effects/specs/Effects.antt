@@ -1,13 +1,14 @@
 -- Effects: a node's numbers and what is changed beside them, and the state that they make.
 use Prim.Native.Nat.{ℕ, _≤_}
 use mathlib.Core.Path.{_≡_}
-use mathlib.Core.Bool.{false}
-use mathlib.Core.List.{List}
-use lib.ListN.{set, drop}
-use Rattle.model.specs.Table.{maxNodes}
+use mathlib.Core.Bool.{Bool, false, _&&_}
+use mathlib.Core.List.{List, []}
+use lib.Dec.{leb}
+use lib.ListN.{getD, set, drop}
+use Rattle.model.specs.Table.{maxNodes, maxWaiting}
 use Rattle.model.specs.Program.{Program}
-use Rattle.model.specs.State.{State, positionAt, accumulatorAt, messageAt, queueAt, waitingAt}
-use Rattle.model.specs.Turn.{someBelow, isFull, delivered, performed}
+use Rattle.model.specs.State.{State, positionAt, accumulatorAt, messageAt}
+use Rattle.model.specs.Turn.{someBelow, delivered, performed}
 use Rattle.command.specs.declared.instruction.Instruction.{Instruction}
 use Rattle.command.specs.Instructions.{instructionOf}
 use Rattle.job.specs.Program.{programIn}
@@ -28,37 +29,37 @@ effect position accumulator message change = record { local = local position acc
 abbrev pub localAt : State → ℕ → Local
 localAt s n = local (positionAt s n) (accumulatorAt s n) (messageAt s n)
 
--- the queues behind a change of node n: its oldest message leaves, or each target of its port gets its accumulator
-abbrev pub queuesBehind : Program → State → ℕ → Change → List (List ℕ)
-queuesBehind P s n c.Nothing = s .queue
-queuesBehind P s n c.Take = set (s .queue) n (drop 1 (queueAt s n))
-queuesBehind P s n (c.Send port) = delivered (P .wired n port) (accumulatorAt s n) (s .queue) maxNodes
-queuesBehind P s n (c.Store x) = s .queue
+-- the queues behind a change of node n: its oldest message leaves, or each target of a port gets the value; `wired` is by port and target
+abbrev pub queuesBehind : (ℕ → ℕ → Bool) → ℕ → ℕ → List (List ℕ) → Change → List (List ℕ)
+queuesBehind wired n value qs c.Nothing = qs
+queuesBehind wired n value qs c.Take = set qs n (drop 1 (getD qs n []))
+queuesBehind wired n value qs (c.Send port) = delivered (wired port) value qs maxNodes
+queuesBehind wired n value qs (c.Store x) = qs
 
--- the variables behind a change of node n: the variable becomes its accumulator
-abbrev pub variablesBehind : State → ℕ → Change → List ℕ
-variablesBehind s n c.Nothing = s .variable
-variablesBehind s n c.Take = s .variable
-variablesBehind s n (c.Send port) = s .variable
-variablesBehind s n (c.Store x) = set (s .variable) (x .0) (accumulatorAt s n)
+-- the variables behind a change: the variable becomes the value
+abbrev pub variablesBehind : ℕ → List ℕ → Change → List ℕ
+variablesBehind value xs c.Nothing = xs
+variablesBehind value xs c.Take = xs
+variablesBehind value xs (c.Send port) = xs
+variablesBehind value xs (c.Store x) = set xs (x .0) value
 
--- the state with these numbers of node n and behind its change
+-- the change can be carried out where so many messages wait at each node: one waits to be taken, no target is full
+abbrev pub Possible : (ℕ → ℕ → Bool) → ℕ → (ℕ → ℕ) → Change → Type 0
+Possible wired n waiting c.Nothing = Unit {0}
+Possible wired n waiting c.Take = 1 ≤ waiting n
+Possible wired n waiting (c.Send port) = someBelow (λ k. wired port k && leb maxWaiting (waiting k)) maxNodes ≡ false
+Possible wired n waiting (c.Store x) = Unit {0}
+
+-- the state with these numbers of node n and behind its change; what is sent or stored is the accumulator before
 abbrev pub carried : Program → State → ℕ → Local → Change → State
 carried P s n l x =
     record {
       position = set (s .position) n (l .position);
       accumulator = set (s .accumulator) n (l .accumulator);
       message = set (s .message) n (l .message);
-      queue = queuesBehind P s n x;
-      variable = variablesBehind s n x;
+      queue = queuesBehind (P .wired n) n (accumulatorAt s n) (s .queue) x;
+      variable = variablesBehind (accumulatorAt s n) (s .variable) x;
     }
-
--- the change can be carried out: a message waits, no target is full
-abbrev pub Possible : Program → State → ℕ → Change → Type 0
-Possible P s n c.Nothing = Unit {0}
-Possible P s n c.Take = 1 ≤ waitingAt s n
-Possible P s n (c.Send port) = someBelow (isFull P s n port) maxNodes ≡ false
-Possible P s n (c.Store x) = Unit {0}
 
 -- the state has these numbers of node n and these variables
 pub record Shows (s : State) (n : ℕ) (l : Local) (xs : List ℕ) : Type 0 where
