@@ -1,0 +1,80 @@
+// The waiting messages of all nodes: one flat array of 16 slots a node, and how many messages wait at each.
+ghost use mathlib.Core.Path.{_≡_};
+ghost use mathlib.Core.Bool.{false};
+ghost use mathlib.Core.List.{[]};
+ghost use Prim.Native.Nat.{_+_, _≤_, _<_};
+ghost use lib.ListN.{length, getD, set, drop};
+ghost use Rattle.model.specs.Table.{maxNodes};
+ghost use Rattle.model.specs.Turn.{delivered};
+ghost use Rattle.tables.specs.Tables.{wiredIn};
+ghost use Rattle.queues.specs.Queues.{queues, Sound, Holds, full, shifted};
+use allowlists::is_wired;
+use command::numbers::NodeNum;
+
+// Whether 16 messages wait at some target of a node's port.
+pub fn has_full(t: &[u32], n: NodeNum, port: u32, waiting: &[u8; 32]) -> bool
+    ensures { λ r. ⌜ r ≡ full (wiredIn (now (t .entry)) (n .0) port) (now (waiting .entry)) ⌝ }
+{
+    let mut k: usize = 0;
+    while k < 32 {
+        if 16 <= waiting[k] {
+            if is_wired(t, n, port, NodeNum(k as u32)) {
+                return true;
+            }
+        }
+        k += 1;
+    }
+    false
+}
+
+// The value goes to the back of the queue of each target of a node's port.
+pub fn deliver(
+    queue: &mut [u32; 512],
+    waiting: &mut [u8; 32],
+    t: &[u32],
+    n: NodeNum,
+    port: u32,
+    value: u32,
+)
+    requires { ⌜ (length (now queue) ≡ 512) × (length (now waiting) ≡ 32) ⌝ }
+    requires { ⌜ Sound (now waiting) ⌝ }
+    requires { ⌜ full (wiredIn (now t) (n .0) port) (now waiting) ≡ false ⌝ }
+    ensures { λ _. ⌜ Holds (now (waiting .exit)) (now (queue .exit)) (delivered (wiredIn (now (t .entry)) (n .0) port) value (queues (now (waiting .entry)) (now (queue .entry))) maxNodes) ⌝ }
+{
+    let mut target: usize = 0;
+    while target < 32 {
+        if is_wired(t, n, port, NodeNum(target as u32)) {
+            let w = waiting[target];
+            let at = target * 16 + w as usize;
+            queue[at] = value;
+            waiting[target] = w + 1;
+        }
+        target += 1;
+    }
+}
+
+// The 15 slots behind a queue's first move down by one.
+fn shift(queue: &mut [u32; 512], base: usize)
+    requires { ⌜ (length (now queue) ≡ 512) × (base + 16 ≤ 512) ⌝ }
+    ensures { λ _. ⌜ now (queue .exit) ≡ shifted (now (queue .entry)) base 15 ⌝ }
+{
+    let mut k: usize = 0;
+    while k < 15 {
+        let at = base + k;
+        queue[at] = queue[at + 1];
+        k += 1;
+    }
+}
+
+// The oldest message of a node leaves its queue.
+pub fn take_oldest(queue: &mut [u32; 512], waiting: &mut [u8; 32], n: NodeNum)
+    requires { ⌜ (length (now queue) ≡ 512) × (length (now waiting) ≡ 32) ⌝ }
+    requires { ⌜ Sound (now waiting) ⌝ }
+    requires { ⌜ (n .0 < 32) × (1 ≤ getD (now waiting) (n .0) 0) ⌝ }
+    ensures { λ _. ⌜ Holds (now (waiting .exit)) (now (queue .exit)) (set (queues (now (waiting .entry)) (now (queue .entry))) (n .0) (drop 1 (getD (queues (now (waiting .entry)) (now (queue .entry))) (n .0) []))) ⌝ }
+{
+    let i = n.0 as usize;
+    shift(queue, i * 16);
+    let w = waiting[i];
+    waiting[i] = w - 1;
+}
