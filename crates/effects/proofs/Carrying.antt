@@ -1,12 +1,13 @@
 -- Effects carried out: numbers that are written back unchanged change nothing.
 use Prim.Native.Nat.{ℕ, _+_}
 use mathlib.Core.Path.{_≡_, sym, _∙_, ap, subst}
+use mathlib.Core.Bool.{false}
 use mathlib.Core.List.{List}
 use lib.ListN.{getD, set}
 use lib.Seq.{set-getD}
 use Rattle.model.specs.Program.{Program}
-use Rattle.model.specs.State.{State, positionAt, accumulatorAt, messageAt, withPosition, withAccumulator}
-use Rattle.model.specs.Turn.{advanced, sum32, performed}
+use Rattle.model.specs.State.{State, positionAt, accumulatorAt, messageAt, waitingAt, withPosition, withAccumulator}
+use Rattle.model.specs.Turn.{advanced, sum32, blocked, performed}
 use Rattle.command.specs.declared.numbers.VarNum.{VarNum}
 use Rattle.command.specs.declared.instruction.Instruction.{Instruction}
 use Rattle.command.specs.declared.instruction.Instruction.the-variants as i
@@ -16,7 +17,11 @@ use Rattle.effects.specs.declared.Local.{Local}
 use Rattle.effects.specs.declared.Change.{Change}
 use Rattle.effects.specs.declared.Change.the-variants as c
 use Rattle.effects.specs.declared.Effect.{Effect}
-use Rattle.effects.specs.Effects.{local, effect, localAt, queuesBehind, variablesBehind, carried, Shows, Performs}
+use Rattle.effects.specs.Effects.{local, effect, localAt, queuesBehind, variablesBehind, carried, Possible, Shows, Does, Performs}
+
+-- the state with a new position of node n and behind its change
+abbrev pub behind : Program → State → ℕ → ℕ → Change → State
+behind P s n p x = record { position = set (s .position) n p; accumulator = s .accumulator; message = s .message; queue = queuesBehind (P .wired n) n (accumulatorAt s n) (s .queue) x; variable = variablesBehind (accumulatorAt s n) (s .variable) x }
 
 module _ (P : Program) (s : State) (n : ℕ) where
   -- the message is written back, the accumulator is
@@ -36,52 +41,57 @@ module _ (P : Program) (s : State) (n : ℕ) where
 
   -- the position is new, and what the change makes
   goes : (p : ℕ) (x : Change) → carried P s n (local p (accumulatorAt s n) (messageAt s n)) x
-      ≡ record { position = set (s .position) n p; accumulator = s .accumulator; message = s .message; queue = queuesBehind (P .wired n) n (accumulatorAt s n) (s .queue) x; variable = variablesBehind (accumulatorAt s n) (s .variable) x }
+      ≡ behind P s n p x
   goes p x = λ j. record { position = set (s .position) n p; accumulator = accumulator-same j; message = message-same j; queue = queuesBehind (P .wired n) n (accumulatorAt s n) (s .queue) x; variable = variablesBehind (accumulatorAt s n) (s .variable) x }
 
--- what the commands do, by the effect that they have in a state with these numbers
+-- what a command does, by the effect that it has in a state with these numbers
 module _ (t : List ℕ) (l : Local) (xs : List ℕ) (k : Instruction) (r : Effect) where
+  by-effect : (x : Effect) → r ≡ x → ((w : List ℕ) (s : State) (n : ℕ) → Shows s n l xs → Does (programIn t w) s n (instructionOf k) x) → Performs t k l xs r
+  unfolding Performs
+  by-effect x e does w s n h = subst (Does (programIn t w) s n (instructionOf k)) (sym e) (does w s n h)
+
   -- a command that sets the accumulator
   pub sets : (a : ℕ) → r ≡ effect (l .position + 1) a (l .message) c.Nothing
       → ((w : List ℕ) (s : State) (n : ℕ) → Shows s n l xs → performed (programIn t w) s n (instructionOf k) ≡ advanced (withAccumulator s n a) n) → Performs t k l xs r
-  unfolding Performs
-  sets a e same w s n h = ap (λ (x : Effect). carried P s n (x .local) (x .change)) e ∙ by-own ∙ sym (same w s n h)
-    where
-      P : Program
-      P = programIn t w
+  sets a e same =
+      by-effect (effect (l .position + 1) a (l .message) c.Nothing) e
+      (λ w s n h.
+      let P = programIn t w in
+      record {
+        state = subst (λ (o : Local). carried P s n (local (o .position + 1) a (o .message)) c.Nothing ≡ advanced (withAccumulator s n a) n) (h .own) (takes P s n (positionAt s n + 1) a) ∙ sym (same w s n h);
+        possible = λ _. tt;
+      })
 
-      by-own : carried P s n (local (l .position + 1) a (l .message)) c.Nothing ≡ advanced (withAccumulator s n a) n
-      by-own = subst (λ (o : Local). carried P s n (local (o .position + 1) a (o .message)) c.Nothing ≡ advanced (withAccumulator s n a) n) (h .own) (takes P s n (positionAt s n + 1) a)
+  -- a command that goes on at a position, with the same accumulator
+  leads : (p : ℕ) (x : Change) → r ≡ effect p (l .accumulator) (l .message) x
+      → ((w : List ℕ) (s : State) (n : ℕ) → Shows s n l xs
+      → performed (programIn t w) s n (instructionOf k)
+      ≡ behind (programIn t w) s n p x)
+      → ((w : List ℕ) (s : State) (n : ℕ) → blocked (programIn t w) s n (instructionOf k) ≡ false → Possible (programIn t w .wired n) n (waitingAt s) x)
+      → Performs t k l xs r
+  leads p x e same can =
+      by-effect (effect p (l .accumulator) (l .message) x) e
+      (λ w s n h.
+      let P = programIn t w in
+      record {
+        state = ap (λ (o : Local). carried P s n (local p (o .accumulator) (o .message)) x) (sym (h .own)) ∙ goes P s n p x ∙ sym (same w s n h);
+        possible = can w s n;
+      })
 
   -- a jump
   pub jumps : (p : ℕ) → r ≡ effect p (l .accumulator) (l .message) c.Nothing
       → ((w : List ℕ) (s : State) (n : ℕ) → Shows s n l xs → performed (programIn t w) s n (instructionOf k) ≡ withPosition s n p) → Performs t k l xs r
-  unfolding Performs
-  jumps p e same w s n h = ap (λ (x : Effect). carried P s n (x .local) (x .change)) e ∙ by-own ∙ sym (same w s n h)
-    where
-      P : Program
-      P = programIn t w
-
-      by-own : carried P s n (local p (l .accumulator) (l .message)) c.Nothing ≡ withPosition s n p
-      by-own = subst (λ (o : Local). carried P s n (local p (o .accumulator) (o .message)) c.Nothing ≡ withPosition s n p) (h .own) (goes P s n p c.Nothing)
+  jumps p e same = leads p c.Nothing e same (λ w s n _. tt)
 
   -- a command that goes on with the same accumulator
-  pub leads : (x : Change) → r ≡ effect (l .position + 1) (l .accumulator) (l .message) x
+  pub nexts : (x : Change) → r ≡ effect (l .position + 1) (l .accumulator) (l .message) x
       → ((w : List ℕ) (s : State) (n : ℕ)
       → performed (programIn t w) s n (instructionOf k)
-      ≡ record { position = set (s .position) n (positionAt s n + 1); accumulator = s .accumulator; message = s .message; queue = queuesBehind (programIn t w .wired n) n (accumulatorAt s n) (s .queue) x; variable = variablesBehind (accumulatorAt s n) (s .variable) x })
+      ≡ behind (programIn t w) s n (positionAt s n + 1) x)
+      → ((w : List ℕ) (s : State) (n : ℕ) → blocked (programIn t w) s n (instructionOf k) ≡ false → Possible (programIn t w .wired n) n (waitingAt s) x)
       → Performs t k l xs r
-  unfolding Performs
-  leads x e same w s n h = ap (λ (y : Effect). carried P s n (y .local) (y .change)) e ∙ by-own ∙ sym (same w s n)
-    where
-      P : Program
-      P = programIn t w
-
-      after : State
-      after = record { position = set (s .position) n (positionAt s n + 1); accumulator = s .accumulator; message = s .message; queue = queuesBehind (P .wired n) n (accumulatorAt s n) (s .queue) x; variable = variablesBehind (accumulatorAt s n) (s .variable) x }
-
-      by-own : carried P s n (local (l .position + 1) (l .accumulator) (l .message)) x ≡ after
-      by-own = subst (λ (o : Local). carried P s n (local (o .position + 1) (o .accumulator) (o .message)) x ≡ after) (h .own) (goes P s n (positionAt s n + 1) x)
+  nexts x e same = leads (l .position + 1) x e
+      (λ w s n h. same w s n ∙ ap (λ (o : Local). behind (programIn t w) s n (o .position + 1) x) (h .own))
 
 -- the commands that work on the accumulator
 module _ (t : List ℕ) (l : Local) (xs : List ℕ) (r : Effect) (a : ℕ) (e : r ≡ effect (l .position + 1) a (l .message) c.Nothing) where

@@ -6,9 +6,10 @@ use mathlib.Core.List.{List, []}
 use lib.Dec.{leb}
 use lib.ListN.{getD, set, drop}
 use Rattle.model.specs.Table.{maxNodes, maxWaiting}
+use Rattle.model.specs.Declared.{Instruction as Meant}
 use Rattle.model.specs.Program.{Program}
-use Rattle.model.specs.State.{State, positionAt, accumulatorAt, messageAt}
-use Rattle.model.specs.Turn.{someBelow, delivered, performed}
+use Rattle.model.specs.State.{State, positionAt, accumulatorAt, messageAt, waitingAt}
+use Rattle.model.specs.Turn.{someBelow, delivered, blocked, performed}
 use Rattle.command.specs.declared.instruction.Instruction.{Instruction}
 use Rattle.command.specs.Instructions.{instructionOf}
 use Rattle.job.specs.Program.{programIn}
@@ -66,7 +67,11 @@ pub record Shows (s : State) (n : ℕ) (l : Local) (xs : List ℕ) : Type 0 wher
   pub own : localAt s n ≡ l
   pub variables : s .variable ≡ xs
 
+-- the effect is what the handler command of node n does in a state, and can be carried out if no target of it is full
+pub record Does (P : Program) (s : State) (n : ℕ) (i : Meant) (x : Effect) : Type 0 where
+  pub state : carried P s n (x .local) (x .change) ≡ performed P s n i
+  pub possible : blocked P s n i ≡ false → Possible (P .wired n) n (waitingAt s) (x .change)
+
 -- the effect is what the handler command does, at every node, in every state with these numbers and with all handlers
 unfoldable pub Performs : List ℕ → Instruction → Local → List ℕ → Effect → Type 0
-Performs t i l xs x =
-    (w : List ℕ) (s : State) (n : ℕ) → Shows s n l xs → carried (programIn t w) s n (x .local) (x .change) ≡ performed (programIn t w) s n (instructionOf i)
+Performs t i l xs x = (w : List ℕ) (s : State) (n : ℕ) → Shows s n l xs → Does (programIn t w) s n (instructionOf i) x

@@ -1,13 +1,13 @@
 -- `effects::effect_of` meets its contract.
 use Prim.Native.Nat.{ℕ, _+_}
-use mathlib.Core.Path.{refl, sym, _∙_, ap}
+use mathlib.Core.Path.{_∙_, ap, sym, refl}
 use denote.Ref.{now}
 use borrow.Author.Tests.{eq-eqb, ne-eqb}
 use borrow.Author.Needs.{needs}
 use Rattle.model.specs.State.{accumulatorAt, withPosition, withAccumulator}
 use Rattle.model.specs.Turn.{advanced}
 use Rattle.entries.proofs.Names.{answer-by}
-use Rattle.effects.proofs.Carrying.{gets, adds, pluses, sets, jumps, leads}
+use Rattle.effects.proofs.Carrying.{nexts, gets, adds, pluses, sets, jumps}
 use Rattle.effects.specs.declared.Local.{Local}
 use Rattle.effects.proofs.effect_of.Statement.{statement}
 use Rattle.effects.proofs.effect_of.Tie as tie
@@ -112,7 +112,7 @@ returns-4 : tie.Need-returns-4
 returns-4 c = rw (c .before .before .before .instruction2 .given .1) (gets _ _ _ _ _ (c .go-on3 .ensures) _ (c .before .variable-at .ensures))
 
 returns-5 : tie.Need-returns-5
-returns-5 c = rw (c .before .before .instruction3 .given .1) (leads _ _ _ _ _ _ (c .go-on4 .ensures) (λ w s n. refl))
+returns-5 c = rw (c .before .before .instruction3 .given .1) (nexts _ _ _ _ _ _ (c .go-on4 .ensures) (λ w s n. refl) (λ w s n _. tt))
 
 returns-6 : tie.Need-returns-6
 returns-6 c = rw (c .before .before .before .instruction4 .given .1) (adds _ _ _ _ _ (c .go-on5 .ensures) _ (c .before .wrapping-add-u32 .ensures))
@@ -127,13 +127,13 @@ returns-9 : tie.Need-returns-9
 returns-9 c = rw (c .before .before .instruction7 .given .1) (jumps _ _ _ _ _ _ (c .go-on9 .ensures) (λ w s n h. refl))
 
 returns-10 : tie.Need-returns-10
-returns-10 c = rw (c .before .before .instruction8 .given .1) (leads _ _ _ _ _ _ (c .go-on10 .ensures) (λ w s n. refl))
+returns-10 c = rw (c .before .before .instruction8 .given .1) (nexts _ _ _ _ _ _ (c .go-on10 .ensures) (λ w s n. refl) (λ w s n e. e))
 
 returns-11 : tie.Need-returns-11
 returns-11 c = rw (c .before .before .before .instruction9 .given .1) (sets _ _ _ _ _ _ (c .go-on11 .ensures) (λ w s n h. ap (λ (v : ℕ). advanced (withAccumulator s n v) n) (answer-by (now (c .before .before .before .before .before .before .before .before .args .t)) w _ _ ∙ sym (c .before .answer-of .ensures))))
 
 returns-12 : tie.Need-returns-12
-returns-12 c = rw (c .before .enum-told2 .given .1) (leads _ _ _ _ _ _ (c .go-on12 .ensures) (λ w s n. refl))
+returns-12 c = rw (c .before .enum-told2 .given .1) (nexts _ _ _ _ _ _ (c .go-on12 .ensures) (λ w s n. refl) (λ w s n _. tt))
 
 pub effect-of-spec : {M : Type 1} → statement M
 effect-of-spec =
