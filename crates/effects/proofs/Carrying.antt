@@ -108,3 +108,8 @@ module _ (t : List ℕ) (l : Local) (xs : List ℕ) (r : Effect) (a : ℕ) (e : 
       ap (λ (o : Local). advanced (withAccumulator s n (sum32 (o .accumulator) (getD (s .variable) (x .0) 0))) n) (h .own)
       ∙ ap (λ (ys : List ℕ). advanced (withAccumulator s n (sum32 (l .accumulator) (getD ys (x .0) 0))) n) (h .variables)
       ∙ ap (λ (b : ℕ). advanced (withAccumulator s n b) n) (ap (sum32 (l .accumulator)) (sym p) ∙ sym q))
+
+-- what an effect does in one state
+pub does-at : (t : List ℕ) (k : Instruction) (l : Local) (xs : List ℕ) (x : Effect) → Performs t k l xs x → (w : List ℕ) (s : State) (n : ℕ) → Shows s n l xs → Does (programIn t w) s n (instructionOf k) x
+unfolding Performs
+does-at t k l xs x p = p

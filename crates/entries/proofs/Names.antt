@@ -1,9 +1,14 @@
 -- What a program by the tables says, name by name.
-use Prim.Native.Nat.{ℕ}
+use Prim.Native.Nat.{ℕ, _<_}
 use mathlib.Core.Path.{_≡_, refl}
 use mathlib.Core.List.{List}
+use lib.ListN.{length}
+use Rattle.model.specs.Declared.{instruction}
 use Rattle.model.specs.Program.{sharedIn as isShared}
-use Rattle.tables.specs.Tables.{sharedIn, wiredIn, answerIn, readIn, writeIn, callIn}
+use Rattle.model.specs.Turn.{instructionAt}
+use Rattle.model.proofs.Lists.{length-tabulate, getD-tabulate}
+use Rattle.tables.specs.Tables.{sharedIn, wiredIn, answerIn, readIn, writeIn, callIn, lengthIn}
+use Rattle.handlers.specs.Loading.{fetchedIn}
 use Rattle.job.specs.Program.{programIn}
 
 module _ (t w : List ℕ) where
@@ -30,3 +35,12 @@ module _ (t w : List ℕ) where
   pub call-by : (n f argument : ℕ) → programIn t w .mayCall n f argument ≡ callIn t n f argument
   unfolding programIn
   call-by n f argument = refl
+
+  -- the length of a handler, and its commands
+  pub length-by : (n : ℕ) → length (programIn t w .handler n) ≡ lengthIn t n
+  unfolding programIn
+  length-by n = length-tabulate (lengthIn t n) (fetchedIn w n)
+
+  pub command-by : (n position : ℕ) → position < lengthIn t n → instructionAt (programIn t w) n position ≡ fetchedIn w n position
+  unfolding programIn
+  command-by n position h = getD-tabulate (lengthIn t n) position (fetchedIn w n) (instruction 0 0) h

@@ -1,0 +1,154 @@
+// What one turn of a node comes to, planned from numbers before anything is changed.
+ghost use mathlib.Core.Path.{_≡_};
+ghost use mathlib.Core.Bool.{not, _&&_};
+ghost use mathlib.Core.List.{List};
+ghost use Prim.Native.Nat.{ℕ, _<_};
+ghost use Rattle.model.specs.Permission.{permitted};
+ghost use Rattle.job.specs.Program.{programIn};
+ghost use Rattle.entries.specs.Entries.{entryFor};
+ghost use Rattle.plans.specs.Plans.{plan, entryBy, Blocks, Decides, Turns};
+use command::instruction::Instruction;
+use command::numbers::NodeNum;
+use declared::length_of;
+use effects::Change;
+use effects::Local;
+use effects::effect_of;
+use entries::Entry;
+use entries::Event;
+use entries::Outcome;
+use entries::event_of;
+use entries::is_permitted;
+use entries::redact;
+use handlers::fetch::fetch;
+use queues::has_full;
+
+// The position of a node that is idle.
+pub const IDLE: u32 = 255;
+
+// A turn: the node's numbers behind it, its change and its outcome.
+pub struct Plan {
+    pub local: Local,
+    pub change: Change,
+    pub outcome: Outcome,
+}
+
+// Whether a handler command is a send with a full target.
+fn blocks(t: &[u32], n: NodeNum, instruction: Instruction, waiting: &[u8; 32]) -> bool
+    ensures { λ r. ⌜ Blocks (now (t .entry)) (n .0) instruction (now (waiting .entry)) r ⌝ }
+{
+    if let Instruction::Send(port) = instruction {
+        has_full(t, n, port, waiting)
+    } else {
+        false
+    }
+}
+
+// Whether the run is monitored and the lists do not permit the event.
+fn is_forbidden(t: &[u32], n: NodeNum, monitored: bool, event: Event) -> bool
+    ensures { λ r. ⌜ ((w : List ℕ) → r ≡ (monitored && not (permitted (programIn (now (t .entry)) w) (entryFor (n .0) event)))) ⌝ }
+{
+    if monitored {
+        let permitted = is_permitted(t, n, event);
+        return !permitted;
+    }
+    false
+}
+
+// The plan of a stopped turn, which leaves everything as it is.
+fn stopped(local: Local, outcome: Outcome) -> Plan
+    ensures { λ r. ⌜ r ≡ plan local Change.Nothing outcome ⌝ }
+{
+    Plan {
+        local: local,
+        change: Change::Nothing,
+        outcome: outcome,
+    }
+}
+
+// The plan of a completed turn.
+fn completed(local: Local, change: Change, n: NodeNum, event: Event) -> Plan
+    ensures { λ r. ⌜ r ≡ plan local change (Outcome.Made (entryBy n event)) ⌝ }
+{
+    let entry = Entry {
+        node: n,
+        event: event,
+    };
+    Plan {
+        local: local,
+        change: change,
+        outcome: Outcome::Made(entry),
+    }
+}
+
+// The turn of a node at a handler command: forbidden, a target full, or made.
+fn decide<'a>(
+    t: &[u32],
+    n: NodeNum,
+    monitored: bool,
+    instruction: Instruction,
+    local: Local,
+    waiting: &'a [u8; 32],
+    variable: &'a [u32],
+) -> Plan
+    requires { ⌜ local .position < 4294967295 ⌝ }
+    ensures { λ r. ⌜ Decides (now (t .entry)) n monitored instruction local (now (waiting .entry)) (now (variable .entry)) r ⌝ }
+{
+    let event = event_of(t, instruction, local.accumulator, variable);
+    if is_forbidden(t, n, monitored, event) {
+        let shown = redact(event);
+        let entry = Entry {
+            node: n,
+            event: shown,
+        };
+        return stopped(local, Outcome::Forbidden(entry));
+    }
+    if blocks(t, n, instruction, waiting) {
+        let entry = Entry {
+            node: n,
+            event: event,
+        };
+        return stopped(local, Outcome::Full(entry));
+    }
+    let effect = effect_of(t, instruction, local, variable);
+    let change = effect.change;
+    completed(effect.local, change, n, event)
+}
+
+// The turn of a node, by its numbers, the message in its first slot, how many messages wait at each node, and the variables.
+pub fn plan_turn<'a>(
+    t: &[u32],
+    work: &[u8],
+    n: NodeNum,
+    monitored: bool,
+    local: Local,
+    oldest: u32,
+    waiting: &'a [u8; 32],
+    variable: &'a [u32],
+) -> Plan
+    requires { ⌜ n .0 < 32 ⌝ }
+    ensures { λ r. ⌜ Turns (now (t .entry)) (now (work .entry)) n monitored local oldest (now (waiting .entry)) (now (variable .entry)) r ⌝ }
+{
+    let i = n.0 as usize;
+    let position = local.position;
+    if position == IDLE {
+        if waiting[i] == 0 {
+            return stopped(local, Outcome::Unready(n));
+        }
+        let begun = Local {
+            position: 0,
+            accumulator: 0,
+            message: oldest,
+        };
+        return completed(begun, Change::Take, n, Event::Begin(oldest));
+    }
+    if position < length_of(t, n) {
+        let instruction = fetch(work, n, position);
+        return decide(t, n, monitored, instruction, local, waiting, variable);
+    }
+    let idle = Local {
+        position: IDLE,
+        accumulator: 0,
+        message: 0,
+    };
+    completed(idle, Change::Nothing, n, Event::Finish)
+}
