@@ -50,7 +50,7 @@ apart i n ne = by-order (decLt i n)
     by-order (no h) = inr (omega arith)
 
 -- where the slots of all other nodes are the same, queue n is replaced
-queues-change :
+pub queues-change :
     (ws slots slots′ : List ℕ) (n w : ℕ)
     → ((i : ℕ) → (i < n) ⊎ (n < i) → take (getD ws i 0) (drop (16 * i) slots′) ≡ take (getD ws i 0) (drop (16 * i) slots))
     → queues (set ws n w) slots′ ≡ set (queues ws slots) n (take w (drop (16 * n) slots′))
@@ -73,7 +73,7 @@ queues-change ws slots slots′ n w same = ext-getD [] (queues (set ws n w) slot
         by-place (no ne) = rw (getD-set-other ws n i w 0 ne, getD-set-other qs n i q [] ne, queue-at ws slots i) (same i (apart i n ne))
 
 -- a store outside a part leaves the part
-part-set : (slots : List ℕ) (at w a v : ℕ) → (a < at) ⊎ (at + w ≤ a) → take w (drop at (set slots a v)) ≡ take w (drop at slots)
+pub part-set : (slots : List ℕ) (at w a v : ℕ) → (a < at) ⊎ (at + w ≤ a) → take w (drop at (set slots a v)) ≡ take w (drop at slots)
 part-set slots at w a v (inl h) = rw (drop-set-lt at slots a v h)
 part-set slots at w a v (inr h) =
     let e : a ≡ at + (a - at) = omega arith in

@@ -1,0 +1,104 @@
+-- `engine::State::turn` meets its contract.
+use mathlib.Core.Path.{_≡_}
+use denote.Ref.{now}
+use lib.ListN.{length}
+use borrow.Author.Needs.{needs}
+use Rattle.engine.proofs.Carried.{can-change, carried-out}
+use Rattle.engine.proofs.State.turn.Statement.{statement}
+use Rattle.engine.proofs.State.turn.Tie as tie
+
+cast-i : tie.Need-cast-i
+cast-i c = search needs
+
+mul-position : tie.Need-mul-position
+mul-position c = search needs
+
+element-copy-out-position : tie.Need-element-copy-out-position
+element-copy-out-position c = search needs
+
+mul-accumulator : tie.Need-mul-accumulator
+mul-accumulator c = search needs
+
+element-copy-out-accumulator : tie.Need-element-copy-out-accumulator
+element-copy-out-accumulator c = search needs
+
+mul-message : tie.Need-mul-message
+mul-message c = search needs
+
+element-copy-out-message : tie.Need-element-copy-out-message
+element-copy-out-message c = search needs
+
+mul-oldest : tie.Need-mul-oldest
+mul-oldest c = search needs
+
+mul-oldest-2 : tie.Need-mul-oldest-2
+mul-oldest-2 c = search needs
+
+element-copy-out-oldest : tie.Need-element-copy-out-oldest
+element-copy-out-oldest c = search needs
+
+plan-turn-requires : tie.Need-plan-turn-requires
+plan-turn-requires c κs = search needs
+
+change-queues-requires : tie.Need-change-queues-requires
+change-queues-requires c κs =
+    let z = c .before .before .before .before .before .before .before .before .before .before .before .before .before .before .before .before in
+    let s = z .args .t1 in
+    let counts : length (s .waiting) ≡ 32 = search needs in
+    let places : length (s .queue) ≡ 512 = search needs in
+    let can = can-change (now (z .args .t)) (now (z .args .work)) s (z .args .n) (z .args .monitored) (z .pre .0) counts places (c .before .before .before .before .plan-turn .result) (c .before .before .before .before .plan-turn .ensures) in
+    ((places, counts), (z .pre .0, (z .pre .1, can)))
+
+change-variable-requires : tie.Need-change-variable-requires
+change-variable-requires c κs = search needs
+
+mul-self : tie.Need-mul-self
+mul-self c = search needs
+
+element-write-self : tie.Need-element-write-self
+element-write-self c = search needs
+
+mul-self-2 : tie.Need-mul-self-2
+mul-self-2 c = search needs
+
+element-write-self-2 : tie.Need-element-write-self-2
+element-write-self-2 c = search needs
+
+mul-self-3 : tie.Need-mul-self-3
+mul-self-3 c = search needs
+
+element-write-self-3 : tie.Need-element-write-self-3
+element-write-self-3 c = search needs
+
+returns : tie.Need-returns
+returns c =
+    let z = c .before .before .before .before .before .before .before .before .before .before .before .before .before .before .before .before .before .before .before in
+    let s = z .args .t1 in
+    let counts : length (s .waiting) ≡ 32 = search needs in
+    let places : length (s .queue) ≡ 512 = search needs in
+    carried-out (now (z .args .t)) (now (z .args .work)) s (z .args .n) (z .args .monitored) (z .pre .0) counts places (c .before .before .before .before .before .before .before .plan-turn .result) (c .before .before .before .before .before .before .before .plan-turn .ensures) _ _ _ (c .before .before .change-queues .ensures) (c .change-variable .ensures)
+
+pub turn-spec : {M : Type 1} → statement M
+turn-spec =
+    tie.close
+    (tie.spec
+    cast-i
+    mul-position
+    element-copy-out-position
+    mul-accumulator
+    element-copy-out-accumulator
+    mul-message
+    element-copy-out-message
+    mul-oldest
+    mul-oldest-2
+    element-copy-out-oldest
+    plan-turn-requires
+    change-queues-requires
+    change-variable-requires
+    mul-self
+    element-write-self
+    mul-self-2
+    element-write-self-2
+    mul-self-3
+    element-write-self-3
+    returns)

@@ -1,0 +1,46 @@
+// What a turn changes beside its node's numbers.
+ghost use mathlib.Core.Path.{_≡_};
+ghost use Prim.Native.Nat.{ℕ, _<_};
+ghost use lib.ListN.{length, getD};
+ghost use Rattle.tables.specs.Tables.{wiredIn};
+ghost use Rattle.effects.specs.Effects.{queuesBehind, variablesBehind, Possible};
+ghost use Rattle.queues.specs.Queues.{queues, Sound, Holds};
+use command::numbers::NodeNum;
+use effects::Change;
+use queues::deliver;
+use queues::take_oldest;
+
+// The queues behind a change of a node; the value is what it sends.
+pub fn change_queues(
+    queue: &mut [u32; 512],
+    waiting: &mut [u8; 32],
+    t: &[u32],
+    n: NodeNum,
+    change: Change,
+    value: u32,
+)
+    requires { ⌜ (length (now queue) ≡ 512) × (length (now waiting) ≡ 32) ⌝ }
+    requires { ⌜ Sound (now waiting) ⌝ }
+    requires { ⌜ n .0 < 32 ⌝ }
+    requires { ⌜ Possible (wiredIn (now t) (n .0)) (n .0) (λ k. getD (now waiting) k 0) change ⌝ }
+    ensures { λ _. ⌜ Holds (now (waiting .exit)) (now (queue .exit)) (queuesBehind (wiredIn (now (t .entry)) (n .0)) (n .0) value (queues (now (waiting .entry)) (now (queue .entry))) change) ⌝ }
+{
+    match change {
+        Change::Take => take_oldest(queue, waiting, n),
+        Change::Send(port) => deliver(queue, waiting, t, n, port, value),
+        _ => {}
+    }
+}
+
+// The variables behind a change; the value is what is stored.
+pub fn change_variable(variable: &mut [u32; 64], change: Change, value: u32)
+    requires { ⌜ length (now variable) ≡ 64 ⌝ }
+    ensures { λ _. ⌜ now (variable .exit) ≡ variablesBehind value (now (variable .entry)) change ⌝ }
+{
+    if let Change::Store(x) = change {
+        let i = x.0 as usize;
+        if i < 64 {
+            variable[i] = value;
+        }
+    }
+}

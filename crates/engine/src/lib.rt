@@ -1,0 +1,75 @@
+// The engine: the state of a run, its start, and one turn.
+ghost use mathlib.Core.Path.{_≡_};
+ghost use Prim.Native.Nat.{ℕ, _<_};
+ghost use Rattle.queues.specs.Queues.{Sound};
+ghost use Rattle.engine.specs.Engine.{Turns};
+use changes::change_queues;
+use changes::change_variable;
+use command::numbers::NodeNum;
+use effects::Local;
+use entries::Outcome;
+use plans::plan_turn;
+
+pub mod changes;
+pub mod start;
+
+// The state of a run: of each node the position in its handler, the accumulator (01's "hand"), the message being handled and how many
+// messages wait; the waiting messages of all nodes, 16 slots a node, oldest first; the variables.
+pub struct State {
+    pub position: [u32; 32],
+    pub accumulator: [u32; 32],
+    pub message: [u32; 32],
+    pub waiting: [u8; 32],
+    pub queue: [u32; 512],
+    pub variable: [u32; 64],
+}
+
+// What a turn hands back: the state behind it, and its entry or stop.
+pub struct Turned {
+    pub state: State,
+    pub outcome: Outcome,
+}
+
+impl State {
+    // One turn of a node, by the program in tables and work buffer: planned first, and then carried out.
+    pub fn turn(mut self, t: &[u32], work: &[u8], n: NodeNum, monitored: bool) -> Turned
+        requires { ⌜ Sound (self .waiting) ⌝ }
+        requires { ⌜ n .0 < 32 ⌝ }
+        ensures { λ r. ⌜ Turns (now (t .entry)) (now (work .entry)) (n .0) monitored self r ⌝ }
+    {
+        let i = n.0 as usize;
+        let position = self.position[i];
+        let accumulator = self.accumulator[i];
+        let message = self.message[i];
+        let oldest = self.queue[i * 16];
+        let local = Local {
+            position: position,
+            accumulator: accumulator,
+            message: message,
+        };
+        let plan = plan_turn(
+            t,
+            work,
+            n,
+            monitored,
+            local,
+            oldest,
+            &self.waiting,
+            &self.variable,
+        );
+        let next = plan.local;
+        let change = plan.change;
+        let outcome = plan.outcome;
+        let mut waiting = self.waiting;
+        change_queues(&mut self.queue, &mut waiting, t, n, change, accumulator);
+        self.waiting = waiting;
+        change_variable(&mut self.variable, change, accumulator);
+        self.position[i] = next.position;
+        self.accumulator[i] = next.accumulator;
+        self.message[i] = next.message;
+        Turned {
+            state: self,
+            outcome: outcome,
+        }
+    }
+}
