@@ -10,6 +10,7 @@ use Rattle.command.specs.declared.read.Refusal.{Refusal as Refused}
 use Rattle.command.specs.Reading.{refusalOf}
 use Rattle.tables.specs.Cells.{blank}
 use Rattle.tables.specs.Stands.{Stands}
+use Rattle.handlers.specs.Loading.{IsAccepted}
 use Rattle.job.specs.declared.Verdict.{Verdict}
 use Rattle.job.specs.declared.Verdict.the-variants as v
 use Rattle.job.specs.Decoding.{verdictOf, Verdicts, Decides}
@@ -55,3 +56,7 @@ decides-accepted d t a =
 
 pub decides-refused : (d : Decoded) (t : List ℕ) (q : Refused) → d ≡ rejected (refusalOf q) → t ≡ blank → Decides d t (v.Refused q)
 decides-refused d t q e b = record { judged = refuses d t q e; cleared = λ p f. b }
+
+-- a job with the verdict that it is accepted may be loaded
+pub may-load : (d : Decoded) (t : List ℕ) (r : Verdict) → Decides d t r → r ≡ v.Accepted → IsAccepted d
+may-load d t r h e = rw (is-accepted d t r (h .judged) e .decoded) tt

@@ -1,6 +1,6 @@
 -- `decoding::judge` is safe and ends: a job that is accepted may be loaded.
-use Rattle.decoding.proofs.Loads.{may-load}
 use borrow.Author.Needs.{needs}
+use Rattle.job.proofs.Judged.{may-load}
 use Rattle.decoding.proofs.judge.Statement.{statement}
 use Rattle.decoding.proofs.judge.Tie as tie
 

@@ -1,0 +1,2 @@
+pub mod Tallying
+pub mod Preparing
