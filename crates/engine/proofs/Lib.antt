@@ -1,3 +1,4 @@
 pub mod Filling
 pub mod Unchanged
 pub mod Carried
+pub mod Accepted
