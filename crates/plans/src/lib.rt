@@ -54,33 +54,29 @@ fn is_forbidden(t: &[u32], n: NodeNum, monitored: bool, event: Event) -> bool
     false
 }
 
-// The plan of a stopped turn, which leaves everything as it is.
-fn stopped(local: Local, outcome: Outcome) -> Plan
-    ensures { λ r. ⌜ r ≡ plan local Change.Nothing outcome ⌝ }
+// The plan with these parts.
+fn planned(local: Local, change: Change, outcome: Outcome) -> Plan
+    ensures { λ r. ⌜ r ≡ plan local change outcome ⌝ }
 {
     Plan {
         local: local,
-        change: Change::Nothing,
+        change: change,
         outcome: outcome,
     }
 }
 
-// The plan of a completed turn.
-fn completed(local: Local, change: Change, n: NodeNum, event: Event) -> Plan
-    ensures { λ r. ⌜ r ≡ plan local change (Outcome.Made (entryBy n event)) ⌝ }
+// A trace entry.
+fn entry_of(n: NodeNum, event: Event) -> Entry
+    ensures { λ r. ⌜ r ≡ entryBy n event ⌝ }
 {
-    let entry = Entry {
+    Entry {
         node: n,
         event: event,
-    };
-    Plan {
-        local: local,
-        change: change,
-        outcome: Outcome::Made(entry),
     }
 }
 
-// The turn of a node at a handler command: forbidden, a target full, or made.
+// The turn of a node at a handler command: forbidden, a target full, or made. What the command does is worked out first, and stands in the
+// plan of a turn that is made only.
 fn decide<'a>(
     t: &[u32],
     n: NodeNum,
@@ -94,24 +90,17 @@ fn decide<'a>(
     ensures { λ r. ⌜ Decides (now (t .entry)) n monitored instruction local (now (waiting .entry)) (now (variable .entry)) r ⌝ }
 {
     let event = event_of(t, instruction, local.accumulator, variable);
-    if is_forbidden(t, n, monitored, event) {
-        let shown = redact(event);
-        let entry = Entry {
-            node: n,
-            event: shown,
-        };
-        return stopped(local, Outcome::Forbidden(entry));
-    }
-    if blocks(t, n, instruction, waiting) {
-        let entry = Entry {
-            node: n,
-            event: event,
-        };
-        return stopped(local, Outcome::Full(entry));
-    }
     let effect = effect_of(t, instruction, local, variable);
     let change = effect.change;
-    completed(effect.local, change, n, event)
+    if is_forbidden(t, n, monitored, event) {
+        let entry = entry_of(n, redact(event));
+        return planned(local, Change::Nothing, Outcome::Forbidden(entry));
+    }
+    let entry = entry_of(n, event);
+    if blocks(t, n, instruction, waiting) {
+        return planned(local, Change::Nothing, Outcome::Full(entry));
+    }
+    planned(effect.local, change, Outcome::Made(entry))
 }
 
 // The turn of a node, by its numbers, the message in its first slot, how many messages wait at each node, and the variables.
@@ -132,23 +121,25 @@ pub fn plan_turn<'a>(
     let position = local.position;
     if position == IDLE {
         if waiting[i] == 0 {
-            return stopped(local, Outcome::Unready(n));
+            return planned(local, Change::Nothing, Outcome::Unready(n));
         }
+        let entry = entry_of(n, Event::Begin(oldest));
         let begun = Local {
             position: 0,
             accumulator: 0,
             message: oldest,
         };
-        return completed(begun, Change::Take, n, Event::Begin(oldest));
+        return planned(begun, Change::Take, Outcome::Made(entry));
     }
     if position < length_of(t, n) {
         let instruction = fetch(work, n, position);
         return decide(t, n, monitored, instruction, local, waiting, variable);
     }
+    let entry = entry_of(n, Event::Finish);
     let idle = Local {
         position: IDLE,
         accumulator: 0,
         message: 0,
     };
-    completed(idle, Change::Nothing, n, Event::Finish)
+    planned(idle, Change::Nothing, Outcome::Made(entry))
 }

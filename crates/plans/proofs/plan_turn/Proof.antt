@@ -1,12 +1,10 @@
 -- `plans::plan_turn` meets its contract.
-use mathlib.Core.Path.{sym, _∙_, subst}
+use mathlib.Core.Path.{sym, _∙_}
 use native.Mathlib.Omega.{arith}
 use denote.Ref.{now}
 use borrow.Author.Needs.{needs}
 use Rattle.job.specs.Program.{programIn}
-use Rattle.entries.specs.Entries.{ruleOf}
 use Rattle.entries.proofs.Names.{length-by, command-by}
-use Rattle.plans.specs.Plans.{Plans}
 use Rattle.plans.proofs.Turning.{unready-planned, begun-planned, finished-planned, executed-planned}
 use Rattle.plans.proofs.plan_turn.Statement.{statement}
 use Rattle.plans.proofs.plan_turn.Tie as tie
@@ -17,25 +15,26 @@ cast-i c = search needs
 element-copy-out-if2 : tie.Need-element-copy-out-if2
 element-copy-out-if2 c = search needs
 
-stopped-requires : tie.Need-stopped-requires
-stopped-requires c κs = search needs
+planned-requires : tie.Need-planned-requires
+planned-requires c κs = search needs
 
 returns : tie.Need-returns
 returns c s h counts first =
     let a = c .before .before .before .before .before .before .before .before .args in
-    let P = programIn (now (a .t)) (now (a .work)) in
-    subst (Plans P s (a .n .0) (ruleOf (a .monitored) P s (a .n .0))) (sym (c .stopped .ensures))
-    (unready-planned P s (a .n) (a .monitored) (a .local) (h .own) (c .before .before .before .if1 .taken) (counts (a .n .0) ∙ c .before .if2 .taken))
+    rw (c .planned .ensures)
+    (unready-planned (programIn (now (a .t)) (now (a .work))) s (a .n) (a .monitored) (a .local) (h .own) (c .before .before .before .if1 .taken) (counts (a .n .0) ∙ c .before .if2 .taken))
 
-completed-requires : tie.Need-completed-requires
-completed-requires c κs = search needs
+entry-of-requires : tie.Need-entry-of-requires
+entry-of-requires c κs = search needs
+
+planned-requires-2 : tie.Need-planned-requires-2
+planned-requires-2 c κs = search needs
 
 returns-2 : tie.Need-returns-2
 returns-2 c s h counts first =
-    let a = c .before .before .before .before .before .before .before .before .args in
-    let P = programIn (now (a .t)) (now (a .work)) in
-    subst (Plans P s (a .n .0) (ruleOf (a .monitored) P s (a .n .0))) (sym (c .completed .ensures))
-    (begun-planned P s (a .n) (a .monitored) (a .local) (h .own) (c .before .before .before .if1 .taken) (λ e. c .before .if2 .left (sym (counts (a .n .0)) ∙ e)) (a .oldest) (first (omega (arith, counts (a .n .0), c .before .if2 .left))))
+    let a = c .before .before .before .before .before .before .before .before .before .args in
+    rw (c .planned2 .ensures, c .before .entry-of .ensures)
+    (begun-planned (programIn (now (a .t)) (now (a .work))) s (a .n) (a .monitored) (a .local) (h .own) (c .before .before .before .before .if1 .taken) (λ e. c .before .before .if2 .left (sym (counts (a .n .0)) ∙ e)) (a .oldest) (first (omega (arith, counts (a .n .0), c .before .before .if2 .left))))
 
 length-of-requires : tie.Need-length-of-requires
 length-of-requires c κs = search needs
@@ -49,20 +48,21 @@ decide-requires c κs = search needs
 returns-3 : tie.Need-returns-3
 returns-3 c s h counts first =
     let a = c .before .before .before .before .before .before .before .before .before .args in
-    let P = programIn (now (a .t)) (now (a .work)) in
     let l = c .before .before .before .length-of .ensures in
-    executed-planned P s (a .n) (a .monitored) (a .local) (h .own) (c .before .before .before .before .if1 .left) (omega (arith, c .before .before .if3 .taken, l, length-by (now (a .t)) (now (a .work)) (a .n .0)))
+    executed-planned (programIn (now (a .t)) (now (a .work))) s (a .n) (a .monitored) (a .local) (h .own) (c .before .before .before .before .if1 .left) (omega (arith, c .before .before .if3 .taken, l, length-by (now (a .t)) (now (a .work)) (a .n .0)))
     _ (c .before .fetch .ensures ∙ sym (command-by (now (a .t)) (now (a .work)) (a .n .0) (a .local .position) (omega (arith, c .before .before .if3 .taken, l)))) _ (c .decide .ensures (now (a .work)) s h counts)
 
-completed-requires-2 : tie.Need-completed-requires-2
-completed-requires-2 c κs = search needs
+entry-of-requires-2 : tie.Need-entry-of-requires-2
+entry-of-requires-2 c κs = search needs
+
+planned-requires-3 : tie.Need-planned-requires-3
+planned-requires-3 c κs = search needs
 
 returns-4 : tie.Need-returns-4
 returns-4 c s h counts first =
-    let a = c .before .before .before .before .before .before .before .before .args in
-    let P = programIn (now (a .t)) (now (a .work)) in
-    subst (Plans P s (a .n .0) (ruleOf (a .monitored) P s (a .n .0))) (sym (c .completed2 .ensures))
-    (finished-planned P s (a .n) (a .monitored) (a .local) (h .own) (c .before .before .before .if1 .left) (omega (arith, c .before .if3 .left, c .before .before .length-of .ensures, length-by (now (a .t)) (now (a .work)) (a .n .0))))
+    let a = c .before .before .before .before .before .before .before .before .before .args in
+    rw (c .planned3 .ensures, c .before .entry-of2 .ensures)
+    (finished-planned (programIn (now (a .t)) (now (a .work))) s (a .n) (a .monitored) (a .local) (h .own) (c .before .before .before .before .if1 .left) (omega (arith, c .before .before .if3 .left, c .before .before .before .length-of .ensures, length-by (now (a .t)) (now (a .work)) (a .n .0))))
 
 pub plan-turn-spec : {M : Type 1} → statement M
 plan-turn-spec =
@@ -70,13 +70,15 @@ plan-turn-spec =
     (tie.spec
     cast-i
     element-copy-out-if2
-    stopped-requires
+    planned-requires
     returns
-    completed-requires
+    entry-of-requires
+    planned-requires-2
     returns-2
     length-of-requires
     fetch-requires
     decide-requires
     returns-3
-    completed-requires-2
+    entry-of-requires-2
+    planned-requires-3
     returns-4)
