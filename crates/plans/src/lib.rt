@@ -93,7 +93,8 @@ fn decide<'a>(
     let effect = effect_of(t, instruction, local, variable);
     let change = effect.change;
     if is_forbidden(t, n, monitored, event) {
-        let entry = entry_of(n, redact(event));
+        let shown = redact(event);
+        let entry = entry_of(n, shown);
         return planned(local, Change::Nothing, Outcome::Forbidden(entry));
     }
     let entry = entry_of(n, event);
