@@ -6,7 +6,7 @@ ghost use Rattle.job.specs.Program.{programIn};
 ghost use Rattle.entries.specs.Entries.{ruleOf};
 ghost use Rattle.bench.specs.Bench.{Prepares, tally};
 use command::numbers::NodeNum;
-use engine::start::start;
+use engine::start;
 use entries::Outcome;
 use entries::value_of;
 use handlers::load::load;

@@ -1,4 +1,2 @@
-pub mod Filling
-pub mod Unchanged
 pub mod Carried
 pub mod Accepted

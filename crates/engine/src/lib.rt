@@ -2,16 +2,15 @@
 ghost use mathlib.Core.Path.{_≡_};
 ghost use Prim.Native.Nat.{ℕ, _<_};
 ghost use Rattle.queues.specs.Queues.{Sound};
-ghost use Rattle.engine.specs.Engine.{Turns};
-use changes::change_queues;
-use changes::change_variable;
+ghost use Rattle.engine.specs.Engine.{Starts, Turns};
 use command::numbers::NodeNum;
 use effects::Local;
 use entries::Outcome;
+use memory::changes::change_queues;
+use memory::changes::change_variable;
+use memory::filling::fill_queues;
+use memory::filling::fill_variables;
 use plans::plan_turn;
-
-pub mod changes;
-pub mod start;
 
 // The state of a run: of each node the position in its handler, the accumulator (01's "hand"), the message being handled and how many
 // messages wait; the waiting messages of all nodes, 16 slots a node, oldest first; the variables.
@@ -28,6 +27,25 @@ pub struct State {
 pub struct Turned {
     pub state: State,
     pub outcome: Outcome,
+}
+
+// Every node is idle, its accumulator and message 0; the queues hold the START values, the variables their starts.
+pub fn start(t: &[u32]) -> State
+    ensures { λ r. ⌜ Starts (now (t .entry)) r ⌝ }
+{
+    let mut s = State {
+        position: [255; 32],
+        accumulator: [0; 32],
+        message: [0; 32],
+        waiting: [0; 32],
+        queue: [0; 512],
+        variable: [0; 64],
+    };
+    let mut waiting = s.waiting;
+    fill_queues(&mut s.queue, &mut waiting, t);
+    s.waiting = waiting;
+    fill_variables(&mut s.variable, t);
+    s
 }
 
 impl State {

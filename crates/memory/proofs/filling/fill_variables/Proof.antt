@@ -1,12 +1,12 @@
--- `engine::start::fill_variables` meets its contract.
+-- `memory::filling::fill_variables` meets its contract.
 use Prim.Native.Nat.{_-_}
 use native.Mathlib.Omega.{arith}
 use borrow.Author.Needs.{needs}
 use Rattle.model.specs.Table.{maxVariables}
 use Rattle.tables.specs.Tables.{startIn}
-use Rattle.engine.proofs.Filling.{Filled, filled-none, filled-more, filled-all}
-use Rattle.engine.proofs.start.fill_variables.Statement.{statement}
-use Rattle.engine.proofs.start.fill_variables.Tie as tie
+use Rattle.memory.proofs.Filled.{Filled, filled-none, filled-more, filled-all}
+use Rattle.memory.proofs.filling.fill_variables.Statement.{statement}
+use Rattle.memory.proofs.filling.fill_variables.Tie as tie
 
 abbrev Inv-loop : tie.InvT-loop
 Inv-loop variable₀ t x₀ variable x = Filled (startIn t) 0 maxVariables x variable

@@ -1,4 +1,4 @@
-// The start of a run.
+// What the arrays hold at the start of a run.
 ghost use mathlib.Core.Path.{_≡_};
 ghost use Prim.Native.Nat.{ℕ};
 ghost use lib.ListN.{length};
@@ -6,8 +6,6 @@ ghost use Rattle.model.specs.Table.{maxNodes, maxVariables};
 ghost use Rattle.model.specs.State.{tabulate};
 ghost use Rattle.tables.specs.Tables.{startIn, firstsIn};
 ghost use Rattle.queues.specs.Queues.{Holds};
-ghost use Rattle.engine.specs.Engine.{Starts};
-use crate::State;
 use command::numbers::NodeNum;
 use command::numbers::VarNum;
 use declared::First;
@@ -15,7 +13,7 @@ use declared::first_of;
 use declared::start_of;
 
 // The variables hold their starts.
-fn fill_variables(variable: &mut [u32; 64], t: &[u32])
+pub fn fill_variables(variable: &mut [u32; 64], t: &[u32])
     requires { ⌜ length (now variable) ≡ 64 ⌝ }
     ensures { λ _. ⌜ now (variable .exit) ≡ tabulate maxVariables (startIn (now (t .entry))) ⌝ }
 {
@@ -27,7 +25,7 @@ fn fill_variables(variable: &mut [u32; 64], t: &[u32])
 }
 
 // The queues hold the START values.
-fn fill_queues(queue: &mut [u32; 512], waiting: &mut [u8; 32], t: &[u32])
+pub fn fill_queues(queue: &mut [u32; 512], waiting: &mut [u8; 32], t: &[u32])
     requires { ⌜ (length (now queue) ≡ 512) × (length (now waiting) ≡ 32) ⌝ }
     ensures { λ _. ⌜ Holds (now (waiting .exit)) (now (queue .exit)) (tabulate maxNodes (firstsIn (now (t .entry)))) ⌝ }
 {
@@ -42,23 +40,4 @@ fn fill_queues(queue: &mut [u32; 512], waiting: &mut [u8; 32], t: &[u32])
         }
         n += 1;
     }
-}
-
-// Every node is idle, its accumulator and message 0; the queues hold the START values, the variables their starts.
-pub fn start(t: &[u32]) -> State
-    ensures { λ r. ⌜ Starts (now (t .entry)) r ⌝ }
-{
-    let mut s = State {
-        position: [255; 32],
-        accumulator: [0; 32],
-        message: [0; 32],
-        waiting: [0; 32],
-        queue: [0; 512],
-        variable: [0; 64],
-    };
-    let mut waiting = s.waiting;
-    fill_queues(&mut s.queue, &mut waiting, t);
-    s.waiting = waiting;
-    fill_variables(&mut s.variable, t);
-    s
 }

@@ -1,8 +1,8 @@
--- `engine::changes::change_queues` meets its contract.
+-- `memory::changes::change_queues` meets its contract.
 use borrow.Author.Needs.{needs}
-use Rattle.engine.proofs.Unchanged.{queues-left}
-use Rattle.engine.proofs.changes.change_queues.Statement.{statement}
-use Rattle.engine.proofs.changes.change_queues.Tie as tie
+use Rattle.memory.proofs.Unchanged.{queues-left}
+use Rattle.memory.proofs.changes.change_queues.Statement.{statement}
+use Rattle.memory.proofs.changes.change_queues.Tie as tie
 
 enum-told : tie.Need-enum-told
 enum-told c = search needs

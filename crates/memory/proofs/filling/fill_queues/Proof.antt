@@ -1,12 +1,12 @@
--- `engine::start::fill_queues` meets its contract.
+-- `memory::filling::fill_queues` meets its contract.
 use Prim.Native.Nat.{_-_}
 use mathlib.Core.Logic.{⊎-elim}
 use native.Mathlib.Omega.{arith}
 use borrow.Author.Needs.{needs}
 use Rattle.tables.specs.Tables.{firstsIn}
-use Rattle.engine.proofs.Filling.{Queued, queued-none, queued-one, queued-empty, queued-all}
-use Rattle.engine.proofs.start.fill_queues.Statement.{statement}
-use Rattle.engine.proofs.start.fill_queues.Tie as tie
+use Rattle.memory.proofs.Filled.{Queued, queued-none, queued-one, queued-empty, queued-all}
+use Rattle.memory.proofs.filling.fill_queues.Statement.{statement}
+use Rattle.memory.proofs.filling.fill_queues.Tie as tie
 
 abbrev Inv-loop : tie.InvT-loop
 Inv-loop queue₀ waiting₀ t n₀ queue waiting n = Queued (firstsIn t) n waiting queue

@@ -1,11 +1,11 @@
--- `engine::changes::change_variable` meets its contract.
+-- `memory::changes::change_variable` meets its contract.
 use mathlib.Core.Path.{sym}
 use native.Mathlib.Omega.{arith}
 use lib.Seq.{set-out}
 use borrow.Author.Needs.{needs}
-use Rattle.engine.proofs.Unchanged.{variables-left}
-use Rattle.engine.proofs.changes.change_variable.Statement.{statement}
-use Rattle.engine.proofs.changes.change_variable.Tie as tie
+use Rattle.memory.proofs.Unchanged.{variables-left}
+use Rattle.memory.proofs.changes.change_variable.Statement.{statement}
+use Rattle.memory.proofs.changes.change_variable.Tie as tie
 
 enum-known-change : tie.Need-enum-known-change
 enum-known-change c = search needs

@@ -1,9 +1,9 @@
--- `engine::start::start` meets its contract.
+-- `engine::start` meets its contract.
 use borrow.Author.Needs.{needs}
 use Rattle.model.specs.State.{initialState}
 use Rattle.job.specs.Program.{programIn}
-use Rattle.engine.proofs.start.start.Statement.{statement}
-use Rattle.engine.proofs.start.start.Tie as tie
+use Rattle.engine.proofs.start.Statement.{statement}
+use Rattle.engine.proofs.start.Tie as tie
 
 fill-queues-requires : tie.Need-fill-queues-requires
 fill-queues-requires c κs = search needs
