@@ -1,0 +1,12 @@
+//! One script, run by the proved engine and by the second implementation.
+//!
+//! The proved engine takes the state of a run by value and hands it back with each turn; the second
+//! implementation changes it in place.
+
+pub mod arguments;
+pub mod compare;
+pub mod job;
+pub mod proved;
+pub mod reference;
+pub mod rounds;
+pub mod script;
