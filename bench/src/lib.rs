@@ -7,6 +7,7 @@ pub mod arguments;
 pub mod compare;
 pub mod job;
 pub mod proved;
+pub mod random;
 pub mod reference;
 pub mod rounds;
 pub mod script;

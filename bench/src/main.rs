@@ -4,11 +4,12 @@ use std::process::ExitCode;
 
 use flow_bench::arguments::{self, Arguments};
 use flow_bench::compare::compare;
+use flow_bench::random;
 use flow_bench::rounds::Bench;
 use flow_bench::script::Script;
 
 const USAGE: &str =
-    "usage: bench ENGINE MODE ROUNDS | bench time ENGINE MODE ROUNDS | bench compare | bench mix
+    "usage: bench ENGINE MODE ROUNDS | bench time ENGINE MODE ROUNDS | bench compare | bench mix | bench random SEED COUNT
 ENGINE: proved or reference; MODE: monitored or bare";
 
 /// The sum of the rounds' sums.
@@ -49,11 +50,24 @@ fn print_comparison() -> ExitCode {
     }
 }
 
+/// Compares the engines on generated jobs.
+fn print_random(seed: &str, count: &str) -> Option<ExitCode> {
+    match random::compare(seed.parse().ok()?, count.parse().ok()?) {
+        Ok(turns) => println!("{count} jobs, {turns} turns, monitored and bare: no difference"),
+        Err(difference) => {
+            println!("{difference}");
+            return Some(ExitCode::FAILURE);
+        }
+    }
+    Some(ExitCode::SUCCESS)
+}
+
 /// Does what the words ask for; none if they ask for nothing.
 fn execute(words: &[&str]) -> Option<ExitCode> {
     match words {
         ["compare"] => return Some(print_comparison()),
         ["mix"] => print_mix(),
+        ["random", seed, count] => return print_random(seed, count),
         ["time", words @ ..] => print_time(&arguments::read(words)?),
         _ => print_sum(&arguments::read(words)?),
     }
