@@ -2,36 +2,36 @@
 use Prim.Native.Nat.{ℕ, _%_}
 use mathlib.Core.Path.{_≡_}
 use mathlib.Core.Bool.{Bool, false, cond}
-use mathlib.Core.List.{List, [], _∷_}
+use mathlib.Core.List.{List, [], _∷_, map}
 use lib.Dec.{leb}
 use lib.ListN.{length}
 use Rattle.model.specs.Table.{maxNodes}
 use Rattle.model.specs.Command.{Command}
 use Rattle.model.specs.State.{State}
-use Rattle.model.specs.Turn.{Turned, completed, stopped, sum32}
+use Rattle.model.specs.Turn.{Entry, Turned, sum32}
+use Rattle.model.specs.Run.{runFrom, entriesOf}
 use Rattle.model.specs.Refusal.{Refusal, Decoded, accepted, rejected, workSize}
 use Rattle.tables.specs.Cells.{blank}
 use Rattle.tables.specs.Stands.{Stands}
 use Rattle.handlers.specs.Loading.{loaded, commandsOf}
 
 -- the job is accepted, and the work buffer long enough
-abbrev pub isReady : Decoded → ℕ → Bool
-isReady (accepted past) size = leb workSize size
-isReady (rejected r) size = false
+abbrev pub isPrepared : Decoded → ℕ → Bool
+isPrepared (accepted past) size = leb workSize size
+isPrepared (rejected r) size = false
 
 -- what preparing leaves: the tables of the job, blank ones if it is refused, and the handlers of a job that is ready
 pub record Prepares (d : Decoded) (t before after : List ℕ) (answer : Bool) : Type 0 where
-  pub ready : answer ≡ isReady d (length before)
+  pub ready : answer ≡ isPrepared d (length before)
   pub tables : (past : List Command) → d ≡ accepted past → Stands t past
   pub cleared : (q : Refusal) → d ≡ rejected q → t ≡ blank
   pub work : after ≡ cond answer (loaded before (commandsOf d)) before
 
--- the total with a completed turn's value, which goes on behind the turn; a stopped turn ends it
-abbrev pub onward : (State → ℕ → ℕ) → ℕ → Turned → ℕ
-onward rest total (completed x s) = rest s (sum32 total (x .value))
-onward rest total (stopped k x) = total
+-- a total with the values of these entries added, modulo 2^32
+abbrev pub summed : List Entry → ℕ → ℕ
+summed [] total = total
+summed (x ∷ entries) total = summed entries (sum32 total (x .value))
 
--- the values of the entries made from a state on, added to a total: turn after turn of these nodes, each taken modulo 32, until a stop or the last
+-- a total with the values of the entries added that a run of these nodes makes from a state on; each node number is taken modulo 32
 unfoldable pub tally : (State → ℕ → Turned) → List ℕ → State → ℕ → ℕ
-tally rule [] s total = total
-tally rule (n ∷ nodes) s total = onward (tally rule nodes) total (rule s (n % maxNodes))
+tally rule nodes s total = summed (entriesOf (runFrom rule (map (λ n. n % maxNodes) nodes) s .steps)) total

@@ -32,7 +32,7 @@ pub extern "C" fn leqsumir_bench_prepare(job: &[u8], t: &mut [u32; CELLS], work:
     }
 }
 
-// The sum of the values of the entries that the turns of these nodes make, from the start on.
+// The sum modulo 2^32 of the values of the entries that the turns of these nodes, taken modulo 32, make from the start to the last or a stop.
 #[no_mangle]
 pub extern "C" fn leqsumir_bench_turns(t: &[u32], work: &[u8], nodes: &[u8], monitored: bool) -> u32
     ensures { λ r. ⌜ r ≡ tally (ruleOf monitored (programIn (now (t .entry)) (now (work .entry)))) (now (nodes .entry)) (initialState (programIn (now (t .entry)) (now (work .entry)))) 0 ⌝ }

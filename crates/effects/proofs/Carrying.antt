@@ -13,15 +13,15 @@ use Rattle.command.specs.declared.instruction.Instruction.{Instruction}
 use Rattle.command.specs.declared.instruction.Instruction.the-variants as i
 use Rattle.command.specs.Instructions.{instructionOf}
 use Rattle.job.specs.Program.{programIn}
-use Rattle.effects.specs.declared.Local.{Local}
+use Rattle.effects.specs.declared.Registers.{Registers}
 use Rattle.effects.specs.declared.Change.{Change}
 use Rattle.effects.specs.declared.Change.the-variants as c
 use Rattle.effects.specs.declared.Effect.{Effect}
-use Rattle.effects.specs.Effects.{local, effect, localAt, queuesBehind, variablesBehind, carried, Possible, Shows, Does, Performs}
+use Rattle.effects.specs.Effects.{registers, effect, registersAt, queuesAfter, variablesAfter, carried, Possible, Shows, Does, Performs}
 
 -- the state with a new position of node n and behind its change
 abbrev pub behind : Program → State → ℕ → ℕ → Change → State
-behind P s n p x = record { position = set (s .position) n p; accumulator = s .accumulator; message = s .message; queue = queuesBehind (P .wired n) n (accumulatorAt s n) (s .queue) x; variable = variablesBehind (accumulatorAt s n) (s .variable) x }
+behind P s n p x = record { position = set (s .position) n p; accumulator = s .accumulator; message = s .message; queue = queuesAfter (P .wired n) n (accumulatorAt s n) (s .queue) x; variable = variablesAfter (accumulatorAt s n) (s .variable) x }
 
 module _ (P : Program) (s : State) (n : ℕ) where
   -- the message is written back, the accumulator is
@@ -32,20 +32,20 @@ module _ (P : Program) (s : State) (n : ℕ) where
   accumulator-same = set-getD (s .accumulator) n 0
 
   -- everything is written back
-  pub stays : carried P s n (localAt s n) c.Nothing ≡ s
+  pub stays : carried P s n (registersAt s n) c.Nothing ≡ s
   stays = λ j. record { position = set-getD (s .position) n 0 j; accumulator = accumulator-same j; message = message-same j; queue = s .queue; variable = s .variable }
 
   -- position and accumulator are new
-  takes : (p a : ℕ) → carried P s n (local p a (messageAt s n)) c.Nothing ≡ withPosition (withAccumulator s n a) n p
+  takes : (p a : ℕ) → carried P s n (registers p a (messageAt s n)) c.Nothing ≡ withPosition (withAccumulator s n a) n p
   takes p a = λ j. record { position = set (s .position) n p; accumulator = set (s .accumulator) n a; message = message-same j; queue = s .queue; variable = s .variable }
 
   -- the position is new, and what the change makes
-  goes : (p : ℕ) (x : Change) → carried P s n (local p (accumulatorAt s n) (messageAt s n)) x
+  goes : (p : ℕ) (x : Change) → carried P s n (registers p (accumulatorAt s n) (messageAt s n)) x
       ≡ behind P s n p x
-  goes p x = λ j. record { position = set (s .position) n p; accumulator = accumulator-same j; message = message-same j; queue = queuesBehind (P .wired n) n (accumulatorAt s n) (s .queue) x; variable = variablesBehind (accumulatorAt s n) (s .variable) x }
+  goes p x = λ j. record { position = set (s .position) n p; accumulator = accumulator-same j; message = message-same j; queue = queuesAfter (P .wired n) n (accumulatorAt s n) (s .queue) x; variable = variablesAfter (accumulatorAt s n) (s .variable) x }
 
 -- what a command does, by the effect that it has in a state with these numbers
-module _ (t : List ℕ) (l : Local) (xs : List ℕ) (k : Instruction) (r : Effect) where
+module _ (t : List ℕ) (l : Registers) (xs : List ℕ) (k : Instruction) (r : Effect) where
   by-effect : (x : Effect) → r ≡ x → ((w : List ℕ) (s : State) (n : ℕ) → Shows s n l xs → Does (programIn t w) s n (instructionOf k) x) → Performs t k l xs r
   unfolding Performs
   by-effect x e does w s n h = subst (Does (programIn t w) s n (instructionOf k)) (sym e) (does w s n h)
@@ -58,7 +58,7 @@ module _ (t : List ℕ) (l : Local) (xs : List ℕ) (k : Instruction) (r : Effec
       (λ w s n h.
       let P = programIn t w in
       record {
-        state = subst (λ (o : Local). carried P s n (local (o .position + 1) a (o .message)) c.Nothing ≡ advanced (withAccumulator s n a) n) (h .own) (takes P s n (positionAt s n + 1) a) ∙ sym (same w s n h);
+        state = subst (λ (o : Registers). carried P s n (registers (o .position + 1) a (o .message)) c.Nothing ≡ advanced (withAccumulator s n a) n) (h .own) (takes P s n (positionAt s n + 1) a) ∙ sym (same w s n h);
         possible = λ _. tt;
       })
 
@@ -74,7 +74,7 @@ module _ (t : List ℕ) (l : Local) (xs : List ℕ) (k : Instruction) (r : Effec
       (λ w s n h.
       let P = programIn t w in
       record {
-        state = ap (λ (o : Local). carried P s n (local p (o .accumulator) (o .message)) x) (sym (h .own)) ∙ goes P s n p x ∙ sym (same w s n h);
+        state = ap (λ (o : Registers). carried P s n (registers p (o .accumulator) (o .message)) x) (sym (h .own)) ∙ goes P s n p x ∙ sym (same w s n h);
         possible = can w s n;
       })
 
@@ -91,25 +91,25 @@ module _ (t : List ℕ) (l : Local) (xs : List ℕ) (k : Instruction) (r : Effec
       → ((w : List ℕ) (s : State) (n : ℕ) → blocked (programIn t w) s n (instructionOf k) ≡ false → Possible (programIn t w .wired n) n (waitingAt s) x)
       → Performs t k l xs r
   nexts x e same = leads (l .position + 1) x e
-      (λ w s n h. same w s n ∙ ap (λ (o : Local). behind (programIn t w) s n (o .position + 1) x) (h .own))
+      (λ w s n h. same w s n ∙ ap (λ (o : Registers). behind (programIn t w) s n (o .position + 1) x) (h .own))
 
 -- the commands that work on the accumulator
-module _ (t : List ℕ) (l : Local) (xs : List ℕ) (r : Effect) (a : ℕ) (e : r ≡ effect (l .position + 1) a (l .message) c.Nothing) where
+module _ (t : List ℕ) (l : Registers) (xs : List ℕ) (r : Effect) (a : ℕ) (e : r ≡ effect (l .position + 1) a (l .message) c.Nothing) where
   pub gets : (x : VarNum) → a ≡ getD xs (x .0) 0 → Performs t (i.Get x) l xs r
   gets x v = sets t l xs (i.Get x) r a e (λ w s n h. ap (λ (ys : List ℕ). advanced (withAccumulator s n (getD ys (x .0) 0)) n) (h .variables) ∙ ap (λ (b : ℕ). advanced (withAccumulator s n b) n) (sym v))
 
   pub adds : (v : ℕ) → a ≡ sum32 (l .accumulator) v → Performs t (i.Add v) l xs r
-  adds v q = sets t l xs (i.Add v) r a e (λ w s n h. ap (λ (o : Local). advanced (withAccumulator s n (sum32 (o .accumulator) v)) n) (h .own) ∙ ap (λ (b : ℕ). advanced (withAccumulator s n b) n) (sym q))
+  adds v q = sets t l xs (i.Add v) r a e (λ w s n h. ap (λ (o : Registers). advanced (withAccumulator s n (sum32 (o .accumulator) v)) n) (h .own) ∙ ap (λ (b : ℕ). advanced (withAccumulator s n b) n) (sym q))
 
   pub pluses : (x : VarNum) (v : ℕ) → v ≡ getD xs (x .0) 0 → a ≡ sum32 (l .accumulator) v → Performs t (i.Plus x) l xs r
   pluses x v p q =
       sets t l xs (i.Plus x) r a e
       (λ w s n h.
-      ap (λ (o : Local). advanced (withAccumulator s n (sum32 (o .accumulator) (getD (s .variable) (x .0) 0))) n) (h .own)
+      ap (λ (o : Registers). advanced (withAccumulator s n (sum32 (o .accumulator) (getD (s .variable) (x .0) 0))) n) (h .own)
       ∙ ap (λ (ys : List ℕ). advanced (withAccumulator s n (sum32 (l .accumulator) (getD ys (x .0) 0))) n) (h .variables)
       ∙ ap (λ (b : ℕ). advanced (withAccumulator s n b) n) (ap (sum32 (l .accumulator)) (sym p) ∙ sym q))
 
 -- what an effect does in one state
-pub does-at : (t : List ℕ) (k : Instruction) (l : Local) (xs : List ℕ) (x : Effect) → Performs t k l xs x → (w : List ℕ) (s : State) (n : ℕ) → Shows s n l xs → Does (programIn t w) s n (instructionOf k) x
+pub does-at : (t : List ℕ) (k : Instruction) (l : Registers) (xs : List ℕ) (x : Effect) → Performs t k l xs x → (w : List ℕ) (s : State) (n : ℕ) → Shows s n l xs → Does (programIn t w) s n (instructionOf k) x
 unfolding Performs
 does-at t k l xs x p = p

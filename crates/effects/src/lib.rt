@@ -8,7 +8,7 @@ use declared::answer_of;
 use entries::variable_at;
 
 // A node's own numbers.
-pub struct Local {
+pub struct Registers {
     pub position: u32,
     pub accumulator: u32,
     pub message: u32,
@@ -24,17 +24,17 @@ pub enum Change {
 
 // What a handler command does: the node's numbers behind it, and its change.
 pub struct Effect {
-    pub local: Local,
+    pub registers: Registers,
     pub change: Change,
 }
 
 // The effect of a command that goes on at a position with an accumulator.
-fn go_on(local: Local, position: u32, accumulator: u32, change: Change) -> Effect
-    ensures { λ r. ⌜ r ≡ effect position accumulator (local .message) change ⌝ }
+fn continue_at(registers: Registers, position: u32, accumulator: u32, change: Change) -> Effect
+    ensures { λ r. ⌜ r ≡ effect position accumulator (registers .message) change ⌝ }
 {
-    let message = local.message;
+    let message = registers.message;
     Effect {
-        local: Local {
+        registers: Registers {
             position: position,
             accumulator: accumulator,
             message: message,
@@ -44,27 +44,37 @@ fn go_on(local: Local, position: u32, accumulator: u32, change: Change) -> Effec
 }
 
 // What a handler command does.
-pub fn effect_of(t: &[u32], instruction: Instruction, local: Local, variable: &[u32]) -> Effect
-    requires { ⌜ local .position < 4294967295 ⌝ }
-    ensures { λ r. ⌜ Performs (now (t .entry)) instruction local (now (variable .entry)) r ⌝ }
+pub fn effect_of(
+    t: &[u32],
+    instruction: Instruction,
+    registers: Registers,
+    variable: &[u32],
+) -> Effect
+    requires { ⌜ registers .position < 4294967295 ⌝ }
+    ensures { λ r. ⌜ Performs (now (t .entry)) instruction registers (now (variable .entry)) r ⌝ }
 {
-    let next = local.position + 1;
-    let a = local.accumulator;
+    let next = registers.position + 1;
+    let a = registers.accumulator;
     match instruction {
-        Instruction::Set(value) => go_on(local, next, value, Change::Nothing),
-        Instruction::Take => go_on(local, next, local.message, Change::Nothing),
-        Instruction::Get(x) => go_on(local, next, variable_at(variable, x), Change::Nothing),
-        Instruction::Put(x) => go_on(local, next, a, Change::Store(x)),
-        Instruction::Add(value) => go_on(
-            local,
+        Instruction::Set(value) => continue_at(registers, next, value, Change::Nothing),
+        Instruction::Take => continue_at(registers, next, registers.message, Change::Nothing),
+        Instruction::Get(x) => continue_at(
+            registers,
+            next,
+            variable_at(variable, x),
+            Change::Nothing,
+        ),
+        Instruction::Put(x) => continue_at(registers, next, a, Change::Store(x)),
+        Instruction::Add(value) => continue_at(
+            registers,
             next,
             std::num::wrapping_add_u32(a, value),
             Change::Nothing,
         ),
         Instruction::Plus(x) => {
             let value = variable_at(variable, x);
-            go_on(
-                local,
+            continue_at(
+                registers,
                 next,
                 std::num::wrapping_add_u32(a, value),
                 Change::Nothing,
@@ -72,13 +82,13 @@ pub fn effect_of(t: &[u32], instruction: Instruction, local: Local, variable: &[
         }
         Instruction::JumpZero(target) => {
             if a == 0 {
-                return go_on(local, target, a, Change::Nothing);
+                return continue_at(registers, target, a, Change::Nothing);
             }
-            go_on(local, next, a, Change::Nothing)
+            continue_at(registers, next, a, Change::Nothing)
         }
-        Instruction::Jump(target) => go_on(local, target, a, Change::Nothing),
-        Instruction::Send(port) => go_on(local, next, a, Change::Send(port)),
-        Instruction::Call(f) => go_on(local, next, answer_of(t, f), Change::Nothing),
-        Instruction::Skip => go_on(local, next, a, Change::Nothing),
+        Instruction::Jump(target) => continue_at(registers, target, a, Change::Nothing),
+        Instruction::Send(port) => continue_at(registers, next, a, Change::Send(port)),
+        Instruction::Call(f) => continue_at(registers, next, answer_of(t, f), Change::Nothing),
+        Instruction::Skip => continue_at(registers, next, a, Change::Nothing),
     }
 }

@@ -1,7 +1,10 @@
 -- The engine on an accepted job, by the program that tables and work buffer stand for.
 use mathlib.Core.Path.{_∙_, ap, subst}
+use native.Mathlib.Omega.{arith}
 use Rattle.model.specs.Program.{Program}
 use Rattle.model.specs.State.{initialState}
+use Rattle.model.proofs.Ranges.{turns-inside}
+use Rattle.model.proofs.Valid.{job-valid, limits}
 use Rattle.handlers.specs.Loading.{loaded}
 use Rattle.job.proofs.Prepared.{prepared}
 use Rattle.entries.specs.Entries.{Comes, ruleOf}
@@ -10,8 +13,10 @@ use Rattle.engine.specs.Accepted.{EngineHolds}
 
 pub engine-holds : EngineHolds
 engine-holds job t w past bytes e stands long =
-    let same = prepared job t w past bytes e stands long .program in
+    let p = prepared job t w past bytes e stands long in
+    let v = job-valid job past e .commands in
     record {
-      start = λ s h. h .start (loaded w past) ∙ ap initialState same;
-      turn = λ s n monitored turned h. subst (λ (P : Program). Comes (view s) (ruleOf monitored P (view s) n) (turned .outcome) (view (turned .state))) same (h .comes);
+      start = λ s h. h .start (loaded w past) ∙ ap initialState (p .program);
+      turn = λ s n monitored turned h. subst (λ (P : Program). Comes (view s) (ruleOf monitored P (view s) n) (turned .outcome) (view (turned .state))) (p .program) (h .comes);
+      nodes = λ k h. omega (arith, p .turn k h, turns-inside past v k h, limits past v .nodes);
     }

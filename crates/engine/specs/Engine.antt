@@ -1,12 +1,12 @@
 -- The state of a run in the code, and what its start and its turns are.
 use Prim.Native.Nat.{ℕ}
 use mathlib.Core.Path.{_≡_}
-use mathlib.Core.Bool.{Bool}
+use mathlib.Core.Bool.{Bool, true}
 use mathlib.Core.List.{List}
 use Rattle.model.specs.State.{State as Meant, initialState}
 use Rattle.job.specs.Program.{programIn}
-use Rattle.entries.specs.Entries.{Comes, ruleOf}
-use Rattle.queues.specs.Queues.{queues, Sound}
+use Rattle.entries.specs.Entries.{Comes, isStop, ruleOf}
+use Rattle.queues.specs.Queues.{queues, Bounded}
 use Rattle.engine.specs.declared.State.{State}
 use Rattle.engine.specs.declared.Turned.{Turned}
 
@@ -23,10 +23,11 @@ view s =
 
 -- no more messages wait at a node than it has slots, and the state stands for the start of the program in the tables, with all handlers
 pub record Starts (t : List ℕ) (s : State) : Type 0 where
-  pub sound : Sound (s .waiting)
+  pub bounded : Bounded (s .waiting)
   pub start : (w : List ℕ) → view s ≡ initialState (programIn t w)
 
 -- no more messages wait at a node than it has slots, and outcome and state are what the turn of the program in tables and work buffer comes to
 pub record Turns (t w : List ℕ) (n : ℕ) (monitored : Bool) (before : State) (turned : Turned) : Type 0 where
-  pub sound : Sound (turned .state .waiting)
+  pub bounded : Bounded (turned .state .waiting)
   pub comes : Comes (view before) (ruleOf monitored (programIn t w) (view before) n) (turned .outcome) (view (turned .state))
+  pub kept : isStop (turned .outcome) ≡ true → turned .state ≡ before

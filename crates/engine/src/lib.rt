@@ -1,10 +1,10 @@
 // The engine: the state of a run, its start, and one turn.
 ghost use mathlib.Core.Path.{_≡_};
 ghost use Prim.Native.Nat.{ℕ, _<_};
-ghost use Rattle.queues.specs.Queues.{Sound};
+ghost use Rattle.queues.specs.Queues.{Bounded};
 ghost use Rattle.engine.specs.Engine.{Starts, Turns};
 use command::numbers::NodeNum;
-use effects::Local;
+use effects::Registers;
 use entries::Outcome;
 use memory::changes::change_queues;
 use memory::changes::change_variable;
@@ -51,7 +51,7 @@ pub fn start(t: &[u32]) -> State
 impl State {
     // One turn of a node, by the program in tables and work buffer: planned first, and then carried out.
     pub fn turn(mut self, t: &[u32], work: &[u8], n: NodeNum, monitored: bool) -> Turned
-        requires { ⌜ Sound (self .waiting) ⌝ }
+        requires { ⌜ Bounded (self .waiting) ⌝ }
         requires { ⌜ n .0 < 32 ⌝ }
         ensures { λ r. ⌜ Turns (now (t .entry)) (now (work .entry)) (n .0) monitored self r ⌝ }
     {
@@ -60,7 +60,7 @@ impl State {
         let accumulator = self.accumulator[i];
         let message = self.message[i];
         let oldest = self.queue[i * 16];
-        let local = Local {
+        let registers = Registers {
             position: position,
             accumulator: accumulator,
             message: message,
@@ -70,12 +70,12 @@ impl State {
             work,
             n,
             monitored,
-            local,
+            registers,
             oldest,
             &self.waiting,
             &self.variable,
         );
-        let next = plan.local;
+        let next = plan.registers;
         let change = plan.change;
         let outcome = plan.outcome;
         let mut waiting = self.waiting;

@@ -1,7 +1,7 @@
 -- Trace entries and outcomes of a turn: the code's enums in document 01's numbers.
 use Prim.Native.Nat.{ℕ}
 use mathlib.Core.Path.{_≡_}
-use mathlib.Core.Bool.{Bool, cond}
+use mathlib.Core.Bool.{Bool, true, false, cond}
 use mathlib.Core.List.{List}
 use Rattle.model.specs.Program.{Program}
 use Rattle.model.specs.State.{State, accumulatorAt}
@@ -37,23 +37,30 @@ turnedBy (o.Forbidden x) s = stopped 1 (numbersOf x)
 turnedBy (o.Unready n) s = stopped 2 (entry (n .0) 0 0 0)
 turnedBy (o.Full x) s = stopped 3 (numbersOf x)
 
+-- the outcome is a stop
+abbrev pub isStop : Outcome → Bool
+isStop (o.Made x) = false
+isStop (o.Forbidden x) = true
+isStop (o.Unready n) = true
+isStop (o.Full x) = true
+
 -- the state behind a turn: a stopped turn leaves the state as it was
-abbrev pub stateBehind : State → Turned → State
-stateBehind s (completed x after) = after
-stateBehind s (stopped k x) = s
+abbrev pub stateAfter : State → Turned → State
+stateAfter s (completed x after) = after
+stateAfter s (stopped k x) = s
 
 -- an outcome and a state are what a turn of state `s` comes to
 pub record Comes (s : State) (turned : Turned) (outcome : Outcome) (after : State) : Type 0 where
   pub tells : turnedBy outcome after ≡ turned
-  pub leaves : after ≡ stateBehind s turned
+  pub leaves : after ≡ stateAfter s turned
 
 -- the rule for one turn of a monitored ("watched") or an unmonitored ("bare") run
 abbrev pub ruleOf : Bool → Program → State → ℕ → Turned
 ruleOf monitored P s n = cond monitored (monitoredTurn P s n) (turn P s n)
 
 -- the event is the one that the handler command leaves, with this accumulator and these variables before it, at every node and with all handlers
-abbrev pub Leaves : List ℕ → Instruction → ℕ → List ℕ → Event → Type 0
-Leaves t i accumulator variables x =
+abbrev pub LeavesEvent : List ℕ → Instruction → ℕ → List ℕ → Event → Type 0
+LeavesEvent t i accumulator variables x =
     (w : List ℕ) (s : State) (n : ℕ) → accumulatorAt s n ≡ accumulator → s .variable ≡ variables → entryFor n x ≡ entryOf (programIn t w) s n (instructionOf i)
 
 -- the answer says whether the lists permit a node's event, with all handlers

@@ -4,7 +4,7 @@ ghost use mathlib.Core.Bool.{cond};
 ghost use Prim.Native.Nat.{ℕ};
 ghost use lib.ListN.{getD};
 ghost use Rattle.tables.specs.Tables.{sharedIn};
-ghost use Rattle.entries.specs.Entries.{entryFor, Leaves, Judges, Redacts};
+ghost use Rattle.entries.specs.Entries.{entryFor, LeavesEvent, Judges, Redacts};
 use allowlists::may_call;
 use allowlists::may_read;
 use allowlists::may_write;
@@ -72,7 +72,7 @@ fn write_of(t: &[u32], x: VarNum, value: u32) -> Event
 
 // What a handler command leaves, by the accumulator and the variables before it.
 pub fn event_of(t: &[u32], instruction: Instruction, accumulator: u32, variable: &[u32]) -> Event
-    ensures { λ r. ⌜ Leaves (now (t .entry)) instruction accumulator (now (variable .entry)) r ⌝ }
+    ensures { λ r. ⌜ LeavesEvent (now (t .entry)) instruction accumulator (now (variable .entry)) r ⌝ }
 {
     match instruction {
         Instruction::Get(x) => read_of(t, x, variable),

@@ -37,11 +37,11 @@ filled-all {A} {f} {d} {k} {n} {l} s h =
 -- slots whose first n queues are a function's values; of the counts behind them nothing is known
 pub record Queued (f : ℕ → List ℕ) (n : ℕ) (ws slots : List ℕ) : Type 0 where
   pub places : length slots ≡ 512
-  pub sound : (i : ℕ) → i < n → getD ws i 0 ≤ 16
+  pub bounded : (i : ℕ) → i < n → getD ws i 0 ≤ 16
   pub filled : Filled f [] 32 n (queues ws slots)
 
 pub queued-none : (f : ℕ → List ℕ) (ws slots : List ℕ) → length slots ≡ 512 → length ws ≡ 32 → Queued f 0 ws slots
-queued-none f ws slots e c = record { places = e; sound = λ i h. absurd (omega arith); filled = filled-none f [] 32 (queues ws slots) (length-queues ws slots ∙ c) }
+queued-none f ws slots e c = record { places = e; bounded = λ i h. absurd (omega arith); filled = filled-none f [] 32 (queues ws slots) (length-queues ws slots ∙ c) }
 
 module _ {f : ℕ → List ℕ} {n : ℕ} {ws slots : List ℕ} (s : Queued f n ws slots) where
   -- one count a queue
@@ -57,7 +57,7 @@ module _ {f : ℕ → List ℕ} {n : ℕ} {ws slots : List ℕ} (s : Queued f n 
       let now : getD (set ws n w) n 0 ≡ w = getD-set-same ws n w 0 (omega (arith, counts)) in
       record {
         places = e;
-        sound = below-more (λ i. getD (set ws n w) i 0 ≤ 16) n (λ i b. rw (getD-set-other ws n i w 0 (λ q. omega arith)) (s .sound i b)) (rw now small);
+        bounded = below-more (λ i. getD (set ws n w) i 0 ≤ 16) n (λ i b. rw (getD-set-other ws n i w 0 (λ q. omega arith)) (s .bounded i b)) (rw now small);
         filled = rw (queues-change ws slots slots′ n w same) (filled-more (s .filled) h (take w (drop (16 * n) slots′)) mine);
       }
 
@@ -69,7 +69,7 @@ module _ {f : ℕ → List ℕ} {n : ℕ} {ws slots : List ℕ} (s : Queued f n 
   queued-one v h e = queued-more 1 (set slots (n * 16) v) h (omega arith) (length-set slots (n * 16) v ∙ s .places) same mine
     where
       same : (i : ℕ) → (i < n) ⊎ (n < i) → take (getD ws i 0) (drop (16 * i) (set slots (n * 16) v)) ≡ take (getD ws i 0) (drop (16 * i) slots)
-      same i o = part-set slots (16 * i) (getD ws i 0) (n * 16) v (⊎-elim (λ b. inr (omega (arith, s .sound i b))) (λ b. inl (omega arith)) o)
+      same i o = part-set slots (16 * i) (getD ws i 0) (n * 16) v (⊎-elim (λ b. inr (omega (arith, s .bounded i b))) (λ b. inl (omega arith)) o)
 
       mine : take 1 (drop (16 * n) (set slots (n * 16) v)) ≡ f n
       mine =
@@ -77,9 +77,9 @@ module _ {f : ℕ → List ℕ} {n : ℕ} {ws slots : List ℕ} (s : Queued f n 
           let long : 0 < length (drop (16 * n) slots) = simp length-drop (omega (arith, s .places)) in
           rw (q, drop-set-add (16 * n) slots 0 v, take-suc-set (drop (16 * n) slots) 0 v long) e
 
-  -- all queues are filled: the counts are sound, the queues are the table
+  -- all queues are filled: the counts are bounded, the queues are the table
   pub queued-all : 32 ≤ n → Holds ws slots (tabulate 32 f)
   queued-all h = record {
-    sound = getD-each (λ i w. w ≤ 16) 0 ws (λ i b. s .sound i (omega (arith, counts))) (λ i. omega arith);
+    bounded = getD-each (λ i w. w ≤ 16) 0 ws (λ i b. s .bounded i (omega (arith, counts))) (λ i. omega arith);
     same = filled-all (s .filled) h;
   }

@@ -8,7 +8,7 @@ use denote.Enum.Declared.{tagOf}
 use Rattle.entries.proofs.Keys.{one-of}
 use Rattle.effects.specs.declared.Change.{Change}
 use Rattle.effects.specs.declared.Change.the-variants as k
-use Rattle.effects.specs.Effects.{queuesBehind, variablesBehind}
+use Rattle.effects.specs.Effects.{queuesAfter, variablesAfter}
 use Rattle.effects.proofs.Change.{the-type}
 
 -- the changes that no message takes part in, and those that do not store
@@ -18,13 +18,13 @@ silent = 0 ∷ 3 ∷ []
 abbrev storeless : List ℕ
 storeless = 0 ∷ 1 ∷ 2 ∷ []
 
-pub queues-left : (wired : ℕ → ℕ → Bool) (n value : ℕ) (qs : List (List ℕ)) (x : Change) → OneOf silent (tagOf the-type x) → qs ≡ queuesBehind wired n value qs x
+pub queues-left : (wired : ℕ → ℕ → Bool) (n value : ℕ) (qs : List (List ℕ)) (x : Change) → OneOf silent (tagOf the-type x) → qs ≡ queuesAfter wired n value qs x
 queues-left wired n value qs k.Nothing h = refl
 queues-left wired n value qs k.Take h = absurd (one-of silent 1 h)
 queues-left wired n value qs (k.Send port) h = absurd (one-of silent 2 h)
 queues-left wired n value qs (k.Store x) h = refl
 
-pub variables-left : (value : ℕ) (xs : List ℕ) (x : Change) → OneOf storeless (tagOf the-type x) → xs ≡ variablesBehind value xs x
+pub variables-left : (value : ℕ) (xs : List ℕ) (x : Change) → OneOf storeless (tagOf the-type x) → xs ≡ variablesAfter value xs x
 variables-left value xs k.Nothing h = refl
 variables-left value xs k.Take h = refl
 variables-left value xs (k.Send port) h = refl

@@ -1,10 +1,11 @@
 // What a turn changes beside its node's numbers.
 ghost use mathlib.Core.Path.{_≡_};
 ghost use Prim.Native.Nat.{ℕ, _<_};
-ghost use lib.ListN.{length, getD};
+ghost use lib.ListN.{length};
 ghost use Rattle.tables.specs.Tables.{wiredIn};
-ghost use Rattle.effects.specs.Effects.{queuesBehind, variablesBehind, Possible};
-ghost use Rattle.queues.specs.Queues.{queues, Sound, Holds};
+ghost use Rattle.effects.specs.Effects.{variablesAfter, Possible};
+ghost use Rattle.queues.specs.Queues.{countAt, Bounded};
+ghost use Rattle.memory.specs.Changes.{Changes};
 use command::numbers::NodeNum;
 use effects::Change;
 use queues::deliver;
@@ -20,10 +21,10 @@ pub fn change_queues(
     value: u32,
 )
     requires { ⌜ (length (now queue) ≡ 512) × (length (now waiting) ≡ 32) ⌝ }
-    requires { ⌜ Sound (now waiting) ⌝ }
+    requires { ⌜ Bounded (now waiting) ⌝ }
     requires { ⌜ n .0 < 32 ⌝ }
-    requires { ⌜ Possible (wiredIn (now t) (n .0)) (n .0) (λ k. getD (now waiting) k 0) change ⌝ }
-    ensures { λ _. ⌜ Holds (now (waiting .exit)) (now (queue .exit)) (queuesBehind (wiredIn (now (t .entry)) (n .0)) (n .0) value (queues (now (waiting .entry)) (now (queue .entry))) change) ⌝ }
+    requires { ⌜ Possible (wiredIn (now t) (n .0)) (n .0) (countAt (now waiting)) change ⌝ }
+    ensures { λ _. ⌜ Changes (wiredIn (now (t .entry)) (n .0)) (n .0) value change (now (waiting .entry)) (now (queue .entry)) (now (waiting .exit)) (now (queue .exit)) ⌝ }
 {
     match change {
         Change::Take => take_oldest(queue, waiting, n),
@@ -35,7 +36,7 @@ pub fn change_queues(
 // The variables behind a change; the value is what is stored.
 pub fn change_variable(variable: &mut [u32; 64], change: Change, value: u32)
     requires { ⌜ length (now variable) ≡ 64 ⌝ }
-    ensures { λ _. ⌜ now (variable .exit) ≡ variablesBehind value (now (variable .entry)) change ⌝ }
+    ensures { λ _. ⌜ now (variable .exit) ≡ variablesAfter value (now (variable .entry)) change ⌝ }
 {
     if let Change::Store(x) = change {
         let i = x.0 as usize;

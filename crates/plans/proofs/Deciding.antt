@@ -21,20 +21,20 @@ use Rattle.job.specs.Program.{programIn}
 use Rattle.entries.specs.declared.Event.{Event}
 use Rattle.entries.specs.declared.Outcome.{Outcome}
 use Rattle.entries.specs.declared.Outcome.the-variants as o
-use Rattle.entries.specs.Entries.{entryFor, turnedBy, stateBehind, ruleOf}
+use Rattle.entries.specs.Entries.{entryFor, turnedBy, stateAfter, ruleOf}
 use Rattle.entries.proofs.Keys.{one-of}
 use Rattle.entries.proofs.Names.{wired-by}
-use Rattle.queues.specs.Queues.{full}
-use Rattle.plans.specs.Plans.{entryBy, plan, Counts, judged, Plans}
-use Rattle.effects.specs.declared.Local.{Local}
+use Rattle.queues.specs.Queues.{countAt, full}
+use Rattle.effects.specs.declared.Registers.{Registers}
 use Rattle.effects.specs.declared.Change.{Change}
 use Rattle.effects.specs.declared.Change.the-variants as c
 use Rattle.effects.specs.declared.Effect.{Effect}
-use Rattle.effects.specs.Effects.{localAt, carried, Possible, Does}
+use Rattle.effects.specs.Effects.{registersAt, carried, Possible, Does}
 use Rattle.effects.proofs.Carrying.{stays}
+use Rattle.plans.specs.Plans.{entryBy, plan, Waits, judged, Plans}
 
 -- a full target by the tables and the counts is one of the program and the state
-pub full-blocks : (t w ws : List ℕ) (s : State) (n port : ℕ) → Counts s ws → full (wiredIn t n port) ws ≡ blocked (programIn t w) s n (instructionOf (i.Send port))
+pub full-blocks : (t w ws : List ℕ) (s : State) (n port : ℕ) → Waits s ws → full (wiredIn t n port) (countAt ws) ≡ blocked (programIn t w) s n (instructionOf (i.Send port))
 full-blocks t w ws s n port h = some-agree _ _ (λ k. rw (wired-by t w n port k, h k)) _
 
 -- the commands but SEND
@@ -103,26 +103,27 @@ not-permitted false b h = true-false (sym h)
 module _ (P : Program) (s : State) (node : NodeNum) where
   -- a plan that leaves everything as it is, for a stop
   pub stop-planned :
-      (l : Local) → localAt s (node .0) ≡ l → (turned : Turned) (k : ℕ) (x : Meant) → turned ≡ stopped k x → (outcome : Outcome) → ((after : State) → turnedBy outcome after ≡ stopped k x)
+      (l : Registers) → registersAt s (node .0) ≡ l → (turned : Turned) (k : ℕ) (x : Meant) → turned ≡ stopped k x → (outcome : Outcome) → ((after : State) → turnedBy outcome after ≡ stopped k x)
       → Plans P s (node .0) turned (plan l c.Nothing outcome)
   stop-planned l own turned k x e outcome tells =
       record {
-        comes = record { tells = tells _ ∙ sym e; leaves = subst (λ (o : Local). carried P s (node .0) o c.Nothing ≡ s) own (stays P s (node .0)) ∙ ap (stateBehind s) (sym e) };
+        comes = record { tells = tells _ ∙ sym e; leaves = subst (λ (o : Registers). carried P s (node .0) o c.Nothing ≡ s) own (stays P s (node .0)) ∙ ap (stateAfter s) (sym e) };
         possible = tt;
+        stays = λ _. (sym own, refl);
       }
 
   -- a plan for a completed turn
   pub made-planned :
-      (l : Local) (change : Change) (turned : Turned) (x : Meant) (after : State) → turned ≡ completed x after → (event : Event) → entryFor (node .0) event ≡ x → carried P s (node .0) l change ≡ after
+      (l : Registers) (change : Change) (turned : Turned) (x : Meant) (after : State) → turned ≡ completed x after → (event : Event) → entryFor (node .0) event ≡ x → carried P s (node .0) l change ≡ after
       → Possible (P .wired (node .0)) (node .0) (waitingAt s) change
       → Plans P s (node .0) turned (plan l change (o.Made (entryBy node event)))
   made-planned l change turned x after e event same leads can =
-      record { comes = record { tells = rw (same, leads) (sym e); leaves = leads ∙ ap (stateBehind s) (sym e) }; possible = can }
+      record { comes = record { tells = rw (same, leads) (sym e); leaves = leads ∙ ap (stateAfter s) (sym e) }; possible = can; stays = λ h. true-false (sym h) }
 
 -- the turn of a node at a handler command, by the event that the command leaves
 module _ (P : Program) (s : State) (node : NodeNum) (monitored : Bool) (k : Instruction) (event : Event) (left : entryFor (node .0) event ≡ entryOf P s (node .0) (instructionOf k)) where
   pub forbidden-planned :
-      (l : Local) → localAt s (node .0) ≡ l → (monitored && not (permitted P (entryFor (node .0) event))) ≡ true → (shown : Event) → entryFor (node .0) shown ≡ redacted (entryFor (node .0) event)
+      (l : Registers) → registersAt s (node .0) ≡ l → (monitored && not (permitted P (entryFor (node .0) event))) ≡ true → (shown : Event) → entryFor (node .0) shown ≡ redacted (entryFor (node .0) event)
       → Plans P s (node .0) (judged monitored P (executed P s (node .0) (instructionOf k))) (plan l c.Nothing (o.Forbidden (entryBy node shown)))
   forbidden-planned l own h shown same =
       let n = node .0 in
@@ -133,7 +134,7 @@ module _ (P : Program) (s : State) (node : NodeNum) (monitored : Bool) (k : Inst
       (o.Forbidden (entryBy node shown)) (λ after. ap (stopped 1) (same ∙ ap redacted left))
 
   pub full-planned :
-      (l : Local) → localAt s (node .0) ≡ l → blocked P s (node .0) (instructionOf k) ≡ true
+      (l : Registers) → registersAt s (node .0) ≡ l → blocked P s (node .0) (instructionOf k) ≡ true
       → Plans P s (node .0) (judged monitored P (executed P s (node .0) (instructionOf k))) (plan l c.Nothing (o.Full (entryBy node event)))
   full-planned l own h =
       let n = node .0 in
@@ -143,10 +144,10 @@ module _ (P : Program) (s : State) (node : NodeNum) (monitored : Bool) (k : Inst
 
   pub made-by :
       (monitored && not (permitted P (entryFor (node .0) event))) ≡ false → blocked P s (node .0) (instructionOf k) ≡ false → (x : Effect) → Does P s (node .0) (instructionOf k) x
-      → Plans P s (node .0) (judged monitored P (executed P s (node .0) (instructionOf k))) (plan (x .local) (x .change) (o.Made (entryBy node event)))
+      → Plans P s (node .0) (judged monitored P (executed P s (node .0) (instructionOf k))) (plan (x .registers) (x .change) (o.Made (entryBy node event)))
   made-by h goes x does =
       let n = node .0 in
       let f : (monitored && not (permitted P (entryOf P s n (instructionOf k)))) ≡ false = rw (← left) h in
-      made-planned P s node (x .local) (x .change) _ (entryOf P s n (instructionOf k)) (performed P s n (instructionOf k))
+      made-planned P s node (x .registers) (x .change) _ (entryOf P s n (instructionOf k)) (performed P s n (instructionOf k))
       (ap (judged monitored P) (executed-done P s n (instructionOf k) goes) ∙ judged-made monitored P (entryOf P s n (instructionOf k)) (performed P s n (instructionOf k)) f)
       event left (does .state) (does .possible goes)

@@ -13,21 +13,21 @@ use Rattle.command.specs.declared.numbers.NodeNum.{NodeNum}
 use Rattle.entries.specs.declared.Event.the-variants as e
 use Rattle.entries.specs.declared.Outcome.the-variants as o
 use Rattle.entries.specs.Entries.{ruleOf}
+use Rattle.effects.specs.declared.Registers.{Registers}
+use Rattle.effects.specs.declared.Change.the-variants as c
+use Rattle.effects.specs.Effects.{registers, registersAt}
 use Rattle.plans.specs.declared.Plan.{Plan}
 use Rattle.plans.specs.Plans.{entryBy, plan, judged, Plans}
 use Rattle.plans.proofs.Deciding.{rule-judged, judged-stopped, judged-made, stop-planned, made-planned}
-use Rattle.effects.specs.declared.Local.{Local}
-use Rattle.effects.specs.declared.Change.the-variants as c
-use Rattle.effects.specs.Effects.{local, localAt}
 
 -- an entry of a kind that needs no permission is forbidden to nobody
 never : (monitored : Bool) → (monitored && not true) ≡ false
 never true = refl
 never false = refl
 
-module _ (P : Program) (s : State) (node : NodeNum) (monitored : Bool) (l : Local) (own : localAt s (node .0) ≡ l) where
+module _ (P : Program) (s : State) (node : NodeNum) (monitored : Bool) (l : Registers) (own : registersAt s (node .0) ≡ l) where
   at : positionAt s (node .0) ≡ l .position
-  at = ap (λ (x : Local). x .position) own
+  at = ap (λ (x : Registers). x .position) own
 
   -- the turn, judged, from the turn without the lists
   ruled : (turned : Turned) → turn P s (node .0) ≡ turned → ruleOf monitored P s (node .0) ≡ judged monitored P turned
@@ -39,17 +39,17 @@ module _ (P : Program) (s : State) (node : NodeNum) (monitored : Bool) (l : Loca
 
   pub begun-planned :
       l .position ≡ 255 → ¬ (waitingAt s (node .0) ≡ 0) → (first : ℕ) → oldest s (node .0) ≡ first
-      → Plans P s (node .0) (ruleOf monitored P s (node .0)) (plan (local 0 0 first) c.Take (o.Made (entryBy node (e.Begin first))))
+      → Plans P s (node .0) (ruleOf monitored P s (node .0)) (plan (registers 0 0 first) c.Take (o.Made (entryBy node (e.Begin first))))
   begun-planned p some first h =
-      subst (λ (v : ℕ). Plans P s (node .0) (ruleOf monitored P s (node .0)) (plan (local 0 0 v) c.Take (o.Made (entryBy node (e.Begin v))))) h
-      (made-planned P s node (local 0 0 (oldest s (node .0))) c.Take _ (entry (node .0) 1 0 (oldest s (node .0))) (begun s (node .0))
+      subst (λ (v : ℕ). Plans P s (node .0) (ruleOf monitored P s (node .0)) (plan (registers 0 0 v) c.Take (o.Made (entryBy node (e.Begin v))))) h
+      (made-planned P s node (registers 0 0 (oldest s (node .0))) c.Take _ (entry (node .0) 1 0 (oldest s (node .0))) (begun s (node .0))
       (ruled _ (turn-begun P s (node .0) (at ∙ p) some) ∙ judged-made monitored P (entry (node .0) 1 0 (oldest s (node .0))) (begun s (node .0)) (never monitored))
       (e.Begin (oldest s (node .0))) refl refl (omega (arith, some)))
 
   pub finished-planned :
-      ¬ (l .position ≡ 255) → length (P .handler (node .0)) ≤ l .position → Plans P s (node .0) (ruleOf monitored P s (node .0)) (plan (local 255 0 0) c.Nothing (o.Made (entryBy node e.Finish)))
+      ¬ (l .position ≡ 255) → length (P .handler (node .0)) ≤ l .position → Plans P s (node .0) (ruleOf monitored P s (node .0)) (plan (registers 255 0 0) c.Nothing (o.Made (entryBy node e.Finish)))
   finished-planned p h =
-      made-planned P s node (local 255 0 0) c.Nothing _ (entry (node .0) 2 0 0) (finished s (node .0))
+      made-planned P s node (registers 255 0 0) c.Nothing _ (entry (node .0) 2 0 0) (finished s (node .0))
       (ruled _ (turn-finished P s (node .0) (λ q. p (sym at ∙ q)) (omega (arith, at))) ∙ judged-made monitored P (entry (node .0) 2 0 0) (finished s (node .0)) (never monitored))
       e.Finish refl refl tt
 

@@ -1,7 +1,7 @@
 -- A turn as a plan: the node's numbers behind it, what it changes beside them, and its outcome.
 use Prim.Native.Nat.{ℕ, _≤_}
 use mathlib.Core.Path.{_≡_}
-use mathlib.Core.Bool.{Bool, cond}
+use mathlib.Core.Bool.{Bool, true, cond}
 use mathlib.Core.List.{List}
 use lib.ListN.{getD}
 use Rattle.model.specs.Program.{Program}
@@ -15,27 +15,28 @@ use Rattle.job.specs.Program.{programIn}
 use Rattle.entries.specs.declared.Event.{Event}
 use Rattle.entries.specs.declared.Entry.{Entry}
 use Rattle.entries.specs.declared.Outcome.{Outcome}
-use Rattle.entries.specs.Entries.{Comes, ruleOf}
-use Rattle.plans.specs.declared.Plan.{Plan}
-use Rattle.effects.specs.declared.Local.{Local}
+use Rattle.entries.specs.Entries.{Comes, isStop, ruleOf}
+use Rattle.effects.specs.declared.Registers.{Registers}
 use Rattle.effects.specs.declared.Change.{Change}
-use Rattle.effects.specs.Effects.{Shows, Possible, carried}
+use Rattle.effects.specs.declared.Change.the-variants as c
+use Rattle.effects.specs.Effects.{Shows, Possible, registersAt, carried}
+use Rattle.plans.specs.declared.Plan.{Plan}
 
 -- the entry of a node with an event
 abbrev pub entryBy : NodeNum → Event → Entry
 entryBy n event = record { node = n; event = event }
 
 -- the plan with these parts
-abbrev pub plan : Local → Change → Outcome → Plan
-plan l change outcome = record { local = l; change = change; outcome = outcome }
+abbrev pub plan : Registers → Change → Outcome → Plan
+plan l change outcome = record { registers = l; change = change; outcome = outcome }
 
 -- as many messages wait at each node
-abbrev pub Counts : State → List ℕ → Type 0
-Counts s ws = (k : ℕ) → waitingAt s k ≡ getD ws k 0
+abbrev pub Waits : State → List ℕ → Type 0
+Waits s ws = (k : ℕ) → waitingAt s k ≡ getD ws k 0
 
 -- the answer says whether the handler command is a send with a full target
 abbrev pub Blocks : List ℕ → ℕ → Instruction → List ℕ → Bool → Type 0
-Blocks t n i ws answer = (w : List ℕ) (s : State) → Counts s ws → answer ≡ blocked (programIn t w) s n (instructionOf i)
+Blocks t n i ws answer = (w : List ℕ) (s : State) → Waits s ws → answer ≡ blocked (programIn t w) s n (instructionOf i)
 
 -- what a turn comes to under the lists, or without them
 abbrev pub judged : Bool → Program → Turned → Turned
@@ -43,15 +44,16 @@ judged monitored P x = cond monitored (enforced P x) x
 
 -- the plan, carried out, is this turn
 pub record Plans (P : Program) (s : State) (n : ℕ) (turned : Turned) (p : Plan) : Type 0 where
-  pub comes : Comes s turned (p .outcome) (carried P s n (p .local) (p .change))
+  pub comes : Comes s turned (p .outcome) (carried P s n (p .registers) (p .change))
   pub possible : Possible (P .wired n) n (waitingAt s) (p .change)
+  pub stays : isStop (p .outcome) ≡ true → (p .registers ≡ registersAt s n) × (p .change ≡ c.Nothing)
 
 -- the plan is what the node's turn at the handler command comes to, in every state with these numbers
-abbrev pub Decides : List ℕ → NodeNum → Bool → Instruction → Local → List ℕ → List ℕ → Plan → Type 0
-Decides t n monitored i l ws variables p =
-    (w : List ℕ) (s : State) → Shows s (n .0) l variables → Counts s ws → Plans (programIn t w) s (n .0) (judged monitored (programIn t w) (executed (programIn t w) s (n .0) (instructionOf i))) p
+abbrev pub PlansCommand : List ℕ → NodeNum → Bool → Instruction → Registers → List ℕ → List ℕ → Plan → Type 0
+PlansCommand t n monitored i l ws variables p =
+    (w : List ℕ) (s : State) → Shows s (n .0) l variables → Waits s ws → Plans (programIn t w) s (n .0) (judged monitored (programIn t w) (executed (programIn t w) s (n .0) (instructionOf i))) p
 
 -- the plan is the node's turn, in every state with these numbers and, if a message waits, this oldest one
-abbrev pub Turns : List ℕ → List ℕ → NodeNum → Bool → Local → ℕ → List ℕ → List ℕ → Plan → Type 0
-Turns t w n monitored l first ws variables p =
-    (s : State) → Shows s (n .0) l variables → Counts s ws → (1 ≤ waitingAt s (n .0) → oldest s (n .0) ≡ first) → Plans (programIn t w) s (n .0) (ruleOf monitored (programIn t w) s (n .0)) p
+abbrev pub PlansTurn : List ℕ → List ℕ → NodeNum → Bool → Registers → ℕ → List ℕ → List ℕ → Plan → Type 0
+PlansTurn t w n monitored l first ws variables p =
+    (s : State) → Shows s (n .0) l variables → Waits s ws → (1 ≤ waitingAt s (n .0) → oldest s (n .0) ≡ first) → Plans (programIn t w) s (n .0) (ruleOf monitored (programIn t w) s (n .0)) p

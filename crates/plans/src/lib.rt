@@ -6,12 +6,12 @@ ghost use Prim.Native.Nat.{ℕ, _<_};
 ghost use Rattle.model.specs.Permission.{permitted};
 ghost use Rattle.job.specs.Program.{programIn};
 ghost use Rattle.entries.specs.Entries.{entryFor};
-ghost use Rattle.plans.specs.Plans.{plan, entryBy, Blocks, Decides, Turns};
+ghost use Rattle.plans.specs.Plans.{plan, entryBy, Blocks, PlansCommand, PlansTurn};
 use command::instruction::Instruction;
 use command::numbers::NodeNum;
 use declared::length_of;
 use effects::Change;
-use effects::Local;
+use effects::Registers;
 use effects::effect_of;
 use entries::Entry;
 use entries::Event;
@@ -27,7 +27,7 @@ pub const IDLE: u32 = 255;
 
 // A turn: the node's numbers behind it, its change and its outcome.
 pub struct Plan {
-    pub local: Local,
+    pub registers: Registers,
     pub change: Change,
     pub outcome: Outcome,
 }
@@ -55,18 +55,18 @@ fn is_forbidden(t: &[u32], n: NodeNum, monitored: bool, event: Event) -> bool
 }
 
 // The plan with these parts.
-fn planned(local: Local, change: Change, outcome: Outcome) -> Plan
-    ensures { λ r. ⌜ r ≡ plan local change outcome ⌝ }
+fn planned(registers: Registers, change: Change, outcome: Outcome) -> Plan
+    ensures { λ r. ⌜ r ≡ plan registers change outcome ⌝ }
 {
     Plan {
-        local: local,
+        registers: registers,
         change: change,
         outcome: outcome,
     }
 }
 
 // A trace entry.
-fn entry_of(n: NodeNum, event: Event) -> Entry
+fn make_entry(n: NodeNum, event: Event) -> Entry
     ensures { λ r. ⌜ r ≡ entryBy n event ⌝ }
 {
     Entry {
@@ -82,26 +82,26 @@ fn decide<'a>(
     n: NodeNum,
     monitored: bool,
     instruction: Instruction,
-    local: Local,
+    registers: Registers,
     waiting: &'a [u8; 32],
     variable: &'a [u32],
 ) -> Plan
-    requires { ⌜ local .position < 4294967295 ⌝ }
-    ensures { λ r. ⌜ Decides (now (t .entry)) n monitored instruction local (now (waiting .entry)) (now (variable .entry)) r ⌝ }
+    requires { ⌜ registers .position < 4294967295 ⌝ }
+    ensures { λ r. ⌜ PlansCommand (now (t .entry)) n monitored instruction registers (now (waiting .entry)) (now (variable .entry)) r ⌝ }
 {
-    let event = event_of(t, instruction, local.accumulator, variable);
-    let effect = effect_of(t, instruction, local, variable);
+    let event = event_of(t, instruction, registers.accumulator, variable);
+    let effect = effect_of(t, instruction, registers, variable);
     let change = effect.change;
     if is_forbidden(t, n, monitored, event) {
         let shown = redact(event);
-        let entry = entry_of(n, shown);
-        return planned(local, Change::Nothing, Outcome::Forbidden(entry));
+        let entry = make_entry(n, shown);
+        return planned(registers, Change::Nothing, Outcome::Forbidden(entry));
     }
-    let entry = entry_of(n, event);
+    let entry = make_entry(n, event);
     if blocks(t, n, instruction, waiting) {
-        return planned(local, Change::Nothing, Outcome::Full(entry));
+        return planned(registers, Change::Nothing, Outcome::Full(entry));
     }
-    planned(effect.local, change, Outcome::Made(entry))
+    planned(effect.registers, change, Outcome::Made(entry))
 }
 
 // The turn of a node, by its numbers, the message in its first slot, how many messages wait at each node, and the variables.
@@ -110,22 +110,22 @@ pub fn plan_turn<'a>(
     work: &[u8],
     n: NodeNum,
     monitored: bool,
-    local: Local,
+    registers: Registers,
     oldest: u32,
     waiting: &'a [u8; 32],
     variable: &'a [u32],
 ) -> Plan
     requires { ⌜ n .0 < 32 ⌝ }
-    ensures { λ r. ⌜ Turns (now (t .entry)) (now (work .entry)) n monitored local oldest (now (waiting .entry)) (now (variable .entry)) r ⌝ }
+    ensures { λ r. ⌜ PlansTurn (now (t .entry)) (now (work .entry)) n monitored registers oldest (now (waiting .entry)) (now (variable .entry)) r ⌝ }
 {
     let i = n.0 as usize;
-    let position = local.position;
+    let position = registers.position;
     if position == IDLE {
         if waiting[i] == 0 {
-            return planned(local, Change::Nothing, Outcome::Unready(n));
+            return planned(registers, Change::Nothing, Outcome::Unready(n));
         }
-        let entry = entry_of(n, Event::Begin(oldest));
-        let begun = Local {
+        let entry = make_entry(n, Event::Begin(oldest));
+        let begun = Registers {
             position: 0,
             accumulator: 0,
             message: oldest,
@@ -134,10 +134,10 @@ pub fn plan_turn<'a>(
     }
     if position < length_of(t, n) {
         let instruction = fetch(work, n, position);
-        return decide(t, n, monitored, instruction, local, waiting, variable);
+        return decide(t, n, monitored, instruction, registers, waiting, variable);
     }
-    let entry = entry_of(n, Event::Finish);
-    let idle = Local {
+    let entry = make_entry(n, Event::Finish);
+    let idle = Registers {
         position: IDLE,
         accumulator: 0,
         message: 0,

@@ -8,7 +8,7 @@ use native.Mathlib.Numerals.{add-one}
 use native.Mathlib.Decide.{ℕ-discrete, decLt}
 use lib.ListN.{length, getD, take, drop, set, length-set, length-drop}
 use lib.Seq.{ext-getD, getD-set-same, getD-set-other, drop-drop, drop-set-lt, drop-set-add, take-set-le, take-suc-set, length-take-le, getD-take, getD-drop, paste, paste-zero, paste-suc, drop-paste, drop-at, take-append-le, take-take, take-nil}
-use Rattle.queues.specs.Queues.{queues, Sound, shifted}
+use Rattle.queues.specs.Queues.{queues, Bounded, shifted}
 
 pub length-queues : (ws slots : List ℕ) → length (queues ws slots) ≡ length ws
 length-queues [] slots = refl
@@ -23,10 +23,10 @@ queue-at (w ∷ ws) slots (suc n) =
     queue-at ws (drop 16 slots) n ∙ rw (drop-drop (16 * n) 16 slots, e)
 
 -- its length
-pub count-at : (ws slots : List ℕ) → Sound ws → length ws * 16 ≤ length slots → (n : ℕ) → length (getD (queues ws slots) n []) ≡ getD ws n 0
-count-at [] slots sound fits n = refl
-count-at (w ∷ ws) slots sound fits zero = length-take-le w slots (omega (arith, sound 0))
-count-at (w ∷ ws) slots sound fits (suc n) = count-at ws (drop 16 slots) (λ i. sound (suc i)) (simp length-drop (omega arith)) n
+pub count-at : (ws slots : List ℕ) → Bounded ws → length ws * 16 ≤ length slots → (n : ℕ) → length (getD (queues ws slots) n []) ≡ getD ws n 0
+count-at [] slots bounded fits n = refl
+count-at (w ∷ ws) slots bounded fits zero = length-take-le w slots (omega (arith, bounded 0))
+count-at (w ∷ ws) slots bounded fits (suc n) = count-at ws (drop 16 slots) (λ i. bounded (suc i)) (simp length-drop (omega arith)) n
 
 -- its oldest message
 pub oldest-is : (ws slots : List ℕ) (n : ℕ) → 0 < getD ws n 0 → getD slots (n * 16) 0 ≡ getD (getD (queues ws slots) n []) 0 0
@@ -35,12 +35,12 @@ oldest-is ws slots n some =
     rw (queue-at ws slots n, getD-take (getD ws n 0) (drop (16 * n) slots) 0 0 some, getD-drop (16 * n) slots 0 0, e)
 
 -- counts stay within 16 where the new one is
-pub sound-set : (ws : List ℕ) (n w : ℕ) → Sound ws → n < length ws → w ≤ 16 → Sound (set ws n w)
-sound-set ws n w sound inside h i = by-place (ℕ-discrete i n)
+pub bounded-set : (ws : List ℕ) (n w : ℕ) → Bounded ws → n < length ws → w ≤ 16 → Bounded (set ws n w)
+bounded-set ws n w bounded inside h i = by-place (ℕ-discrete i n)
   where
     by-place : Dec (i ≡ n) → getD (set ws n w) i 0 ≤ 16
     by-place (yes e) = rw (e, getD-set-same ws n w 0 inside) h
-    by-place (no ne) = rw (getD-set-other ws n i w 0 ne) (sound i)
+    by-place (no ne) = rw (getD-set-other ws n i w 0 ne) (bounded i)
 
 apart : (i n : ℕ) → (i ≡ n → ⊥) → (i < n) ⊎ (n < i)
 apart i n ne = by-order (decLt i n)
@@ -100,7 +100,7 @@ drop-one-take zero l h = absurd (omega arith)
 drop-one-take (suc k) [] h = sym (take-nil (suc k - 1))
 drop-one-take (suc k) (x ∷ l) h = let e : suc k - 1 ≡ k = omega arith in rw e
 
-module _ (ws slots : List ℕ) (n : ℕ) (sound : Sound ws) (fits : n * 16 + 16 ≤ length slots) where
+module _ (ws slots : List ℕ) (n : ℕ) (bounded : Bounded ws) (fits : n * 16 + 16 ≤ length slots) where
   -- a message at the back
   pub queues-pushed :
       (v : ℕ) → getD ws n 0 < 16
@@ -111,7 +111,7 @@ module _ (ws slots : List ℕ) (n : ℕ) (sound : Sound ws) (fits : n * 16 + 16 
       w = getD ws n 0
 
       same : (i : ℕ) → (i < n) ⊎ (n < i) → take (getD ws i 0) (drop (16 * i) (set slots (n * 16 + w) v)) ≡ take (getD ws i 0) (drop (16 * i) slots)
-      same i o = part-set slots (16 * i) (getD ws i 0) (n * 16 + w) v (⊎-elim (λ h. inr (omega (arith, sound i))) (λ h. inl (omega arith)) o)
+      same i o = part-set slots (16 * i) (getD ws i 0) (n * 16 + w) v (⊎-elim (λ h. inr (omega (arith, bounded i))) (λ h. inl (omega arith)) o)
 
       mine : take (w + 1) (drop (16 * n) (set slots (n * 16 + w) v)) ≡ getD (queues ws slots) n [] ++ (v ∷ [])
       mine =
@@ -142,13 +142,13 @@ module _ (ws slots : List ℕ) (n : ℕ) (sound : Sound ws) (fits : n * 16 + 16 
       long = simp length-drop (omega arith)
 
       same : (i : ℕ) → (i < n) ⊎ (n < i) → take (getD ws i 0) (drop (16 * i) slots′) ≡ take (getD ws i 0) (drop (16 * i) slots)
-      same i o = part-paste slots base tail 15 (16 * i) (getD ws i 0) (omega arith) long (⊎-elim (λ h. inl (omega (arith, sound i))) (λ h. inr (omega arith)) o)
+      same i o = part-paste slots base tail 15 (16 * i) (getD ws i 0) (omega arith) long (⊎-elim (λ h. inl (omega (arith, bounded i))) (λ h. inr (omega arith)) o)
 
       mine : take (w - 1) (drop (16 * n) slots′) ≡ drop 1 (getD (queues ws slots) n [])
       mine =
           let e : 16 * n ≡ base = omega arith in
           rw (queue-at ws slots n, e, drop-one-take w (drop base slots) some, drop-drop 1 base slots)
-          (front-paste slots base tail 15 (w - 1) (omega arith) long (omega (arith, sound n)))
+          (front-paste slots base tail 15 (w - 1) (omega arith) long (omega (arith, bounded n)))
 
 -- the loop that moves slots down
 pub shifted-none : (slots : List ℕ) (base : ℕ) → slots ≡ shifted slots base 0

@@ -12,15 +12,15 @@ use borrow.Author.Tests.{leb-false}
 use Rattle.model.specs.Table.{maxWaiting}
 use Rattle.model.specs.Turn.{delivered}
 use Rattle.model.proofs.Turns.{some-none, delivered-target, delivered-other}
-use Rattle.queues.specs.Queues.{queues, Sound, Holds, full}
-use Rattle.queues.proofs.Queues.{sound-set, queues-pushed}
+use Rattle.queues.specs.Queues.{queues, countAt, Bounded, Holds, full}
+use Rattle.queues.proofs.Queues.{bounded-set, queues-pushed}
 
 -- at this target 16 messages wait
 abbrev pub held : (ℕ → Bool) → List ℕ → ℕ → Bool
 held target ws k = target k && leb maxWaiting (getD ws k 0)
 
 -- where no target is full, each has room
-full-none : (target : ℕ → Bool) (ws : List ℕ) (k : ℕ) → full target ws ≡ false → k < 32 → target k ≡ true → getD ws k 0 < 16
+full-none : (target : ℕ → Bool) (ws : List ℕ) (k : ℕ) → full target (countAt ws) ≡ false → k < 32 → target k ≡ true → getD ws k 0 < 16
 full-none target ws k f h e = leb-false 16 (getD ws k 0) (rw e at (some-none (held target ws) 32 f k h))
 
 -- the loop of a send at node k: the targets below have their value, the others have room for it
@@ -31,28 +31,28 @@ pub record Serving (target : ℕ → Bool) (v : ℕ) (qs : List (List ℕ)) (k :
   pub holds : Holds ws slots (delivered target v qs k)
 
 pub serving-none :
-    (target : ℕ → Bool) (v : ℕ) (ws slots : List ℕ) → length ws ≡ 32 → length slots ≡ 512 → Sound ws → full target ws ≡ false
+    (target : ℕ → Bool) (v : ℕ) (ws slots : List ℕ) → length ws ≡ 32 → length slots ≡ 512 → Bounded ws → full target (countAt ws) ≡ false
     → Serving target v (queues ws slots) 0 ws slots
 unfolding delivered
-serving-none target v ws slots counts places sound f = record {
+serving-none target v ws slots counts places bounded f = record {
   counts = counts;
   places = places;
   room = λ i _. full-none target ws i f;
-  holds = record { sound = sound; same = refl };
+  holds = record { bounded = bounded; same = refl };
 }
 
 module _ {target : ℕ → Bool} {v : ℕ} {qs : List (List ℕ)} {k : ℕ} {ws slots : List ℕ} (s : Serving target v qs k ws slots) where
   pub serving-target : k < 32 → target k ≡ true → Serving target v qs (k + 1) (set ws k (getD ws k 0 + 1)) (set slots (k * 16 + getD ws k 0) v)
   serving-target h e =
       let less = s .room k (omega arith) h e in
-      let sound = s .holds .sound in
+      let bounded = s .holds .bounded in
       record {
         counts = length-set ws k (getD ws k 0 + 1) ∙ s .counts;
         places = length-set slots (k * 16 + getD ws k 0) v ∙ s .places;
         room = λ i l g y. rw (getD-set-other ws k i (getD ws k 0 + 1) 0 (λ q. omega arith)) (s .room i (omega arith) g y);
         holds = record {
-          sound = sound-set ws k (getD ws k 0 + 1) sound (omega (arith, s .counts)) (omega (arith, less));
-          same = queues-pushed ws slots k sound (omega (arith, s .places)) v less ∙ rw (s .holds .same, add-one k, delivered-target target v qs k e);
+          bounded = bounded-set ws k (getD ws k 0 + 1) bounded (omega (arith, s .counts)) (omega (arith, less));
+          same = queues-pushed ws slots k bounded (omega (arith, s .places)) v less ∙ rw (s .holds .same, add-one k, delivered-target target v qs k e);
         };
       }
 

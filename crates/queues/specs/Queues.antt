@@ -4,7 +4,7 @@ use mathlib.Core.Path.{_≡_}
 use mathlib.Core.Bool.{Bool, _&&_}
 use mathlib.Core.List.{List, [], _∷_}
 use lib.Dec.{leb}
-use lib.ListN.{take, drop, getD}
+use lib.ListN.{take, drop, getD, set}
 use lib.Seq.{paste}
 use Rattle.model.specs.Table.{maxNodes, maxWaiting}
 use Rattle.model.specs.Turn.{someBelow}
@@ -14,19 +14,27 @@ abbrev pub queues : List ℕ → List ℕ → List (List ℕ)
 queues [] slots = []
 queues (w ∷ ws) slots = take w slots ∷ queues ws (drop 16 slots)
 
--- no more messages wait at a node than it has slots
-abbrev pub Sound : List ℕ → Type 0
-Sound ws = (n : ℕ) → getD ws n 0 ≤ maxWaiting
+-- how many messages wait at a node
+abbrev pub countAt : List ℕ → ℕ → ℕ
+countAt ws n = getD ws n 0
 
--- the slots hold these queues
+-- no more messages wait at a node than it has slots
+abbrev pub Bounded : List ℕ → Type 0
+Bounded ws = (n : ℕ) → countAt ws n ≤ maxWaiting
+
+-- the slots hold these queues, and no more messages wait than there are slots
 pub record Holds (ws slots : List ℕ) (qs : List (List ℕ)) : Type 0 where
-  pub sound : Sound ws
+  pub bounded : Bounded ws
   pub same : queues ws slots ≡ qs
 
--- at some target 16 messages wait
-abbrev pub full : (ℕ → Bool) → List ℕ → Bool
-full target ws = someBelow (λ k. target k && leb maxWaiting (getD ws k 0)) maxNodes
+-- at some target 16 messages wait, where so many wait at each node
+abbrev pub full : (ℕ → Bool) → (ℕ → ℕ) → Bool
+full target waiting = someBelow (λ k. target k && leb maxWaiting (waiting k)) maxNodes
 
--- the slots with the first k behind a place moved down by one
+-- the queues without the oldest message of a node
+abbrev pub withoutOldest : List (List ℕ) → ℕ → List (List ℕ)
+withoutOldest qs n = set qs n (drop 1 (getD qs n []))
+
+-- the slots with the k that follow a place moved down by one
 unfoldable pub shifted : List ℕ → ℕ → ℕ → List ℕ
 shifted slots base k = paste slots base (drop (base + 1) slots) k

@@ -1,19 +1,18 @@
 // The waiting messages of all nodes: one flat array of 16 slots a node, and how many messages wait at each.
 ghost use mathlib.Core.Path.{_≡_};
 ghost use mathlib.Core.Bool.{false};
-ghost use mathlib.Core.List.{[]};
 ghost use Prim.Native.Nat.{_+_, _≤_, _<_};
-ghost use lib.ListN.{length, getD, set, drop};
+ghost use lib.ListN.{length};
 ghost use Rattle.model.specs.Table.{maxNodes};
 ghost use Rattle.model.specs.Turn.{delivered};
 ghost use Rattle.tables.specs.Tables.{wiredIn};
-ghost use Rattle.queues.specs.Queues.{queues, Sound, Holds, full, shifted};
+ghost use Rattle.queues.specs.Queues.{queues, countAt, Bounded, Holds, full, withoutOldest, shifted};
 use allowlists::is_wired;
 use command::numbers::NodeNum;
 
 // Whether 16 messages wait at some target of a node's port.
 pub fn has_full(t: &[u32], n: NodeNum, port: u32, waiting: &[u8; 32]) -> bool
-    ensures { λ r. ⌜ r ≡ full (wiredIn (now (t .entry)) (n .0) port) (now (waiting .entry)) ⌝ }
+    ensures { λ r. ⌜ r ≡ full (wiredIn (now (t .entry)) (n .0) port) (countAt (now (waiting .entry))) ⌝ }
 {
     let mut k: usize = 0;
     while k < 32 {
@@ -37,8 +36,8 @@ pub fn deliver(
     value: u32,
 )
     requires { ⌜ (length (now queue) ≡ 512) × (length (now waiting) ≡ 32) ⌝ }
-    requires { ⌜ Sound (now waiting) ⌝ }
-    requires { ⌜ full (wiredIn (now t) (n .0) port) (now waiting) ≡ false ⌝ }
+    requires { ⌜ Bounded (now waiting) ⌝ }
+    requires { ⌜ full (wiredIn (now t) (n .0) port) (countAt (now waiting)) ≡ false ⌝ }
     ensures { λ _. ⌜ Holds (now (waiting .exit)) (now (queue .exit)) (delivered (wiredIn (now (t .entry)) (n .0) port) value (queues (now (waiting .entry)) (now (queue .entry))) maxNodes) ⌝ }
 {
     let mut target: usize = 0;
@@ -69,9 +68,9 @@ fn shift(queue: &mut [u32; 512], base: usize)
 // The oldest message of a node leaves its queue.
 pub fn take_oldest(queue: &mut [u32; 512], waiting: &mut [u8; 32], n: NodeNum)
     requires { ⌜ (length (now queue) ≡ 512) × (length (now waiting) ≡ 32) ⌝ }
-    requires { ⌜ Sound (now waiting) ⌝ }
-    requires { ⌜ (n .0 < 32) × (1 ≤ getD (now waiting) (n .0) 0) ⌝ }
-    ensures { λ _. ⌜ Holds (now (waiting .exit)) (now (queue .exit)) (set (queues (now (waiting .entry)) (now (queue .entry))) (n .0) (drop 1 (getD (queues (now (waiting .entry)) (now (queue .entry))) (n .0) []))) ⌝ }
+    requires { ⌜ Bounded (now waiting) ⌝ }
+    requires { ⌜ (n .0 < 32) × (1 ≤ countAt (now waiting) (n .0)) ⌝ }
+    ensures { λ _. ⌜ Holds (now (waiting .exit)) (now (queue .exit)) (withoutOldest (queues (now (waiting .entry)) (now (queue .entry))) (n .0)) ⌝ }
 {
     let i = n.0 as usize;
     shift(queue, i * 16);

@@ -9,7 +9,7 @@ use Rattle.model.specs.State.{State, initialState}
 use Rattle.model.specs.Turn.{sum32}
 use Rattle.job.specs.Program.{programIn}
 use Rattle.entries.specs.Entries.{ruleOf}
-use Rattle.queues.specs.Queues.{Sound}
+use Rattle.queues.specs.Queues.{Bounded}
 use Rattle.engine.specs.Engine.{view}
 use Rattle.bench.specs.Bench.{tally}
 use Rattle.bench.proofs.Tallying.{tally-made, tally-stopped, tally-ended}
@@ -18,7 +18,7 @@ use Rattle.bench.proofs.leqsumir_bench_turns.Tie as tie
 
 abbrev Inv-loop : tie.InvT-loop
 Inv-loop t work nodes monitored s₀ total₀ k₀ s total k =
-    (k ≤ length nodes) × Sound (s .waiting) × (tally (ruleOf monitored (programIn t work)) nodes (initialState (programIn t work)) 0 ≡ tally (ruleOf monitored (programIn t work)) (drop k nodes) (view s) total)
+    (k ≤ length nodes) × Bounded (s .waiting) × (tally (ruleOf monitored (programIn t work)) nodes (initialState (programIn t work)) 0 ≡ tally (ruleOf monitored (programIn t work)) (drop k nodes) (view s) total)
 
 abbrev μ-loop : tie.MeasureT-loop
 μ-loop t work nodes monitored s₀ total₀ k₀ s total k = length nodes - k
@@ -30,7 +30,7 @@ loop-holds : tie.Need-loop-holds Inv-loop μ-loop
 loop-holds c =
     let a = c .before .before .before .before .args in
     let P = programIn (now (a .t)) (now (a .work)) in
-    (omega arith, c .start .ensures .sound, ap (λ (s : State). tally (ruleOf (a .monitored) P) (now (a .nodes)) s 0) (sym (c .start .ensures .start (now (a .work)))))
+    (omega arith, c .start .ensures .bounded, ap (λ (s : State). tally (ruleOf (a .monitored) P) (now (a .nodes)) s 0) (sym (c .start .ensures .start (now (a .work)))))
 
 shared-slice-read-node : tie.Need-shared-slice-read-node Inv-loop μ-loop
 shared-slice-read-node c = search needs
@@ -66,7 +66,7 @@ loop-again c =
     let l = c .before .before .before .before .before .before .before .before .before .loop in
     let value = c .before .value-of .ensures (c .before .before .before .outcome .given .0 .0 .node .0) in (
       omega (arith, c .before .before .before .before .before .before .before .before .loop-test .taken),
-      c .before .before .before .before .before .before .turn .ensures .sound,
+      c .before .before .before .before .before .before .turn .ensures .bounded,
       l .inv .2 ∙ tally-made _ _ (l .k) (view (l .s)) (l .total) (omega (arith, c .before .before .before .before .before .before .before .before .loop-test .taken)) (c .before .before .before .before .before .before .turn .result .outcome) (view (c .before .before .before .before .before .before .turn .result .state)) (c .before .before .before .before .before .before .turn .ensures .comes .tells) _ (c .before .before .before .outcome .given .1) ∙ ap (tally _ _ _) (sym (c .wrapping-add-u32 .ensures ∙ ap (sum32 (l .total)) value)),
     )
 

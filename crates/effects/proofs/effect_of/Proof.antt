@@ -8,7 +8,7 @@ use Rattle.model.specs.State.{accumulatorAt, withPosition, withAccumulator}
 use Rattle.model.specs.Turn.{advanced}
 use Rattle.entries.proofs.Names.{answer-by}
 use Rattle.effects.proofs.Carrying.{nexts, gets, adds, pluses, sets, jumps}
-use Rattle.effects.specs.declared.Local.{Local}
+use Rattle.effects.specs.declared.Registers.{Registers}
 use Rattle.effects.proofs.effect_of.Statement.{statement}
 use Rattle.effects.proofs.effect_of.Tie as tie
 
@@ -18,14 +18,14 @@ add-next c = search needs
 enum-known-instruction : tie.Need-enum-known-instruction
 enum-known-instruction c = search needs
 
-go-on-requires : tie.Need-go-on-requires
-go-on-requires c κs = search needs
+continue-at-requires : tie.Need-continue-at-requires
+continue-at-requires c κs = search needs
 
 enum-told : tie.Need-enum-told
 enum-told c = search needs
 
-go-on-requires-2 : tie.Need-go-on-requires-2
-go-on-requires-2 c κs = search needs
+continue-at-requires-2 : tie.Need-continue-at-requires-2
+continue-at-requires-2 c κs = search needs
 
 enum-known-instruction-2 : tie.Need-enum-known-instruction-2
 enum-known-instruction-2 c = search needs
@@ -33,14 +33,14 @@ enum-known-instruction-2 c = search needs
 variable-at-requires : tie.Need-variable-at-requires
 variable-at-requires c κs = search needs
 
-go-on-requires-3 : tie.Need-go-on-requires-3
-go-on-requires-3 c κs = search needs
+continue-at-requires-3 : tie.Need-continue-at-requires-3
+continue-at-requires-3 c κs = search needs
 
 enum-known-instruction-3 : tie.Need-enum-known-instruction-3
 enum-known-instruction-3 c = search needs
 
-go-on-requires-4 : tie.Need-go-on-requires-4
-go-on-requires-4 c κs = search needs
+continue-at-requires-4 : tie.Need-continue-at-requires-4
+continue-at-requires-4 c κs = search needs
 
 enum-known-instruction-4 : tie.Need-enum-known-instruction-4
 enum-known-instruction-4 c = search needs
@@ -48,8 +48,8 @@ enum-known-instruction-4 c = search needs
 wrapping-add-u32-requires : tie.Need-wrapping-add-u32-requires
 wrapping-add-u32-requires c κs = search needs
 
-go-on-requires-5 : tie.Need-go-on-requires-5
-go-on-requires-5 c κs = search needs
+continue-at-requires-5 : tie.Need-continue-at-requires-5
+continue-at-requires-5 c κs = search needs
 
 enum-known-instruction-5 : tie.Need-enum-known-instruction-5
 enum-known-instruction-5 c = search needs
@@ -60,32 +60,32 @@ variable-at-requires-2 c κs = search needs
 wrapping-add-u32-requires-2 : tie.Need-wrapping-add-u32-requires-2
 wrapping-add-u32-requires-2 c κs = search needs
 
-go-on-requires-6 : tie.Need-go-on-requires-6
-go-on-requires-6 c κs = search needs
+continue-at-requires-6 : tie.Need-continue-at-requires-6
+continue-at-requires-6 c κs = search needs
 
 enum-known-instruction-6 : tie.Need-enum-known-instruction-6
 enum-known-instruction-6 c = search needs
 
-go-on-requires-7 : tie.Need-go-on-requires-7
-go-on-requires-7 c κs = search needs
+continue-at-requires-7 : tie.Need-continue-at-requires-7
+continue-at-requires-7 c κs = search needs
 
 returns : tie.Need-returns
-returns c = rw (c .before .before .before .instruction6 .given .1) (jumps _ _ _ _ _ _ (c .go-on7 .ensures) (λ w s n h. rw (eq-eqb _ _ (ap (λ (o : Local). o .accumulator) (h .own) ∙ c .before .if1 .taken))))
+returns c = rw (c .before .before .before .instruction6 .given .1) (jumps _ _ _ _ _ _ (c .continue-at7 .ensures) (λ w s n h. rw (eq-eqb _ _ (ap (λ (o : Registers). o .accumulator) (h .own) ∙ c .before .if1 .taken))))
 
-go-on-requires-8 : tie.Need-go-on-requires-8
-go-on-requires-8 c κs = search needs
+continue-at-requires-8 : tie.Need-continue-at-requires-8
+continue-at-requires-8 c κs = search needs
 
 enum-known-instruction-7 : tie.Need-enum-known-instruction-7
 enum-known-instruction-7 c = search needs
 
-go-on-requires-9 : tie.Need-go-on-requires-9
-go-on-requires-9 c κs = search needs
+continue-at-requires-9 : tie.Need-continue-at-requires-9
+continue-at-requires-9 c κs = search needs
 
 enum-known-instruction-8 : tie.Need-enum-known-instruction-8
 enum-known-instruction-8 c = search needs
 
-go-on-requires-10 : tie.Need-go-on-requires-10
-go-on-requires-10 c κs = search needs
+continue-at-requires-10 : tie.Need-continue-at-requires-10
+continue-at-requires-10 c κs = search needs
 
 enum-known-instruction-9 : tie.Need-enum-known-instruction-9
 enum-known-instruction-9 c = search needs
@@ -93,47 +93,47 @@ enum-known-instruction-9 c = search needs
 answer-of-requires : tie.Need-answer-of-requires
 answer-of-requires c κs = search needs
 
-go-on-requires-11 : tie.Need-go-on-requires-11
-go-on-requires-11 c κs = search needs
+continue-at-requires-11 : tie.Need-continue-at-requires-11
+continue-at-requires-11 c κs = search needs
 
 enum-told-2 : tie.Need-enum-told-2
 enum-told-2 c = search needs
 
-go-on-requires-12 : tie.Need-go-on-requires-12
-go-on-requires-12 c κs = search needs
+continue-at-requires-12 : tie.Need-continue-at-requires-12
+continue-at-requires-12 c κs = search needs
 
 returns-2 : tie.Need-returns-2
-returns-2 c = rw (c .before .before .instruction .given .1) (sets _ _ _ _ _ _ (c .go-on .ensures) (λ w s n h. refl))
+returns-2 c = rw (c .before .before .instruction .given .1) (sets _ _ _ _ _ _ (c .continue-at .ensures) (λ w s n h. refl))
 
 returns-3 : tie.Need-returns-3
-returns-3 c = rw (c .before .enum-told .given .1) (sets _ _ _ _ _ _ (c .go-on2 .ensures) (λ w s n h. ap (λ (o : Local). advanced (withAccumulator s n (o .message)) n) (h .own)))
+returns-3 c = rw (c .before .enum-told .given .1) (sets _ _ _ _ _ _ (c .continue-at2 .ensures) (λ w s n h. ap (λ (o : Registers). advanced (withAccumulator s n (o .message)) n) (h .own)))
 
 returns-4 : tie.Need-returns-4
-returns-4 c = rw (c .before .before .before .instruction2 .given .1) (gets _ _ _ _ _ (c .go-on3 .ensures) _ (c .before .variable-at .ensures))
+returns-4 c = rw (c .before .before .before .instruction2 .given .1) (gets _ _ _ _ _ (c .continue-at3 .ensures) _ (c .before .variable-at .ensures))
 
 returns-5 : tie.Need-returns-5
-returns-5 c = rw (c .before .before .instruction3 .given .1) (nexts _ _ _ _ _ _ (c .go-on4 .ensures) (λ w s n. refl) (λ w s n _. tt))
+returns-5 c = rw (c .before .before .instruction3 .given .1) (nexts _ _ _ _ _ _ (c .continue-at4 .ensures) (λ w s n. refl) (λ w s n _. tt))
 
 returns-6 : tie.Need-returns-6
-returns-6 c = rw (c .before .before .before .instruction4 .given .1) (adds _ (c .before .before .before .before .before .before .before .before .args .local) _ _ _ (c .go-on5 .ensures) _ (c .before .wrapping-add-u32 .ensures))
+returns-6 c = rw (c .before .before .before .instruction4 .given .1) (adds _ (c .before .before .before .before .before .before .before .before .args .registers) _ _ _ (c .continue-at5 .ensures) _ (c .before .wrapping-add-u32 .ensures))
 
 returns-7 : tie.Need-returns-7
-returns-7 c = rw (c .before .before .before .before .instruction5 .given .1) (pluses _ (c .before .before .before .before .before .before .before .before .before .args .local) _ _ _ (c .go-on6 .ensures) _ _ (c .before .before .variable-at2 .ensures) (c .before .wrapping-add-u322 .ensures))
+returns-7 c = rw (c .before .before .before .before .instruction5 .given .1) (pluses _ (c .before .before .before .before .before .before .before .before .before .args .registers) _ _ _ (c .continue-at6 .ensures) _ _ (c .before .before .variable-at2 .ensures) (c .before .wrapping-add-u322 .ensures))
 
 returns-8 : tie.Need-returns-8
-returns-8 c = rw (c .before .before .before .instruction6 .given .1) (jumps _ _ _ _ _ _ (c .go-on8 .ensures) (λ w s n h. rw (ne-eqb (accumulatorAt s n) 0 (λ e. c .before .if1 .left (sym (ap (λ (o : Local). o .accumulator) (h .own)) ∙ e))) (ap (λ (o : Local). withPosition s n (o .position + 1)) (h .own))))
+returns-8 c = rw (c .before .before .before .instruction6 .given .1) (jumps _ _ _ _ _ _ (c .continue-at8 .ensures) (λ w s n h. rw (ne-eqb (accumulatorAt s n) 0 (λ e. c .before .if1 .left (sym (ap (λ (o : Registers). o .accumulator) (h .own)) ∙ e))) (ap (λ (o : Registers). withPosition s n (o .position + 1)) (h .own))))
 
 returns-9 : tie.Need-returns-9
-returns-9 c = rw (c .before .before .instruction7 .given .1) (jumps _ _ _ _ _ _ (c .go-on9 .ensures) (λ w s n h. refl))
+returns-9 c = rw (c .before .before .instruction7 .given .1) (jumps _ _ _ _ _ _ (c .continue-at9 .ensures) (λ w s n h. refl))
 
 returns-10 : tie.Need-returns-10
-returns-10 c = rw (c .before .before .instruction8 .given .1) (nexts _ _ _ _ _ _ (c .go-on10 .ensures) (λ w s n. refl) (λ w s n e. e))
+returns-10 c = rw (c .before .before .instruction8 .given .1) (nexts _ _ _ _ _ _ (c .continue-at10 .ensures) (λ w s n. refl) (λ w s n e. e))
 
 returns-11 : tie.Need-returns-11
-returns-11 c = rw (c .before .before .before .instruction9 .given .1) (sets _ _ _ _ _ _ (c .go-on11 .ensures) (λ w s n h. ap (λ (v : ℕ). advanced (withAccumulator s n v) n) (answer-by (now (c .before .before .before .before .before .before .before .before .args .t)) w _ _ ∙ sym (c .before .answer-of .ensures))))
+returns-11 c = rw (c .before .before .before .instruction9 .given .1) (sets _ _ _ _ _ _ (c .continue-at11 .ensures) (λ w s n h. ap (λ (v : ℕ). advanced (withAccumulator s n v) n) (answer-by (now (c .before .before .before .before .before .before .before .before .args .t)) w _ _ ∙ sym (c .before .answer-of .ensures))))
 
 returns-12 : tie.Need-returns-12
-returns-12 c = rw (c .before .enum-told2 .given .1) (nexts _ _ _ _ _ _ (c .go-on12 .ensures) (λ w s n. refl) (λ w s n _. tt))
+returns-12 c = rw (c .before .enum-told2 .given .1) (nexts _ _ _ _ _ _ (c .continue-at12 .ensures) (λ w s n. refl) (λ w s n _. tt))
 
 pub effect-of-spec : {M : Type 1} → statement M
 effect-of-spec =
@@ -141,34 +141,34 @@ effect-of-spec =
     (tie.spec
     add-next
     enum-known-instruction
-    go-on-requires
+    continue-at-requires
     enum-told
-    go-on-requires-2
+    continue-at-requires-2
     enum-known-instruction-2
     variable-at-requires
-    go-on-requires-3
+    continue-at-requires-3
     enum-known-instruction-3
-    go-on-requires-4
+    continue-at-requires-4
     enum-known-instruction-4
     wrapping-add-u32-requires
-    go-on-requires-5
+    continue-at-requires-5
     enum-known-instruction-5
     variable-at-requires-2
     wrapping-add-u32-requires-2
-    go-on-requires-6
+    continue-at-requires-6
     enum-known-instruction-6
-    go-on-requires-7
+    continue-at-requires-7
     returns
-    go-on-requires-8
+    continue-at-requires-8
     enum-known-instruction-7
-    go-on-requires-9
+    continue-at-requires-9
     enum-known-instruction-8
-    go-on-requires-10
+    continue-at-requires-10
     enum-known-instruction-9
     answer-of-requires
-    go-on-requires-11
+    continue-at-requires-11
     enum-told-2
-    go-on-requires-12
+    continue-at-requires-12
     returns-2
     returns-3
     returns-4

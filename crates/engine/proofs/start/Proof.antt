@@ -15,7 +15,7 @@ returns : tie.Need-returns
 unfolding initialState programIn
 returns c =
     let q = c .before .before .fill-queues .ensures in
-    record { sound = q .sound; start = λ w. rw (q .same, c .fill-variables .ensures) }
+    record { bounded = q .bounded; start = λ w. rw (q .same, c .fill-variables .ensures) }
 
 pub start-spec : {M : Type 1} → statement M
 start-spec = tie.close (tie.spec fill-queues-requires fill-variables-requires returns)

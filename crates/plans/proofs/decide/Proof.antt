@@ -3,11 +3,11 @@ use mathlib.Core.Path.{sym, _∙_, ap}
 use denote.Ref.{now}
 use borrow.Author.Needs.{needs}
 use Rattle.job.specs.Program.{programIn}
+use Rattle.effects.specs.declared.Registers.{Registers}
+use Rattle.effects.proofs.Carrying.{does-at}
 use Rattle.plans.proofs.Deciding.{forbidden-planned, full-planned, made-by}
 use Rattle.plans.proofs.decide.Statement.{statement}
 use Rattle.plans.proofs.decide.Tie as tie
-use Rattle.effects.specs.declared.Local.{Local}
-use Rattle.effects.proofs.Carrying.{does-at}
 
 event-of-requires : tie.Need-event-of-requires
 event-of-requires c κs = search needs
@@ -21,8 +21,8 @@ is-forbidden-requires c κs = search needs
 redact-requires : tie.Need-redact-requires
 redact-requires c κs = search needs
 
-entry-of-requires : tie.Need-entry-of-requires
-entry-of-requires c κs = search needs
+make-entry-requires : tie.Need-make-entry-requires
+make-entry-requires c κs = search needs
 
 planned-requires : tie.Need-planned-requires
 planned-requires c κs = search needs
@@ -30,12 +30,12 @@ planned-requires c κs = search needs
 returns : tie.Need-returns
 returns c w s h counts =
     let a = c .before .before .before .before .before .before .before .before .before .args in
-    let left = c .before .before .before .before .before .before .event-of .ensures w s (a .n .0) (ap (λ (o : Local). o .accumulator) (h .own)) (h .variables) in
-    rw (c .planned .ensures, c .before .entry-of .ensures)
-    (forbidden-planned (programIn (now (a .t)) w) s (a .n) (a .monitored) (a .instruction) (c .before .before .before .before .before .before .event-of .result) left (a .local) (h .own) (sym (c .before .before .before .before .is-forbidden .ensures w) ∙ c .before .before .before .if1 .taken) (c .before .before .redact .result) (c .before .before .redact .ensures (a .n .0)))
+    let left = c .before .before .before .before .before .before .event-of .ensures w s (a .n .0) (ap (λ (o : Registers). o .accumulator) (h .own)) (h .variables) in
+    rw (c .planned .ensures, c .before .make-entry .ensures)
+    (forbidden-planned (programIn (now (a .t)) w) s (a .n) (a .monitored) (a .instruction) (c .before .before .before .before .before .before .event-of .result) left (a .registers) (h .own) (sym (c .before .before .before .before .is-forbidden .ensures w) ∙ c .before .before .before .if1 .taken) (c .before .before .redact .result) (c .before .before .redact .ensures (a .n .0)))
 
-entry-of-requires-2 : tie.Need-entry-of-requires-2
-entry-of-requires-2 c κs = search needs
+make-entry-requires-2 : tie.Need-make-entry-requires-2
+make-entry-requires-2 c κs = search needs
 
 blocks-requires : tie.Need-blocks-requires
 blocks-requires c κs = search needs
@@ -46,9 +46,9 @@ planned-requires-2 c κs = search needs
 returns-2 : tie.Need-returns-2
 returns-2 c w s h counts =
     let a = c .before .before .before .before .before .before .before .before .before .before .args in
-    let left = c .before .before .before .before .before .before .before .event-of .ensures w s (a .n .0) (ap (λ (o : Local). o .accumulator) (h .own)) (h .variables) in
-    rw (c .planned2 .ensures, c .before .before .before .entry-of2 .ensures)
-    (full-planned (programIn (now (a .t)) w) s (a .n) (a .monitored) (a .instruction) (c .before .before .before .before .before .before .before .event-of .result) left (a .local) (h .own) (sym (c .before .before .blocks2 .ensures w s counts) ∙ c .before .if2 .taken))
+    let left = c .before .before .before .before .before .before .before .event-of .ensures w s (a .n .0) (ap (λ (o : Registers). o .accumulator) (h .own)) (h .variables) in
+    rw (c .planned2 .ensures, c .before .before .before .make-entry2 .ensures)
+    (full-planned (programIn (now (a .t)) w) s (a .n) (a .monitored) (a .instruction) (c .before .before .before .before .before .before .before .event-of .result) left (a .registers) (h .own) (sym (c .before .before .blocks2 .ensures w s counts) ∙ c .before .if2 .taken))
 
 planned-requires-3 : tie.Need-planned-requires-3
 planned-requires-3 c κs = search needs
@@ -56,8 +56,8 @@ planned-requires-3 c κs = search needs
 returns-3 : tie.Need-returns-3
 returns-3 c w s h counts =
     let a = c .before .before .before .before .before .before .before .before .before .before .args in
-    let left = c .before .before .before .before .before .before .before .event-of .ensures w s (a .n .0) (ap (λ (o : Local). o .accumulator) (h .own)) (h .variables) in
-    rw (c .planned3 .ensures, c .before .before .before .entry-of2 .ensures)
+    let left = c .before .before .before .before .before .before .before .event-of .ensures w s (a .n .0) (ap (λ (o : Registers). o .accumulator) (h .own)) (h .variables) in
+    rw (c .planned3 .ensures, c .before .before .before .make-entry2 .ensures)
     (made-by (programIn (now (a .t)) w) s (a .n) (a .monitored) (a .instruction) (c .before .before .before .before .before .before .before .event-of .result) left (sym (c .before .before .before .before .before .is-forbidden .ensures w) ∙ c .before .before .before .before .if1 .left) (sym (c .before .before .blocks2 .ensures w s counts) ∙ c .before .if2 .left) (c .before .before .before .before .before .before .effect-of .result) (does-at _ _ _ _ _ (c .before .before .before .before .before .before .effect-of .ensures) w s (a .n .0) h))
 
 pub decide-spec : {M : Type 1} → statement M
@@ -68,10 +68,10 @@ decide-spec =
     effect-of-requires
     is-forbidden-requires
     redact-requires
-    entry-of-requires
+    make-entry-requires
     planned-requires
     returns
-    entry-of-requires-2
+    make-entry-requires-2
     blocks-requires
     planned-requires-2
     returns-2

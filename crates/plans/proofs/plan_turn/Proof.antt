@@ -22,10 +22,10 @@ returns : tie.Need-returns
 returns c s h counts first =
     let a = c .before .before .before .before .before .before .before .before .args in
     rw (c .planned .ensures)
-    (unready-planned (programIn (now (a .t)) (now (a .work))) s (a .n) (a .monitored) (a .local) (h .own) (c .before .before .before .if1 .taken) (counts (a .n .0) ∙ c .before .if2 .taken))
+    (unready-planned (programIn (now (a .t)) (now (a .work))) s (a .n) (a .monitored) (a .registers) (h .own) (c .before .before .before .if1 .taken) (counts (a .n .0) ∙ c .before .if2 .taken))
 
-entry-of-requires : tie.Need-entry-of-requires
-entry-of-requires c κs = search needs
+make-entry-requires : tie.Need-make-entry-requires
+make-entry-requires c κs = search needs
 
 planned-requires-2 : tie.Need-planned-requires-2
 planned-requires-2 c κs = search needs
@@ -33,8 +33,8 @@ planned-requires-2 c κs = search needs
 returns-2 : tie.Need-returns-2
 returns-2 c s h counts first =
     let a = c .before .before .before .before .before .before .before .before .before .args in
-    rw (c .planned2 .ensures, c .before .entry-of .ensures)
-    (begun-planned (programIn (now (a .t)) (now (a .work))) s (a .n) (a .monitored) (a .local) (h .own) (c .before .before .before .before .if1 .taken) (λ e. c .before .before .if2 .left (sym (counts (a .n .0)) ∙ e)) (a .oldest) (first (omega (arith, counts (a .n .0), c .before .before .if2 .left))))
+    rw (c .planned2 .ensures, c .before .make-entry .ensures)
+    (begun-planned (programIn (now (a .t)) (now (a .work))) s (a .n) (a .monitored) (a .registers) (h .own) (c .before .before .before .before .if1 .taken) (λ e. c .before .before .if2 .left (sym (counts (a .n .0)) ∙ e)) (a .oldest) (first (omega (arith, counts (a .n .0), c .before .before .if2 .left))))
 
 length-of-requires : tie.Need-length-of-requires
 length-of-requires c κs = search needs
@@ -49,11 +49,11 @@ returns-3 : tie.Need-returns-3
 returns-3 c s h counts first =
     let a = c .before .before .before .before .before .before .before .before .before .args in
     let l = c .before .before .before .length-of .ensures in
-    executed-planned (programIn (now (a .t)) (now (a .work))) s (a .n) (a .monitored) (a .local) (h .own) (c .before .before .before .before .if1 .left) (omega (arith, c .before .before .if3 .taken, l, length-by (now (a .t)) (now (a .work)) (a .n .0)))
-    _ (c .before .fetch .ensures ∙ sym (command-by (now (a .t)) (now (a .work)) (a .n .0) (a .local .position) (omega (arith, c .before .before .if3 .taken, l)))) _ (c .decide .ensures (now (a .work)) s h counts)
+    executed-planned (programIn (now (a .t)) (now (a .work))) s (a .n) (a .monitored) (a .registers) (h .own) (c .before .before .before .before .if1 .left) (omega (arith, c .before .before .if3 .taken, l, length-by (now (a .t)) (now (a .work)) (a .n .0)))
+    _ (c .before .fetch .ensures ∙ sym (command-by (now (a .t)) (now (a .work)) (a .n .0) (a .registers .position) (omega (arith, c .before .before .if3 .taken, l)))) _ (c .decide .ensures (now (a .work)) s h counts)
 
-entry-of-requires-2 : tie.Need-entry-of-requires-2
-entry-of-requires-2 c κs = search needs
+make-entry-requires-2 : tie.Need-make-entry-requires-2
+make-entry-requires-2 c κs = search needs
 
 planned-requires-3 : tie.Need-planned-requires-3
 planned-requires-3 c κs = search needs
@@ -61,8 +61,8 @@ planned-requires-3 c κs = search needs
 returns-4 : tie.Need-returns-4
 returns-4 c s h counts first =
     let a = c .before .before .before .before .before .before .before .before .before .args in
-    rw (c .planned3 .ensures, c .before .entry-of2 .ensures)
-    (finished-planned (programIn (now (a .t)) (now (a .work))) s (a .n) (a .monitored) (a .local) (h .own) (c .before .before .before .before .if1 .left) (omega (arith, c .before .before .if3 .left, c .before .before .before .length-of .ensures, length-by (now (a .t)) (now (a .work)) (a .n .0))))
+    rw (c .planned3 .ensures, c .before .make-entry2 .ensures)
+    (finished-planned (programIn (now (a .t)) (now (a .work))) s (a .n) (a .monitored) (a .registers) (h .own) (c .before .before .before .before .if1 .left) (omega (arith, c .before .before .if3 .left, c .before .before .before .length-of .ensures, length-by (now (a .t)) (now (a .work)) (a .n .0))))
 
 pub plan-turn-spec : {M : Type 1} → statement M
 plan-turn-spec =
@@ -72,13 +72,13 @@ plan-turn-spec =
     element-copy-out-if2
     planned-requires
     returns
-    entry-of-requires
+    make-entry-requires
     planned-requires-2
     returns-2
     length-of-requires
     fetch-requires
     decide-requires
     returns-3
-    entry-of-requires-2
+    make-entry-requires-2
     planned-requires-3
     returns-4)

@@ -3,8 +3,8 @@ use Prim.Native.Nat.{_-_, _≤_}
 use mathlib.Core.Path.{_≡_, sym, _∙_}
 use mathlib.Core.Logic.{⊎-elim}
 use native.Mathlib.Omega.{arith}
-use borrow.Author.Needs.{needs}
 use denote.Ref.{now}
+use borrow.Author.Needs.{needs}
 use Rattle.tables.specs.Tables.{wiredIn}
 use Rattle.queues.specs.Queues.{queues}
 use Rattle.queues.proofs.Sending.{Serving, serving-none, serving-target, serving-other}
@@ -35,13 +35,13 @@ mul-at : tie.Need-mul-at Inv-loop μ-loop
 mul-at c = search needs
 
 cast-at : tie.Need-cast-at Inv-loop μ-loop
-cast-at c = let l = c .before .before .before .before .loop in omega (arith, l .inv .1 .holds .sound (l .target))
+cast-at c = let l = c .before .before .before .before .loop in omega (arith, l .inv .1 .holds .bounded (l .target))
 
 add-at : tie.Need-add-at Inv-loop μ-loop
-add-at c = let l = c .before .before .before .before .loop in omega (arith, l .inv .1 .holds .sound (l .target))
+add-at c = let l = c .before .before .before .before .loop in omega (arith, l .inv .1 .holds .bounded (l .target))
 
 mul-queue : tie.Need-mul-queue Inv-loop μ-loop
-mul-queue c = let l = c .before .before .before .before .loop in omega (arith, l .inv .1 .holds .sound (l .target))
+mul-queue c = let l = c .before .before .before .before .loop in omega (arith, l .inv .1 .holds .bounded (l .target))
 
 element-write-queue : tie.Need-element-write-queue Inv-loop μ-loop
 element-write-queue c =
@@ -50,7 +50,7 @@ element-write-queue c =
     omega (arith, h)
 
 add-waiting : tie.Need-add-waiting Inv-loop μ-loop
-add-waiting c = let l = c .before .before .before .before .loop in omega (arith, l .inv .1 .holds .sound (l .target))
+add-waiting c = let l = c .before .before .before .before .loop in omega (arith, l .inv .1 .holds .bounded (l .target))
 
 element-write-waiting : tie.Need-element-write-waiting Inv-loop μ-loop
 element-write-waiting c = search needs

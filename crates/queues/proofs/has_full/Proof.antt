@@ -5,10 +5,10 @@ use mathlib.Core.Bool.{true, false, and-false}
 use mathlib.Core.Logic.{⊎-elim}
 use native.Mathlib.Omega.{arith}
 use native.Mathlib.Numerals.{add-one}
-use borrow.Author.Needs.{needs}
-use borrow.Author.Tests.{lt-leb, le-leb}
 use denote.Ref.{now}
 use lib.ListN.{getD}
+use borrow.Author.Needs.{needs}
+use borrow.Author.Tests.{lt-leb, le-leb}
 use Rattle.model.specs.Turn.{someBelow}
 use Rattle.model.proofs.Turns.{some-found, some-more}
 use Rattle.tables.specs.Tables.{wiredIn}

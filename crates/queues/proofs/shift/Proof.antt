@@ -2,8 +2,8 @@
 use Prim.Native.Nat.{_-_, _≤_}
 use mathlib.Core.Path.{_≡_, _∙_, ap}
 use native.Mathlib.Omega.{arith}
-use borrow.Author.Needs.{needs}
 use denote.Ref.{now}
+use borrow.Author.Needs.{needs}
 use Rattle.queues.specs.Queues.{shifted}
 use Rattle.queues.proofs.Queues.{shifted-none, shifted-more}
 use Rattle.queues.proofs.shift.Statement.{statement}

@@ -1,10 +1,10 @@
 -- `queues::take_oldest` meets its contract.
 use Prim.Native.Nat.{_-_}
 use native.Mathlib.Omega.{arith}
-use borrow.Author.Needs.{needs}
 use denote.Ref.{now}
 use lib.ListN.{getD}
-use Rattle.queues.proofs.Queues.{queues-popped, sound-set}
+use borrow.Author.Needs.{needs}
+use Rattle.queues.proofs.Queues.{queues-popped, bounded-set}
 use Rattle.queues.proofs.take_oldest.Statement.{statement}
 use Rattle.queues.proofs.take_oldest.Tie as tie
 
@@ -31,10 +31,10 @@ returns c =
     let z = c .before .before .before .before in
     let ws = now (z .args .waiting) in
     let n = z .args .n .0 in
-    let sound = z .pre .1 .0 in
+    let bounded = z .pre .1 .0 in
     record {
-      sound = sound-set ws n (getD ws n 0 - 1) sound (omega arith) (omega (arith, sound n));
-      same = rw (c .before .shift .ensures) (queues-popped ws (now (z .args .queue)) n sound (omega arith) (omega arith));
+      bounded = bounded-set ws n (getD ws n 0 - 1) bounded (omega arith) (omega (arith, bounded n));
+      same = rw (c .before .shift .ensures) (queues-popped ws (now (z .args .queue)) n bounded (omega arith) (omega arith));
     }
 
 pub take-oldest-spec : {M : Type 1} → statement M
