@@ -20,7 +20,7 @@ abbrev pub isPrepared : Decoded → ℕ → Bool
 isPrepared (accepted past) size = leb workSize size
 isPrepared (rejected r) size = false
 
--- what preparing leaves: the tables of the job, blank ones if it is refused, and the handlers of a job that is ready
+-- what preparing leaves: the tables of the job, blank ones if it is refused; and in the work buffer the handlers of a job that is prepared
 pub record Prepares (d : Decoded) (t before after : List ℕ) (answer : Bool) : Type 0 where
   pub ready : answer ≡ isPrepared d (length before)
   pub tables : (past : List Command) → d ≡ accepted past → Stands t past
@@ -32,6 +32,6 @@ abbrev pub summed : List Entry → ℕ → ℕ
 summed [] total = total
 summed (x ∷ entries) total = summed entries (sum32 total (x .value))
 
--- a total with the values of the entries added that a run of these nodes makes from a state on; each node number is taken modulo 32
+-- a total with the values added of the entries that a run of these nodes makes from a state on; the number of a node is taken modulo 32
 unfoldable pub tally : (State → ℕ → Turned) → List ℕ → State → ℕ → ℕ
 tally rule nodes s total = summed (entriesOf (runFrom rule (map (λ n. n % maxNodes) nodes) s .steps)) total

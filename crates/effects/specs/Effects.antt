@@ -1,4 +1,4 @@
--- Effects: a node's numbers and what is changed beside them, and the state that they make.
+-- Effects: a node's registers and what is changed besides, and the state that they make.
 use Prim.Native.Nat.{ℕ, _≤_}
 use mathlib.Core.Path.{_≡_}
 use mathlib.Core.Bool.{Bool, true, false}
@@ -18,26 +18,26 @@ use Rattle.effects.specs.declared.Change.{Change}
 use Rattle.effects.specs.declared.Change.the-variants as c
 use Rattle.effects.specs.declared.Effect.{Effect}
 
--- the node's numbers
+-- registers: position, accumulator and message
 abbrev pub registers : ℕ → ℕ → ℕ → Registers
 registers position accumulator message = record { position = position; accumulator = accumulator; message = message }
 
--- the effect with these numbers and this change
+-- the effect with these registers and this change
 abbrev pub effect : ℕ → ℕ → ℕ → Change → Effect
 effect position accumulator message change = record { registers = registers position accumulator message; change = change }
 
--- a node's numbers in a state
+-- a node's registers in a state
 abbrev pub registersAt : State → ℕ → Registers
 registersAt s n = registers (positionAt s n) (accumulatorAt s n) (messageAt s n)
 
--- the queues behind a change of node n: its oldest message leaves, or each target of a port gets the value; `wired` is by port and target
+-- the queues after a change of node n: its oldest message leaves, or each target of a port gets the value; `wired` is by port and target
 abbrev pub queuesAfter : (ℕ → ℕ → Bool) → ℕ → ℕ → List (List ℕ) → Change → List (List ℕ)
 queuesAfter wired n value qs c.Nothing = qs
 queuesAfter wired n value qs c.Take = withoutOldest qs n
 queuesAfter wired n value qs (c.Send port) = delivered (wired port) value qs maxNodes
 queuesAfter wired n value qs (c.Store x) = qs
 
--- the variables behind a change: the variable becomes the value
+-- the variables after a change: the variable becomes the value
 abbrev pub variablesAfter : ℕ → List ℕ → Change → List ℕ
 variablesAfter value xs c.Nothing = xs
 variablesAfter value xs c.Take = xs
@@ -58,7 +58,7 @@ isNothing c.Take = false
 isNothing (c.Send port) = false
 isNothing (c.Store x) = false
 
--- the state with these numbers of node n and behind its change; what is sent or stored is the accumulator before
+-- the state with these registers of node n and after its change; what is sent or stored is the accumulator before
 abbrev pub carried : Program → State → ℕ → Registers → Change → State
 carried P s n l x =
     record {
@@ -69,7 +69,7 @@ carried P s n l x =
       variable = variablesAfter (accumulatorAt s n) (s .variable) x;
     }
 
--- the state has these numbers of node n and these variables
+-- the state has these registers of node n and these variables
 pub record Shows (s : State) (n : ℕ) (l : Registers) (xs : List ℕ) : Type 0 where
   pub own : registersAt s n ≡ l
   pub variables : s .variable ≡ xs
@@ -79,6 +79,6 @@ pub record Does (P : Program) (s : State) (n : ℕ) (i : Meant) (x : Effect) : T
   pub state : carried P s n (x .registers) (x .change) ≡ performed P s n i
   pub possible : blocked P s n i ≡ false → Possible (P .wired n) n (waitingAt s) (x .change)
 
--- the effect is what the handler command does, at every node, in every state with these numbers and with all handlers
+-- the effect is what the handler command does, at every node, in every state with these registers and variables, whatever the work buffer holds
 unfoldable pub Performs : List ℕ → Instruction → Registers → List ℕ → Effect → Type 0
 Performs t i l xs x = (w : List ℕ) (s : State) (n : ℕ) → Shows s n l xs → Does (programIn t w) s n (instructionOf i) x

@@ -1,20 +1,20 @@
-// What a handler command does, worked out from numbers before anything is changed.
+// Effects: what handler commands do, worked out from numbers before anything is changed.
 ghost use mathlib.Core.Path.{_≡_};
-ghost use Prim.Native.Nat.{ℕ, _<_};
+ghost use Prim.Native.Nat.{_<_};
 ghost use Rattle.effects.specs.Effects.{Performs, effect};
 use command::instruction::Instruction;
 use command::numbers::VarNum;
 use declared::answer_of;
 use entries::variable_at;
 
-// A node's own numbers.
+// A node's registers.
 pub struct Registers {
     pub position: u32,
     pub accumulator: u32,
     pub message: u32,
 }
 
-// What a turn changes beside them: the node's queue, the queues of a port's targets, or a variable.
+// What a turn changes besides its node's registers: its queue, the queues of a port's targets, or a variable.
 pub enum Change {
     Nothing,
     Take,
@@ -22,13 +22,13 @@ pub enum Change {
     Store(VarNum),
 }
 
-// What a handler command does: the node's numbers behind it, and its change.
+// An effect: the node's registers after a handler command, and the command's change.
 pub struct Effect {
     pub registers: Registers,
     pub change: Change,
 }
 
-// The effect of a command that goes on at a position with an accumulator.
+// The effect of a command after which the node stands at a position with an accumulator.
 fn continue_at(registers: Registers, position: u32, accumulator: u32, change: Change) -> Effect
     ensures { λ r. ⌜ r ≡ effect position accumulator (registers .message) change ⌝ }
 {
@@ -43,7 +43,7 @@ fn continue_at(registers: Registers, position: u32, accumulator: u32, change: Ch
     }
 }
 
-// What a handler command does.
+// The effect of a handler command.
 pub fn effect_of(
     t: &[u32],
     instruction: Instruction,

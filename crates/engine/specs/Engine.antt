@@ -21,12 +21,12 @@ view s =
       variable = s .variable;
     }
 
--- no more messages wait at a node than it has slots, and the state stands for the start of the program in the tables, with all handlers
+-- no more messages wait at a node than it has slots, and the state stands for the start of the program in the tables, whatever the work buffer holds
 pub record Starts (t : List ℕ) (s : State) : Type 0 where
   pub bounded : Bounded (s .waiting)
   pub start : (w : List ℕ) → view s ≡ initialState (programIn t w)
 
--- no more messages wait at a node than it has slots, and outcome and state are what the turn of the program in tables and work buffer comes to
+-- no more messages wait at a node than it has slots; outcome and state are what the turn of the program in tables and work buffer comes to; and a stop leaves the whole state, free slots included
 pub record Turns (t w : List ℕ) (n : ℕ) (monitored : Bool) (before : State) (turned : Turned) : Type 0 where
   pub bounded : Bounded (turned .state .waiting)
   pub comes : Comes (view before) (ruleOf monitored (programIn t w) (view before) n) (turned .outcome) (view (turned .state))

@@ -1,6 +1,5 @@
 // The engine: the state of a run, its start, and one turn.
-ghost use mathlib.Core.Path.{_≡_};
-ghost use Prim.Native.Nat.{ℕ, _<_};
+ghost use Prim.Native.Nat.{_<_};
 ghost use Rattle.queues.specs.Queues.{Bounded};
 ghost use Rattle.engine.specs.Engine.{Starts, Turns};
 use command::numbers::NodeNum;
@@ -23,7 +22,7 @@ pub struct State {
     pub variable: [u32; 64],
 }
 
-// What a turn hands back: the state behind it, and its entry or stop.
+// What a turn hands back: the state after it, and its entry or stop.
 pub struct Turned {
     pub state: State,
     pub outcome: Outcome,

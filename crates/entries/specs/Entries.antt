@@ -30,7 +30,7 @@ entryFor n (e.Send port value) = entry n 6 port value
 abbrev pub numbersOf : Entry → Meant
 numbersOf x = entryFor (x .node .0) (x .event)
 
--- what an outcome stands for, with the state behind the turn: an entry made, or stop 1 (forbidden), 2 (idle, queue empty) or 3 (a target full) with the attempted entry
+-- what an outcome stands for, with the state after the turn: an entry made, or stop 1 (forbidden), 2 (idle, queue empty) or 3 (a target full) with the attempted entry
 abbrev pub turnedBy : Outcome → State → Turned
 turnedBy (o.Made x) s = completed (numbersOf x) s
 turnedBy (o.Forbidden x) s = stopped 1 (numbersOf x)
@@ -44,7 +44,7 @@ isStop (o.Forbidden x) = true
 isStop (o.Unready n) = true
 isStop (o.Full x) = true
 
--- the state behind a turn: a stopped turn leaves the state as it was
+-- the state after a turn: a stopped turn leaves the state as it was
 abbrev pub stateAfter : State → Turned → State
 stateAfter s (completed x after) = after
 stateAfter s (stopped k x) = s
@@ -58,12 +58,12 @@ pub record Comes (s : State) (turned : Turned) (outcome : Outcome) (after : Stat
 abbrev pub ruleOf : Bool → Program → State → ℕ → Turned
 ruleOf monitored P s n = cond monitored (monitoredTurn P s n) (turn P s n)
 
--- the event is the one that the handler command leaves, with this accumulator and these variables before it, at every node and with all handlers
+-- the event is the one that the handler command leaves, with this accumulator and these variables before it, at every node and whatever the work buffer holds
 abbrev pub LeavesEvent : List ℕ → Instruction → ℕ → List ℕ → Event → Type 0
 LeavesEvent t i accumulator variables x =
     (w : List ℕ) (s : State) (n : ℕ) → accumulatorAt s n ≡ accumulator → s .variable ≡ variables → entryFor n x ≡ entryOf (programIn t w) s n (instructionOf i)
 
--- the answer says whether the lists permit a node's event, with all handlers
+-- the answer says whether the lists permit a node's event, whatever the work buffer holds
 abbrev pub Judges : List ℕ → ℕ → Event → Bool → Type 0
 Judges t n x answer = (w : List ℕ) → answer ≡ permitted (programIn t w) (entryFor n x)
 

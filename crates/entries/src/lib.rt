@@ -14,7 +14,7 @@ use command::numbers::NodeNum;
 use command::numbers::VarNum;
 use declared::is_shared;
 
-// What a turn did, each kind with its own numbers.
+// What a turn does, each kind with its own numbers.
 pub enum Event {
     Other,
     Begin(u32),
@@ -31,7 +31,7 @@ pub struct Entry {
     pub event: Event,
 }
 
-// What a turn comes to: its entry; or the stop with what it attempted.
+// What a turn comes to: its entry, or the stop with what was attempted.
 pub enum Outcome {
     Made(Entry),
     Forbidden(Entry),
@@ -47,7 +47,7 @@ pub fn variable_at(variable: &[u32], x: VarNum) -> u32
     if i < variable.len() { variable[i] } else { 0 }
 }
 
-// Reading a variable.
+// The event of reading a variable: a shared one's shows.
 fn read_of(t: &[u32], x: VarNum, variable: &[u32]) -> Event
     ensures { λ r. ⌜ r ≡ cond (sharedIn (now (t .entry)) (x .0)) (Event.Read x (getD (now (variable .entry)) (x .0) 0)) Event.Other ⌝ }
 {
@@ -59,7 +59,7 @@ fn read_of(t: &[u32], x: VarNum, variable: &[u32]) -> Event
     }
 }
 
-// Writing a variable.
+// The event of writing a variable: a shared one's shows.
 fn write_of(t: &[u32], x: VarNum, value: u32) -> Event
     ensures { λ r. ⌜ r ≡ cond (sharedIn (now (t .entry)) (x .0)) (Event.Write x value) Event.Other ⌝ }
 {
@@ -70,7 +70,7 @@ fn write_of(t: &[u32], x: VarNum, value: u32) -> Event
     }
 }
 
-// What a handler command leaves, by the accumulator and the variables before it.
+// The event that a handler command leaves, by the accumulator and the variables before it.
 pub fn event_of(t: &[u32], instruction: Instruction, accumulator: u32, variable: &[u32]) -> Event
     ensures { λ r. ⌜ LeavesEvent (now (t .entry)) instruction accumulator (now (variable .entry)) r ⌝ }
 {

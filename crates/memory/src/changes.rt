@@ -1,6 +1,6 @@
-// What a turn changes beside its node's numbers.
+// What a turn changes besides its node's registers.
 ghost use mathlib.Core.Path.{_≡_};
-ghost use Prim.Native.Nat.{ℕ, _<_};
+ghost use Prim.Native.Nat.{_<_};
 ghost use lib.ListN.{length};
 ghost use Rattle.tables.specs.Tables.{wiredIn};
 ghost use Rattle.effects.specs.Effects.{variablesAfter, Possible};
@@ -11,7 +11,7 @@ use effects::Change;
 use queues::deliver;
 use queues::take_oldest;
 
-// The queues behind a change of a node; the value is what it sends.
+// The queues after a change of a node; the value is what it sends.
 pub fn change_queues(
     queue: &mut [u32; 512],
     waiting: &mut [u8; 32],
@@ -33,7 +33,7 @@ pub fn change_queues(
     }
 }
 
-// The variables behind a change; the value is what is stored.
+// The variables after a change; the value is what is stored.
 pub fn change_variable(variable: &mut [u32; 64], change: Change, value: u32)
     requires { ⌜ length (now variable) ≡ 64 ⌝ }
     ensures { λ _. ⌜ now (variable .exit) ≡ variablesAfter value (now (variable .entry)) change ⌝ }

@@ -1,6 +1,5 @@
 // What the arrays hold at the start of a run.
 ghost use mathlib.Core.Path.{_≡_};
-ghost use Prim.Native.Nat.{ℕ};
 ghost use lib.ListN.{length};
 ghost use Rattle.model.specs.Table.{maxNodes, maxVariables};
 ghost use Rattle.model.specs.State.{tabulate};

@@ -1,4 +1,4 @@
--- A turn as a plan: the node's numbers behind it, what it changes beside them, and its outcome.
+-- A turn as a plan: the node's registers after it, what it changes besides, and its outcome.
 use Prim.Native.Nat.{ℕ, _≤_}
 use mathlib.Core.Path.{_≡_}
 use mathlib.Core.Bool.{Bool, true, cond}
@@ -30,7 +30,7 @@ entryBy n event = record { node = n; event = event }
 abbrev pub plan : Registers → Change → Outcome → Plan
 plan l change outcome = record { registers = l; change = change; outcome = outcome }
 
--- as many messages wait at each node
+-- as many messages wait at each node as `ws` says
 abbrev pub Waits : State → List ℕ → Type 0
 Waits s ws = (k : ℕ) → waitingAt s k ≡ getD ws k 0
 
@@ -42,18 +42,18 @@ Blocks t n i ws answer = (w : List ℕ) (s : State) → Waits s ws → answer �
 abbrev pub judged : Bool → Program → Turned → Turned
 judged monitored P x = cond monitored (enforced P x) x
 
--- the plan, carried out, is this turn
+-- the plan, carried out, is this turn; it can be carried out, and changes nothing if it is a stop
 pub record Plans (P : Program) (s : State) (n : ℕ) (turned : Turned) (p : Plan) : Type 0 where
   pub comes : Comes s turned (p .outcome) (carried P s n (p .registers) (p .change))
   pub possible : Possible (P .wired n) n (waitingAt s) (p .change)
   pub stays : isStop (p .outcome) ≡ true → (p .registers ≡ registersAt s n) × (p .change ≡ c.Nothing)
 
--- the plan is what the node's turn at the handler command comes to, in every state with these numbers
+-- the plan is what the node's turn at the handler command comes to, in every state with these registers, counts and variables, whatever the work buffer holds
 abbrev pub PlansCommand : List ℕ → NodeNum → Bool → Instruction → Registers → List ℕ → List ℕ → Plan → Type 0
 PlansCommand t n monitored i l ws variables p =
     (w : List ℕ) (s : State) → Shows s (n .0) l variables → Waits s ws → Plans (programIn t w) s (n .0) (judged monitored (programIn t w) (executed (programIn t w) s (n .0) (instructionOf i))) p
 
--- the plan is the node's turn, in every state with these numbers and, if a message waits, this oldest one
+-- the plan is the node's turn, in every state with these registers, counts and variables and, if a message waits, this oldest one
 abbrev pub PlansTurn : List ℕ → List ℕ → NodeNum → Bool → Registers → ℕ → List ℕ → List ℕ → Plan → Type 0
 PlansTurn t w n monitored l first ws variables p =
     (s : State) → Shows s (n .0) l variables → Waits s ws → (1 ≤ waitingAt s (n .0) → oldest s (n .0) ≡ first) → Plans (programIn t w) s (n .0) (ruleOf monitored (programIn t w) s (n .0)) p

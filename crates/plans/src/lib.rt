@@ -25,7 +25,7 @@ use queues::has_full;
 // The position of a node that is idle.
 pub const IDLE: u32 = 255;
 
-// A turn: the node's numbers behind it, its change and its outcome.
+// A turn: the node's registers after it, its change and its outcome.
 pub struct Plan {
     pub registers: Registers,
     pub change: Change,
@@ -75,8 +75,8 @@ fn make_entry(n: NodeNum, event: Event) -> Entry
     }
 }
 
-// The turn of a node at a handler command: forbidden, a target full, or made. What the command does is worked out first, and stands in the
-// plan of a turn that is made only.
+// The turn of a node at a handler command: forbidden, a target full, or made. What the command does is worked out first, and stands only
+// in the plan of a turn that is made.
 fn decide<'a>(
     t: &[u32],
     n: NodeNum,
@@ -104,7 +104,7 @@ fn decide<'a>(
     planned(effect.registers, change, Outcome::Made(entry))
 }
 
-// The turn of a node, by its numbers, the message in its first slot, how many messages wait at each node, and the variables.
+// The turn of a node, by its registers, the message in its first slot, how many messages wait at each node, and the variables.
 pub fn plan_turn<'a>(
     t: &[u32],
     work: &[u8],

@@ -52,7 +52,7 @@ pub fn deliver(
     }
 }
 
-// The 15 slots behind a queue's first move down by one.
+// The 15 slots that follow a queue's first move down by one.
 fn shift(queue: &mut [u32; 512], base: usize)
     requires { ⌜ (length (now queue) ≡ 512) × (base + 16 ≤ 512) ⌝ }
     ensures { λ _. ⌜ now (queue .exit) ≡ shifted (now (queue .entry)) base 15 ⌝ }
