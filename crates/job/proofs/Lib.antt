@@ -1,4 +1,3 @@
-pub mod Judging
 pub mod Judged
 pub mod Going
 pub mod Looking

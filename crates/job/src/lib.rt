@@ -1,6 +1,5 @@
-// Decoding a job: the tests 4 to 8 of one command, the walk over all commands, the jumps, and the turns.
+// Decoding a job: the walk over all commands, the jumps, and the turns.
 mod jumps;
-mod test;
 pub mod turns;
 mod walk;
 

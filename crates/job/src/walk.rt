@@ -11,13 +11,13 @@ ghost use Rattle.tables.specs.Stands.{Stands};
 ghost use Rattle.tables.specs.Cells.{cellCount};
 ghost use Rattle.job.specs.Decoding.{Steps, Verdicts};
 use crate::Verdict;
-use crate::test::violation_of;
 use command::read::Command;
 use command::read::Parsed;
 use command::read::Refusal;
 use command::read::read_command;
 use notes::note;
 use tables::cells::clear;
+use violations::violation_of;
 
 // A step: to the place of the next command, or the refusal of the job.
 pub(crate) enum Step {

@@ -1,7 +1,7 @@
--- `job::test::has_no_owner` meets its contract.
+-- `violations::has_no_owner` meets its contract.
 use borrow.Author.Tests.{ne-eqb}
-use Rattle.job.proofs.test.has_no_owner.Statement.{statement}
-use Rattle.job.proofs.test.has_no_owner.Tie as tie
+use Rattle.violations.proofs.has_no_owner.Statement.{statement}
+use Rattle.violations.proofs.has_no_owner.Tie as tie
 
 returns : tie.Need-returns
 returns c = rw (c .before .match .keys1)

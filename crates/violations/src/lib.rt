@@ -10,7 +10,7 @@ ghost use Rattle.model.specs.Valid.{Plain};
 ghost use Rattle.command.specs.Rows.{kindOf};
 ghost use Rattle.command.specs.Reading.{commandOf, Known};
 ghost use Rattle.tables.specs.Stands.{Stands};
-ghost use Rattle.job.specs.Tests.{countsAs};
+ghost use Rattle.violations.specs.Tests.{countsAs};
 use command::bytes;
 use command::numbers::FunNum;
 use command::numbers::NodeNum;
@@ -173,7 +173,7 @@ fn first_of(falls: bool, exceeds: bool, undeclared: bool, outside: bool, again: 
 }
 
 // The number of the first of the tests 4 to 8 that refuses a command, or 0.
-pub(crate) fn violation_of(t: &[u32], c: Command) -> u8
+pub fn violation_of(t: &[u32], c: Command) -> u8
     requires { ⌜ Known c ⌝ }
     ensures { λ r. ⌜ ((past : List Past) → Stands (now (t .entry)) past → Plain (commandOf c) → r ≡ violation past (commandOf c)) ⌝ }
 {

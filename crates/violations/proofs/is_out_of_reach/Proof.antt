@@ -1,9 +1,9 @@
--- `job::test::is_out_of_reach` meets its contract.
+-- `violations::is_out_of_reach` meets its contract.
 use mathlib.Core.Path.{refl}
 use borrow.Author.Needs.{needs}
-use Rattle.job.proofs.Judging.{wire-reach, use-reach, access-reach, other-reach}
-use Rattle.job.proofs.test.is_out_of_reach.Statement.{statement}
-use Rattle.job.proofs.test.is_out_of_reach.Tie as tie
+use Rattle.violations.proofs.Judging.{wire-reach, use-reach, access-reach, other-reach}
+use Rattle.violations.proofs.is_out_of_reach.Statement.{statement}
+use Rattle.violations.proofs.is_out_of_reach.Tie as tie
 
 flow-of-requires : tie.Need-flow-of-requires
 flow-of-requires c κs = search needs

@@ -1,8 +1,8 @@
--- `job::test::violation_of` meets its contract.
-use Rattle.job.proofs.Judging.{violation-as}
+-- `violations::violation_of` meets its contract.
+use Rattle.violations.proofs.Judging.{violation-as}
 use borrow.Author.Needs.{needs}
-use Rattle.job.proofs.test.violation_of.Statement.{statement}
-use Rattle.job.proofs.test.violation_of.Tie as tie
+use Rattle.violations.proofs.violation_of.Statement.{statement}
+use Rattle.violations.proofs.violation_of.Tie as tie
 
 cast-group : tie.Need-cast-group
 cast-group c = search needs

@@ -1,9 +1,9 @@
--- `job::test::names_nothing` meets its contract.
+-- `violations::names_nothing` meets its contract.
 use mathlib.Core.Path.{sym}
 use borrow.Author.Needs.{needs}
-use Rattle.job.proofs.Judging.{names-none}
-use Rattle.job.proofs.test.names_nothing.Statement.{statement}
-use Rattle.job.proofs.test.names_nothing.Tie as tie
+use Rattle.violations.proofs.Judging.{names-none}
+use Rattle.violations.proofs.names_nothing.Statement.{statement}
+use Rattle.violations.proofs.names_nothing.Tie as tie
 
 has-no-owner-requires : tie.Need-has-no-owner-requires
 has-no-owner-requires c κs = search needs

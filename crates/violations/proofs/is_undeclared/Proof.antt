@@ -1,8 +1,8 @@
--- `job::test::is_undeclared` meets its contract.
+-- `violations::is_undeclared` meets its contract.
 use borrow.Author.Needs.{needs}
-use Rattle.job.proofs.Judging.{undeclared-same}
-use Rattle.job.proofs.test.is_undeclared.Statement.{statement}
-use Rattle.job.proofs.test.is_undeclared.Tie as tie
+use Rattle.violations.proofs.Judging.{undeclared-same}
+use Rattle.violations.proofs.is_undeclared.Statement.{statement}
+use Rattle.violations.proofs.is_undeclared.Tie as tie
 
 row-at-requires : tie.Need-row-at-requires
 row-at-requires c κs = search needs

@@ -1,6 +1,6 @@
 -- What the code's counts stand for.
 use Rattle.model.specs.Refusal.{Counts}
-use Rattle.job.specs.declared.test.Counts.{Counts as Counted}
+use Rattle.violations.specs.declared.Counts.{Counts as Counted}
 
 -- how many flows, nodes, variables and functions are declared
 abbrev pub countsAs : Counted → Counts

@@ -1,8 +1,8 @@
--- `job::test::is_repeated` meets its contract.
+-- `violations::is_repeated` meets its contract.
 use borrow.Author.Needs.{needs}
-use Rattle.job.proofs.Judging.{wire-same, any-same, arg-same, read-same, write-same, body-same, start-same, other-same}
-use Rattle.job.proofs.test.is_repeated.Statement.{statement}
-use Rattle.job.proofs.test.is_repeated.Tie as tie
+use Rattle.violations.proofs.Judging.{wire-same, any-same, arg-same, read-same, write-same, body-same, start-same, other-same}
+use Rattle.violations.proofs.is_repeated.Statement.{statement}
+use Rattle.violations.proofs.is_repeated.Tie as tie
 
 is-wired-requires : tie.Need-is-wired-requires
 is-wired-requires c κs = search needs

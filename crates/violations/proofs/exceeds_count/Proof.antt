@@ -1,8 +1,8 @@
--- `job::test::exceeds_count` meets its contract.
+-- `violations::exceeds_count` meets its contract.
 use borrow.Author.Needs.{needs}
-use Rattle.job.proofs.Judging.{exceeds-same}
-use Rattle.job.proofs.test.exceeds_count.Statement.{statement}
-use Rattle.job.proofs.test.exceeds_count.Tie as tie
+use Rattle.violations.proofs.Judging.{exceeds-same}
+use Rattle.violations.proofs.exceeds_count.Statement.{statement}
+use Rattle.violations.proofs.exceeds_count.Tie as tie
 
 row-at-requires : tie.Need-row-at-requires
 row-at-requires c κs = search needs
