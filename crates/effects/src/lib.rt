@@ -29,10 +29,10 @@ pub struct Effect {
 }
 
 // The effect of a command after which the node stands at a position with an accumulator.
-fn continue_at(registers: Registers, position: u32, accumulator: u32, change: Change) -> Effect
-    ensures { λ r. ⌜ r ≡ effect position accumulator (registers .message) change ⌝ }
+fn continue_at(own: Registers, position: u32, accumulator: u32, change: Change) -> Effect
+    ensures { λ r. ⌜ r ≡ effect position accumulator (own .message) change ⌝ }
 {
-    let message = registers.message;
+    let message = own.message;
     Effect {
         registers: Registers {
             position: position,
@@ -44,29 +44,19 @@ fn continue_at(registers: Registers, position: u32, accumulator: u32, change: Ch
 }
 
 // The effect of a handler command.
-pub fn effect_of(
-    t: &[u32],
-    instruction: Instruction,
-    registers: Registers,
-    variable: &[u32],
-) -> Effect
-    requires { ⌜ registers .position < 4294967295 ⌝ }
-    ensures { λ r. ⌜ Performs (now (t .entry)) instruction registers (now (variable .entry)) r ⌝ }
+pub fn effect_of(t: &[u32], instruction: Instruction, own: Registers, variable: &[u32]) -> Effect
+    requires { ⌜ own .position < 4294967295 ⌝ }
+    ensures { λ r. ⌜ Performs (now (t .entry)) instruction own (now (variable .entry)) r ⌝ }
 {
-    let next = registers.position + 1;
-    let a = registers.accumulator;
+    let next = own.position + 1;
+    let a = own.accumulator;
     match instruction {
-        Instruction::Set(value) => continue_at(registers, next, value, Change::Nothing),
-        Instruction::Take => continue_at(registers, next, registers.message, Change::Nothing),
-        Instruction::Get(x) => continue_at(
-            registers,
-            next,
-            variable_at(variable, x),
-            Change::Nothing,
-        ),
-        Instruction::Put(x) => continue_at(registers, next, a, Change::Store(x)),
+        Instruction::Set(value) => continue_at(own, next, value, Change::Nothing),
+        Instruction::Take => continue_at(own, next, own.message, Change::Nothing),
+        Instruction::Get(x) => continue_at(own, next, variable_at(variable, x), Change::Nothing),
+        Instruction::Put(x) => continue_at(own, next, a, Change::Store(x)),
         Instruction::Add(value) => continue_at(
-            registers,
+            own,
             next,
             std::num::wrapping_add_u32(a, value),
             Change::Nothing,
@@ -74,7 +64,7 @@ pub fn effect_of(
         Instruction::Plus(x) => {
             let value = variable_at(variable, x);
             continue_at(
-                registers,
+                own,
                 next,
                 std::num::wrapping_add_u32(a, value),
                 Change::Nothing,
@@ -82,13 +72,13 @@ pub fn effect_of(
         }
         Instruction::JumpZero(target) => {
             if a == 0 {
-                return continue_at(registers, target, a, Change::Nothing);
+                return continue_at(own, target, a, Change::Nothing);
             }
-            continue_at(registers, next, a, Change::Nothing)
+            continue_at(own, next, a, Change::Nothing)
         }
-        Instruction::Jump(target) => continue_at(registers, target, a, Change::Nothing),
-        Instruction::Send(port) => continue_at(registers, next, a, Change::Send(port)),
-        Instruction::Call(f) => continue_at(registers, next, answer_of(t, f), Change::Nothing),
-        Instruction::Skip => continue_at(registers, next, a, Change::Nothing),
+        Instruction::Jump(target) => continue_at(own, target, a, Change::Nothing),
+        Instruction::Send(port) => continue_at(own, next, a, Change::Send(port)),
+        Instruction::Call(f) => continue_at(own, next, answer_of(t, f), Change::Nothing),
+        Instruction::Skip => continue_at(own, next, a, Change::Nothing),
     }
 }

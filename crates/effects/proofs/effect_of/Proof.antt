@@ -115,10 +115,10 @@ returns-5 : tie.Need-returns-5
 returns-5 c = rw (c .before .before .instruction3 .given .1) (nexts _ _ _ _ _ _ (c .continue-at4 .ensures) (λ w s n. refl) (λ w s n _. tt))
 
 returns-6 : tie.Need-returns-6
-returns-6 c = rw (c .before .before .before .instruction4 .given .1) (adds _ (c .before .before .before .before .before .before .before .before .args .registers) _ _ _ (c .continue-at5 .ensures) _ (c .before .wrapping-add-u32 .ensures))
+returns-6 c = rw (c .before .before .before .instruction4 .given .1) (adds _ (c .before .before .before .before .before .before .before .before .args .own) _ _ _ (c .continue-at5 .ensures) _ (c .before .wrapping-add-u32 .ensures))
 
 returns-7 : tie.Need-returns-7
-returns-7 c = rw (c .before .before .before .before .instruction5 .given .1) (pluses _ (c .before .before .before .before .before .before .before .before .before .args .registers) _ _ _ (c .continue-at6 .ensures) _ _ (c .before .before .variable-at2 .ensures) (c .before .wrapping-add-u322 .ensures))
+returns-7 c = rw (c .before .before .before .before .instruction5 .given .1) (pluses _ (c .before .before .before .before .before .before .before .before .before .args .own) _ _ _ (c .continue-at6 .ensures) _ _ (c .before .before .variable-at2 .ensures) (c .before .wrapping-add-u322 .ensures))
 
 returns-8 : tie.Need-returns-8
 returns-8 c = rw (c .before .before .before .instruction6 .given .1) (jumps _ _ _ _ _ _ (c .continue-at8 .ensures) (λ w s n h. rw (ne-eqb (accumulatorAt s n) 0 (λ e. c .before .if1 .left (sym (ap (λ (o : Registers). o .accumulator) (h .own)) ∙ e))) (ap (λ (o : Registers). withPosition s n (o .position + 1)) (h .own))))
