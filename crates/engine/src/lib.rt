@@ -9,6 +9,7 @@ use memory::changes::change_queues;
 use memory::changes::change_variable;
 use memory::filling::fill_queues;
 use memory::filling::fill_variables;
+use plans::IDLE;
 use plans::plan_turn;
 
 // The state of a run: of each node the position in its handler, the accumulator (01's "hand"), the message being handled and how many
@@ -33,7 +34,7 @@ pub fn start(t: &[u32]) -> State
     ensures { λ r. ⌜ Starts (now (t .entry)) r ⌝ }
 {
     let mut s = State {
-        position: [255; 32],
+        position: [IDLE; 32],
         accumulator: [0; 32],
         message: [0; 32],
         waiting: [0; 32],
