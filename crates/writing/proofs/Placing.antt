@@ -1,0 +1,57 @@
+-- Laws of bytes that are placed in a buffer: one part behind the other, and all from the front.
+use Prim.Native.Nat.{ℕ, zero, suc, _+_, _≤_, _<_}
+use mathlib.Core.Path.{_≡_, refl, sym, ap, _∙_}
+use mathlib.Core.List.{List, [], _∷_, _++_, append-assoc}
+use native.Mathlib.Omega.{arith}
+use lib.ListN.{length, drop, set, length-append, length-drop}
+use Rattle.model.specs.Result.{written}
+use Rattle.writing.specs.Writing.{placed, Writes}
+
+-- one byte
+pub set-placed : (buffer : List ℕ) (at x : ℕ) → at < length buffer → set buffer at x ≡ placed buffer at (x ∷ [])
+unfolding placed
+set-placed [] at x h = absurd (omega arith)
+set-placed (y ∷ buffer) zero x h = refl
+set-placed (y ∷ buffer) (suc at) x h = ap (λ (l : List ℕ). y ∷ l) (set-placed buffer at x (omega arith))
+
+-- placing keeps the length
+pub length-placed : (buffer : List ℕ) (at : ℕ) (bytes : List ℕ) → at + length bytes ≤ length buffer → length (placed buffer at bytes) ≡ length buffer
+unfolding placed
+length-placed buffer zero bytes h = length-append bytes (drop (length bytes) buffer) ∙ omega (arith, length-drop (length bytes) buffer)
+length-placed [] (suc at) bytes h = absurd (omega arith)
+length-placed (y ∷ buffer) (suc at) bytes h = ap suc (length-placed buffer at bytes (omega arith))
+
+-- bytes behind bytes, from the front and from any place on
+behind-front : (buffer xs ys : List ℕ) → length xs + length ys ≤ length buffer → placed (placed buffer zero xs) (length xs) ys ≡ placed buffer zero (xs ++ ys)
+unfolding placed
+behind-front buffer [] ys h = refl
+behind-front [] (x ∷ xs) ys h = absurd (omega arith)
+behind-front (y ∷ buffer) (x ∷ xs) ys h = ap (λ (l : List ℕ). x ∷ l) (behind-front buffer xs ys (omega arith))
+
+pub placed-placed :
+    (buffer : List ℕ) (at : ℕ) (xs ys : List ℕ) (next : ℕ) → next ≡ at + length xs → at + length xs + length ys ≤ length buffer
+    → placed (placed buffer at xs) next ys ≡ placed buffer at (xs ++ ys)
+unfolding placed
+placed-placed buffer zero xs ys next e h = let f : next ≡ length xs = omega arith in rw f (behind-front buffer xs ys (omega arith))
+placed-placed [] (suc at) xs ys next e h = absurd (omega arith)
+placed-placed (y ∷ buffer) (suc at) xs ys zero e h = absurd (omega arith)
+placed-placed (y ∷ buffer) (suc at) xs ys (suc next) e h = ap (λ (l : List ℕ). y ∷ l) (placed-placed buffer at xs ys next (omega arith) (omega arith))
+
+-- from the front
+pub placed-front : (buffer bytes : List ℕ) → placed buffer 0 bytes ≡ written bytes buffer
+unfolding placed
+placed-front buffer bytes = refl
+
+-- one write behind another is one write
+pub writes-on :
+    (xs ys before : List ℕ) (at : ℕ) (between : List ℕ) (next : ℕ) (after : List ℕ) (last : ℕ) → at + length xs + length ys ≤ length before
+    → Writes xs before at between next → Writes ys between next after last → Writes (xs ++ ys) before at after last
+writes-on xs ys before at between next after last h p q =
+    record {
+      place = omega (arith, p .place, q .place, length-append xs ys);
+      buffer = q .buffer ∙ ap (λ (l : List ℕ). placed l next ys) (p .buffer) ∙ placed-placed before at xs ys next (p .place) h;
+    }
+
+-- writing keeps the length
+pub length-writes : (bytes before : List ℕ) (at : ℕ) (after : List ℕ) (next : ℕ) → at + length bytes ≤ length before → Writes bytes before at after next → length after ≡ length before
+length-writes bytes before at after next h w = ap length (w .buffer) ∙ length-placed before at bytes h

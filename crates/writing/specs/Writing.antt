@@ -1,0 +1,14 @@
+-- What writing to a buffer leaves.
+use Prim.Native.Nat.{ℕ, _+_}
+use mathlib.Core.Path.{_≡_}
+use mathlib.Core.List.{List, _++_}
+use lib.ListN.{length, take, drop}
+
+-- a buffer with these bytes from a place on; those before and behind stay unchanged
+unfoldable pub placed : List ℕ → ℕ → List ℕ → List ℕ
+placed buffer at bytes = take at buffer ++ bytes ++ drop (length bytes) (drop at buffer)
+
+-- the bytes stand in the buffer from `at` on, and `next` is the place behind them
+pub record Writes (bytes before : List ℕ) (at : ℕ) (after : List ℕ) (next : ℕ) : Type 0 where
+  pub place : next ≡ at + length bytes
+  pub buffer : after ≡ placed before at bytes

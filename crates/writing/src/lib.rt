@@ -1,0 +1,26 @@
+// Writing to a buffer from one place to the next: each function answers the place behind what it wrote.
+ghost use mathlib.Core.List.{[], _∷_};
+ghost use Prim.Native.Nat.{_+_, _≤_, _<_};
+ghost use lib.ListN.{length};
+ghost use Rattle.model.specs.Output.{bytes4};
+ghost use Rattle.writing.specs.Writing.{Writes};
+
+// Writes one byte.
+pub fn put_byte(buffer: &mut [u8], at: usize, byte: u8) -> usize
+    requires { ⌜ at < length (now buffer) ⌝ }
+    ensures { λ r. ⌜ Writes (byte ∷ []) (now (buffer .entry)) at (now (buffer .exit)) r ⌝ }
+{
+    buffer[at] = byte;
+    at + 1
+}
+
+// Writes a number as 4 bytes, lowest byte first.
+pub fn put_word(buffer: &mut [u8], at: usize, value: u32) -> usize
+    requires { ⌜ at + 4 ≤ length (now buffer) ⌝ }
+    ensures { λ r. ⌜ Writes (bytes4 value) (now (buffer .entry)) at (now (buffer .exit)) r ⌝ }
+{
+    let second = put_byte(buffer, at, (value % 256) as u8);
+    let third = put_byte(buffer, second, (value / 256 % 256) as u8);
+    let fourth = put_byte(buffer, third, (value / 65536 % 256) as u8);
+    put_byte(buffer, fourth, (value / 16777216 % 256) as u8)
+}
