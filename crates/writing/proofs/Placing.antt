@@ -55,3 +55,13 @@ writes-on xs ys before at between next after last h p q =
 -- writing keeps the length
 pub length-writes : (bytes before : List ℕ) (at : ℕ) (after : List ℕ) (next : ℕ) → at + length bytes ≤ length before → Writes bytes before at after next → length after ≡ length before
 length-writes bytes before at after next h w = ap length (w .buffer) ∙ length-placed before at bytes h
+
+-- nothing is written
+placed-nothing : (buffer : List ℕ) (at : ℕ) → placed buffer at [] ≡ buffer
+unfolding placed
+placed-nothing buffer zero = refl
+placed-nothing [] (suc at) = refl
+placed-nothing (y ∷ buffer) (suc at) = ap (λ (l : List ℕ). y ∷ l) (placed-nothing buffer at)
+
+pub writes-nothing : (buffer : List ℕ) (at : ℕ) → Writes [] buffer at buffer at
+writes-nothing buffer at = record { place = omega arith; buffer = sym (placed-nothing buffer at) }

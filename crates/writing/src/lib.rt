@@ -1,8 +1,8 @@
 // Writing to a buffer from one place to the next: each function answers the place behind what it wrote.
 ghost use mathlib.Core.List.{[], _∷_};
-ghost use Prim.Native.Nat.{_+_, _≤_, _<_};
-ghost use lib.ListN.{length};
-ghost use Rattle.model.specs.Output.{bytes4};
+ghost use Prim.Native.Nat.{_+_, _*_, _≤_, _<_};
+ghost use lib.ListN.{length, take, drop};
+ghost use Rattle.model.specs.Output.{bytes4, numbersBytes};
 ghost use Rattle.writing.specs.Writing.{Writes};
 
 // Writes one byte.
@@ -23,4 +23,18 @@ pub fn put_word(buffer: &mut [u8], at: usize, value: u32) -> usize
     let third = put_byte(buffer, second, (value / 256 % 256) as u8);
     let fourth = put_byte(buffer, third, (value / 65536 % 256) as u8);
     put_byte(buffer, fourth, (value / 16777216 % 256) as u8)
+}
+
+// Writes `count` of the values, from the first named on, as 4 bytes each.
+pub fn put_words(buffer: &mut [u8], at: usize, values: &[u32], first: usize, count: usize) -> usize
+    requires { ⌜ (at + 4 * count ≤ length (now buffer)) × (first + count ≤ length (now values)) ⌝ }
+    ensures { λ r. ⌜ Writes (numbersBytes (take count (drop first (now (values .entry))))) (now (buffer .entry)) at (now (buffer .exit)) r ⌝ }
+{
+    let mut next = at;
+    let mut i: usize = 0;
+    while i < count {
+        next = put_word(buffer, next, values[first + i]);
+        i += 1;
+    }
+    next
 }
