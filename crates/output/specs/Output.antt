@@ -1,0 +1,31 @@
+-- What the writers of trace and snapshot write.
+use Prim.Native.Nat.{ℕ, _<_}
+use mathlib.Core.List.{List, _∷_, _++_}
+use lib.ListN.{take, drop, getD}
+use Rattle.model.specs.State.{State}
+use Rattle.model.specs.Turn.{Entry, entry}
+use Rattle.model.specs.Output.{bytes4, numbersBytes, nodesBytes, variablesBytes}
+use Rattle.effects.specs.declared.Registers.{Registers}
+use Rattle.engine.specs.declared.State.{State as Held}
+use Rattle.output.specs.declared.numbers.Numbers.{Numbers}
+
+-- the entry with these numbers
+abbrev pub entryOf : Numbers → Entry
+entryOf x = entry (x .node) (x .kind) (x .number) (x .value)
+
+-- node, kind and number of an entry are bytes
+abbrev pub Narrow : Entry → Type 0
+Narrow e = (e .node < 256) × (e .kind < 256) × (e .number < 256)
+
+-- positions are bytes
+abbrev pub NarrowPositions : Held → Type 0
+NarrowPositions s = (n : ℕ) → getD (s .position) n 0 < 256
+
+-- the part of one node: its registers, how many messages wait, and these, in the slots from the first named on
+abbrev pub partBytes : Registers → ℕ → List ℕ → ℕ → List ℕ
+partBytes x waiting slots first =
+    x .position ∷ bytes4 (x .accumulator) ++ bytes4 (x .message) ++ (waiting ∷ numbersBytes (take waiting (drop first slots)))
+
+-- the first nodes of a state, then the first variables
+abbrev pub shownBytes : State → ℕ → ℕ → List ℕ
+shownBytes s nodes variables = nodesBytes s nodes ++ variablesBytes s variables

@@ -1,0 +1,51 @@
+// The bytes of the snapshot (01's "end picture"). The place of each node's part is carried along from part to part.
+ghost use Prim.Native.Nat.{_+_, _*_, _≤_, _<_};
+ghost use lib.ListN.{length};
+ghost use Rattle.model.specs.Output.{nodesBytes, variablesBytes};
+ghost use Rattle.writing.specs.Writing.{Writes};
+ghost use Rattle.queues.specs.Queues.{Bounded};
+ghost use Rattle.engine.specs.Engine.{view};
+ghost use Rattle.output.specs.Output.{partBytes, NarrowPositions, shownBytes};
+use effects::Registers;
+use engine::State;
+use writing::put_byte;
+use writing::put_word;
+use writing::put_words;
+
+// Writes the part of one node: position, accumulator, message, how many messages wait, and these, from their first slot on.
+fn put_node(picture: &mut [u8], at: usize, x: Registers, waiting: u8, queue: &[u32], first: usize) -> usize
+    requires { ⌜ (at + 74 ≤ length (now picture)) × (x .position < 256) ⌝ }
+    requires { ⌜ (waiting ≤ 16) × (first + 16 ≤ length (now queue)) ⌝ }
+    ensures { λ r. ⌜ Writes (partBytes x waiting (now (queue .entry)) first) (now (picture .entry)) at (now (picture .exit)) r ⌝ }
+{
+    let accumulator = put_byte(picture, at, (x.position % 256) as u8);
+    let message = put_word(picture, accumulator, x.accumulator);
+    let count = put_word(picture, message, x.message);
+    let messages = put_byte(picture, count, waiting);
+    put_words(picture, messages, queue, first, waiting as usize)
+}
+
+// Writes the snapshot of a state with so many nodes and variables.
+pub fn put_snapshot(picture: &mut [u8], s: State, nodes: usize, variables: usize) -> usize
+    requires { ⌜ (2624 ≤ length (now picture)) × (nodes ≤ 32) × (variables ≤ 64) ⌝ }
+    requires { ⌜ Bounded (s .waiting) ⌝ }
+    requires { ⌜ NarrowPositions s ⌝ }
+    ensures { λ r. ⌜ Writes (shownBytes (view s) nodes variables) (now (picture .entry)) 0 (now (picture .exit)) r ⌝ }
+{
+    let mut at: usize = 0;
+    let mut n: usize = 0;
+    while n < nodes {
+        let position = s.position[n];
+        let accumulator = s.accumulator[n];
+        let message = s.message[n];
+        let waiting = s.waiting[n];
+        let registers = Registers {
+            position: position,
+            accumulator: accumulator,
+            message: message,
+        };
+        at = put_node(picture, at, registers, waiting, &s.queue, n * 16);
+        n += 1;
+    }
+    put_words(picture, at, &s.variable, 0, variables)
+}
