@@ -3,7 +3,7 @@ use Prim.Native.Nat.{ℕ, zero, suc, _+_, _≤_, _<_}
 use mathlib.Core.Path.{_≡_, refl, sym, ap, _∙_}
 use mathlib.Core.List.{List, [], _∷_, _++_, append-assoc}
 use native.Mathlib.Omega.{arith}
-use lib.ListN.{length, drop, set, length-append, length-drop}
+use lib.ListN.{length, drop, set, replicate, length-append, length-drop, length-replicate, replicate-append-replicate}
 use Rattle.model.specs.Result.{written}
 use Rattle.writing.specs.Writing.{placed, Writes}
 
@@ -65,3 +65,12 @@ placed-nothing (y ∷ buffer) (suc at) = ap (λ (l : List ℕ). y ∷ l) (placed
 
 pub writes-nothing : (buffer : List ℕ) (at : ℕ) → Writes [] buffer at buffer at
 writes-nothing buffer at = record { place = omega arith; buffer = sym (placed-nothing buffer at) }
+
+-- one zero more
+pub zeros-on :
+    (before : List ℕ) (at : ℕ) (buffer after : List ℕ) (next : ℕ) → at < length before
+    → Writes (replicate at 0) before 0 buffer at → Writes (0 ∷ []) buffer at after next → Writes (replicate next 0) before 0 after next
+zeros-on before at buffer after next h w p =
+    let e : next ≡ at + 1 = p .place in
+    let long = length-replicate {A = ℕ} at 0 in
+    rw (e, ← replicate-append-replicate {A = ℕ} at 1 0) (writes-on (replicate at 0) (0 ∷ []) before 0 buffer at after (at + 1) (omega arith) w (rw e at p))

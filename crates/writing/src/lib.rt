@@ -1,7 +1,7 @@
 // Writing to a buffer from one place to the next: each function answers the place behind what it wrote.
 ghost use mathlib.Core.List.{[], _∷_};
 ghost use Prim.Native.Nat.{_+_, _*_, _≤_, _<_};
-ghost use lib.ListN.{length, take, drop};
+ghost use lib.ListN.{length, take, drop, replicate};
 ghost use Rattle.model.specs.Output.{bytes4, numbersBytes};
 ghost use Rattle.writing.specs.Writing.{Writes};
 
@@ -37,4 +37,16 @@ pub fn put_words(buffer: &mut [u8], at: usize, values: &[u32], first: usize, cou
         i += 1;
     }
     next
+}
+
+// Writes zeros to the front.
+pub fn put_zeros(buffer: &mut [u8], count: usize) -> usize
+    requires { ⌜ count ≤ length (now buffer) ⌝ }
+    ensures { λ r. ⌜ Writes (replicate count 0) (now (buffer .entry)) 0 (now (buffer .exit)) r ⌝ }
+{
+    let mut at: usize = 0;
+    while at < count {
+        at = put_byte(buffer, at, 0);
+    }
+    at
 }
