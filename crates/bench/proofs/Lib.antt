@@ -1,2 +1,0 @@
-pub mod Tallying
-pub mod Preparing

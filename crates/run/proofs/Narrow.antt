@@ -1,0 +1,66 @@
+-- In a run of an accepted job the numbers of an entry and the positions of the nodes are bytes.
+use Prim.Native.Nat.{ℕ, _≤_, _<_}
+use mathlib.Core.Path.{_≡_, ap, _∙_}
+use mathlib.Core.Bool.{Bool, true, false}
+use mathlib.Core.List.{List}
+use mathlib.Core.Logic.{_⊎_, inl, inr}
+use native.Mathlib.Omega.{arith}
+use lib.Dec.{eqb}
+use lib.ListN.{length}
+use borrow.Author.Tests.{eqb-true}
+use Rattle.model.specs.Table.{GET, PUT, PLUS, SEND, CALL, operandsIn, operandsOf, kindAt}
+use Rattle.model.specs.Command.{Command}
+use Rattle.model.specs.Declared.{Instruction}
+use Rattle.model.specs.Program.{Program, sharedIn, programOf}
+use Rattle.model.specs.State.{State, positionAt}
+use Rattle.model.specs.Turn.{Entry, entry, Turned, completed, stopped, entryOf, instructionAt, turn}
+use Rattle.model.specs.Permission.{monitoredTurn}
+use Rattle.model.specs.Valid.{Valid, InRange, NamedInstruction}
+use Rattle.model.proofs.Growth.{length-handler}
+use Rattle.model.proofs.Positions.{Placed}
+use Rattle.model.proofs.Ranges.{handler-named}
+use Rattle.model.proofs.Valid.{limits}
+use Rattle.model.proofs.Ways.{either, turn-by, monitored-by}
+use Rattle.entries.specs.Entries.{ruleOf}
+use Rattle.output.specs.Output.{Narrow}
+
+-- a completed turn makes an entry with this property
+abbrev pub Makes : (Entry → Type 0) → Turned → Type 0
+Makes Q (completed e s) = Q e
+Makes Q (stopped k e) = Unit {0}
+
+module _ (i : Instruction) (named : NamedInstruction i) where
+  -- the operand of each command that leaves an entry
+  operand-small : (b : ℕ) → eqb (i .byte) b ≡ true → InRange (kindAt b 0) (i .operand)
+  operand-small b e = let p : i .byte ≡ b = eqb-true (i .byte) b e in rw p at (named .operand)
+
+  pub left-narrow : (P : Program) (s : State) (n : ℕ) → n < 256 → Narrow (entryOf P s n i)
+  unfolding operandsOf operandsIn
+  left-narrow P s n h =
+      let other : Narrow (entry n 0 0 0) = (h, omega arith, omega arith) in
+      either Narrow (eqb (i .byte) GET) _ _ (λ e. either Narrow (sharedIn P (i .operand)) _ _ (λ _. let g = operand-small GET e in (h, omega arith, omega (arith, g))) (λ _. other)) λ _.
+      either Narrow (eqb (i .byte) PLUS) _ _ (λ e. either Narrow (sharedIn P (i .operand)) _ _ (λ _. let g = operand-small PLUS e in (h, omega arith, omega (arith, g))) (λ _. other)) λ _.
+      either Narrow (eqb (i .byte) PUT) _ _ (λ e. either Narrow (sharedIn P (i .operand)) _ _ (λ _. let g = operand-small PUT e in (h, omega arith, omega (arith, g))) (λ _. other)) λ _.
+      either Narrow (eqb (i .byte) CALL) _ _ (λ e. let g = operand-small CALL e in (h, omega arith, omega (arith, g))) λ _.
+      either Narrow (eqb (i .byte) SEND) _ _ (λ e. let g = operand-small SEND e in (h, omega arith, omega (arith, g))) (λ _. other)
+
+module _ (past : List Command) (v : Valid past) (s : State) (n : ℕ) (h : n < 256) where
+  turn-narrow : Makes Narrow (turn (programOf past) s n)
+  unfolding programOf
+  turn-narrow =
+      turn-by (Makes Narrow) (programOf past) s n (λ p w. tt) (λ p w. (h, omega arith, omega arith)) (λ l b. tt)
+      (λ l b. left-narrow (instructionAt (programOf past) n (positionAt s n)) (handler-named past v n (positionAt s n) l) (programOf past) s n h)
+      (λ l. (h, omega arith, omega arith))
+
+  pub rule-narrow : (monitored : Bool) → Makes Narrow (ruleOf monitored (programOf past) s n)
+  rule-narrow true = monitored-by (Makes Narrow) (programOf past) s n turn-narrow (λ e. tt)
+  rule-narrow false = turn-narrow
+
+-- a node is idle or at a place of its handler, so its position is a byte
+pub placed-narrow : (past : List Command) → Valid past → (s : State) → Placed (programOf past) s → (n : ℕ) → positionAt s n < 256
+unfolding programOf
+placed-narrow past v s placed n = by-place (placed n)
+  where
+    by-place : (positionAt s n ≡ 255) ⊎ (positionAt s n ≤ length (programOf past .handler n)) → positionAt s n < 256
+    by-place (inl e) = omega arith
+    by-place (inr h) = omega (arith, h, length-handler past n, limits past v .handlers n)

@@ -1,0 +1,203 @@
+-- The loop over the turns of an accepted job: what it keeps, and what it comes to.
+use Prim.Native.Nat.{ℕ, _+_, _*_, _≤_, _<_}
+use mathlib.Core.Path.{_≡_, refl, sym, ap, subst, _∙_}
+use mathlib.Core.Bool.{Bool, true, false}
+use mathlib.Core.List.{List, [], _∷_, _++_}
+use native.Mathlib.Omega.{arith}
+use types.Run.{OneOf}
+use denote.Enum.Declared.{tagOf}
+use lib.ListN.{length, getD, drop, length-append}
+use Rattle.model.specs.Table.{TURN}
+use Rattle.model.specs.Command.{Command}
+use Rattle.model.specs.Declared.{turnsOf}
+use Rattle.model.specs.Program.{Program, programOf}
+use Rattle.model.specs.State.{State as Meant, positionAt}
+use Rattle.model.specs.Turn.{Entry as Numbered, entry, Turned as Rule, completed, stopped}
+use Rattle.model.specs.Run.{Step, Run, runFrom, entriesOf}
+use Rattle.model.specs.Output.{entryBytes, traceBytes, traceIn, answerIn}
+use Rattle.model.specs.Valid.{Valid, ValidJob}
+use Rattle.model.specs.Result.{written}
+use Rattle.model.proofs.Bounds.{length-trace}
+use Rattle.model.proofs.Positions.{Placed, initial-placed, turn-placed, monitored-placed, program-jumps}
+use Rattle.model.proofs.Runs.{trace-snoc, entries-snoc, behind, behind-none, behind-completed, behind-stopped, behind-ended}
+use Rattle.model.proofs.Valid.{job-valid}
+use Rattle.model.proofs.Ways.{Keeps}
+use Rattle.tables.specs.Tables.{countIn}
+use Rattle.job.specs.Program.{turnIn, Prepared}
+use Rattle.job.proofs.Prepared.{prepared}
+use Rattle.queues.specs.Queues.{Bounded}
+use Rattle.entries.specs.declared.Entry.{Entry}
+use Rattle.entries.specs.declared.Outcome.{Outcome}
+use Rattle.entries.specs.declared.Outcome.the-variants as o
+use Rattle.entries.specs.Entries.{numbersOf, turnedBy, stateAfter, Comes, ruleOf}
+use Rattle.entries.proofs.Outcome.{the-type}
+use Rattle.entries.proofs.Keys.{one-of}
+use Rattle.engine.specs.declared.State.{State}
+use Rattle.engine.specs.declared.Turned.{Turned}
+use Rattle.engine.specs.Engine.{view, Starts, Turns}
+use Rattle.engine.specs.Accepted.{EngineMeets}
+use Rattle.engine.proofs.Accepted.{engine-holds}
+use Rattle.writing.specs.Writing.{Writes}
+use Rattle.writing.proofs.Placing.{writes-on, writes-nothing, placed-front}
+use Rattle.output.specs.Output.{Narrow}
+use Rattle.run.specs.declared.answer.Ending.{Ending}
+use Rattle.run.specs.declared.turns.Ran.{Ran}
+use Rattle.run.specs.Answers.{answerOf, answerBy}
+use Rattle.run.specs.Runs.{runOf, Ready, RunsAs}
+use Rattle.run.proofs.Narrow.{Makes, rule-narrow, placed-narrow}
+
+-- the run behind k completed turns, whose entries stand at the front of the trace
+pub record Underway (monitored : Bool) (past : List Command) (before : List ℕ) (s : State) (trace : List ℕ) (at k : ℕ) : Type 0 where
+  pub done : List Step
+  pub count : length done ≡ k
+  pub same : runOf monitored past ≡ behind done (runFrom (ruleOf monitored (programOf past)) (drop k (turnsOf past)) (view s))
+  pub writes : Writes (traceBytes (entriesOf done)) before 0 trace at
+  pub place : at ≡ 7 * k
+  pub size : length trace ≡ length before
+  pub bounded : Bounded (s .waiting)
+  pub placed : Placed (programOf past) (view s)
+
+-- as many entries as steps
+length-entries : (steps : List Step) → length (entriesOf steps) ≡ length steps
+length-entries [] = refl
+length-entries (x ∷ steps) = omega (arith, length-entries steps)
+
+-- the outcomes that are stops
+abbrev pub stops : List ℕ
+stops = 1 ∷ 2 ∷ 3 ∷ []
+
+-- a turn that is stopped
+pub record Halts (turned : Rule) : Type 0 where
+  pub stop : ℕ
+  pub attempted : Numbered
+  pub same : turned ≡ stopped stop attempted
+
+halts : (x : Outcome) (after : Meant) → OneOf stops (tagOf the-type x) → Halts (turnedBy x after)
+halts (o.Made x) after h = absurd (one-of stops 0 h)
+halts (o.Forbidden x) after h = record { stop = 1; attempted = numbersOf x; same = refl }
+halts (o.Unready n) after h = record { stop = 2; attempted = entry (n .0) 0 0 0; same = refl }
+halts (o.Full x) after h = record { stop = 3; attempted = numbersOf x; same = refl }
+
+module _ (monitored : Bool) (job t w : List ℕ) (ready : Ready job t w) where
+  abbrev past : List Command
+  past = ready .past
+
+  abbrev P : Program
+  P = programOf past
+
+  abbrev rule : Meant → ℕ → Rule
+  rule = ruleOf monitored P
+
+  valid : ValidJob past
+  valid = job-valid job past (ready .decoded)
+
+  prepares : Prepared job t (ready .before) w past
+  prepares = subst (λ (x : List ℕ). Prepared job t (ready .before) x (ready .past)) (sym (ready .holds)) (prepared job t (ready .before) past (ready .bytes) (ready .decoded) (ready .stands) (ready .long))
+
+  meets : EngineMeets job t w past
+  meets = subst (λ (x : List ℕ). EngineMeets job t x (ready .past)) (sym (ready .holds)) (engine-holds job t (ready .before) past (ready .bytes) (ready .decoded) (ready .stands) (ready .long))
+
+  -- before the loop
+  pub underway-none : (s : State) (before : List ℕ) → Starts t s → Underway monitored past before s before 0 0
+  unfolding traceBytes
+  underway-none s before h =
+      let e = meets .start s h in
+      record {
+        done = [];
+        count = refl;
+        same = sym (behind-none (runOf monitored past)) ∙ ap (λ (x : Meant). behind [] (runFrom rule (turnsOf past) x)) (sym e);
+        writes = writes-nothing before 0;
+        place = omega arith;
+        size = refl;
+        bounded = h .bounded;
+        placed = rw e (initial-placed P);
+      }
+
+  -- a turn may be asked for
+  pub node-inside : (k : ℕ) → k < countIn t TURN → turnIn job t k < 32
+  node-inside k h = meets .nodes k (omega (arith, prepares .turns))
+
+  -- the run is over
+  over :
+      {before : List ℕ} {s : State} {trace : List ℕ} {at k : ℕ} (u : Underway monitored past before s trace at k) (x : Ran) (j : ℕ) (e : Numbered)
+      → runOf monitored past ≡ record { steps = u .done; stop = j; attempted = e; final = view s }
+      → view (x .state) ≡ view s → Bounded (x .state .waiting) → answerOf (x .ending) ≡ record { stop = j; turns = k; attempted = e }
+      → RunsAs (runOf monitored past) before trace x
+  over {before} {s} {trace} {at} {k} u x j e is same bounded told =
+      let count = u .count in
+      record {
+        answer = rw (is, count) told;
+        trace = rw is (u .writes .buffer ∙ placed-front before (traceBytes (entriesOf (u .done))));
+        state = rw is same;
+        bounded = bounded;
+        positions = λ n. subst (λ (y : Meant). positionAt y n < 256) (sym same) (placed-narrow past (valid .commands) (view s) (u .placed) n);
+      }
+
+  -- turn k of the loop
+  module _ (before : List ℕ) (s : State) (trace : List ℕ) (at k : ℕ) (u : Underway monitored past before s trace at k) (more : k < countIn t TURN) (n : ℕ) (node : n ≡ turnIn job t k) (turned : Turned) (turns : Turns t w n monitored s turned) where
+    inside : k < length (turnsOf past)
+    inside = omega (arith, prepares .turns)
+
+    comes : Comes (view s) (rule (view s) n) (turned .outcome) (view (turned .state))
+    comes = meets .turn s n monitored turned turns
+
+    named : n ≡ getD (turnsOf past) k 0
+    named = node ∙ prepares .turn k inside
+
+    module _ (x : Entry) (made : turned .outcome ≡ o.Made x) where
+      completes : completed (numbersOf x) (view (turned .state)) ≡ rule (view s) n
+      completes = ap (λ (y : Outcome). turnedBy y (view (turned .state))) (sym made) ∙ comes .tells
+
+      pub made-narrow : Narrow (numbersOf x)
+      made-narrow = rw (← completes) at (rule-narrow past (valid .commands) (view s) n (omega (arith, node, node-inside k more)) monitored)
+
+      keeps : Keeps (Placed P) (rule (view s) n)
+      keeps = by-mode monitored
+        where
+          by-mode : (m : Bool) → Keeps (Placed P) (ruleOf m P (view s) n)
+          by-mode true = monitored-placed P (program-jumps past valid) (view s) n (u .placed)
+          by-mode false = turn-placed P (program-jumps past valid) (view s) n (u .placed)
+
+      -- it made its entry
+      pub underway-next :
+          (shown : Numbered) → shown ≡ numbersOf x
+          → (after : List ℕ) (next : ℕ) → 7 * countIn t TURN ≤ length before → length after ≡ length trace → Writes (entryBytes shown) trace at after next
+          → Underway monitored past before (turned .state) after next (k + 1)
+      underway-next shown is after next fits same q =
+          let p = subst (λ (y : Numbered). Writes (entryBytes y) trace at after next) is q in
+          let step : Step = record { before = view s; made = numbersOf x } in
+          let e : rule (view s) (getD (turnsOf past) k 0) ≡ completed (numbersOf x) (view (turned .state)) = ap (rule (view s)) (sym named) ∙ sym completes in
+          let bytes : traceBytes (entriesOf (u .done ++ (step ∷ []))) ≡ traceBytes (entriesOf (u .done)) ++ entryBytes (numbersOf x) = ap traceBytes (entries-snoc (u .done) step) ∙ trace-snoc (entriesOf (u .done)) (numbersOf x) in
+          let long = length-trace (entriesOf (u .done)) in
+          let many = length-entries (u .done) in
+          record {
+            done = u .done ++ (step ∷ []);
+            count = length-append (u .done) (step ∷ []) ∙ omega (arith, u .count);
+            same = u .same ∙ behind-completed rule (turnsOf past) (u .done) k (view s) (numbersOf x) (view (turned .state)) inside e;
+            writes = rw bytes (writes-on (traceBytes (entriesOf (u .done))) (entryBytes (numbersOf x)) before 0 trace at after next (omega (arith, long, many, u .count)) (u .writes) p);
+            place = omega (arith, p .place, u .place);
+            size = same ∙ u .size;
+            bounded = turns .bounded;
+            placed = rw (← completes) at keeps;
+          }
+
+    -- it was stopped
+    pub underway-stopped :
+        OneOf stops (tagOf the-type (turned .outcome)) → (x : Ending) → ((after : Meant) → answerOf x ≡ answerBy k (turnedBy (turned .outcome) after))
+        → RunsAs (runOf monitored past) before trace (record { state = turned .state; ending = x })
+    underway-stopped stop x told =
+        let h = halts (turned .outcome) (view (turned .state)) stop in
+        let e : rule (view s) n ≡ stopped (h .stop) (h .attempted) = sym (comes .tells) ∙ h .same in
+        over u (record { state = turned .state; ending = x }) (h .stop) (h .attempted)
+        (u .same ∙ behind-stopped rule (turnsOf past) (u .done) k (view s) (h .stop) (h .attempted) inside (ap (rule (view s)) (sym named) ∙ e))
+        (comes .leaves ∙ ap (stateAfter (view s)) e) (turns .bounded) (told (view (turned .state)) ∙ ap (answerBy k) (h .same))
+
+  -- behind the last turn
+  pub underway-out :
+      (before : List ℕ) (s : State) (trace : List ℕ) (at k : ℕ) (u : Underway monitored past before s trace at k) → countIn t TURN ≤ k
+      → (x : Ending) → answerOf x ≡ answerBy k (stopped 0 (entry 0 0 0 0))
+      → RunsAs (runOf monitored past) before trace (record { state = s; ending = x })
+  underway-out before s trace at k u last x told =
+      over u (record { state = s; ending = x }) 0 (entry 0 0 0 0)
+      (u .same ∙ behind-ended rule (turnsOf past) (u .done) k (view s) (omega (arith, prepares .turns)))
+      refl (u .bounded) told

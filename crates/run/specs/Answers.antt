@@ -1,0 +1,48 @@
+-- The code's answers in document 01's numbers, and what an entry point leaves.
+use Prim.Native.Nat.{ℕ}
+use mathlib.Core.Path.{_≡_}
+use mathlib.Core.List.{List}
+use Rattle.model.specs.Turn.{entry, Turned, completed, stopped}
+use Rattle.model.specs.Output.{Answer as Meant}
+use Rattle.model.specs.Refusal.{Refusal}
+use Rattle.model.specs.Result.{Result, refused, ran, Buffers, traceAfter, snapshotAfter, workAfter}
+use Rattle.command.specs.Reading.{refusalOf}
+use Rattle.output.specs.Output.{entryOf}
+use Rattle.run.specs.declared.answer.Ending.{Ending}
+use Rattle.run.specs.declared.answer.Answer.{Answer}
+use Rattle.run.specs.declared.answer.Answer.the-variants as a
+
+-- stop, completed turns and attempted entry
+abbrev pub answerOf : Ending → Meant
+answerOf x = record { stop = x .stop; turns = x .turns; attempted = entryOf (x .attempted) }
+
+-- the answer of a run whose next turn, behind so many completed ones, comes to this
+abbrev pub answerBy : ℕ → Turned → Meant
+answerBy turns (completed e s) = record { stop = 0; turns = turns; attempted = entry 0 0 0 0 }
+answerBy turns (stopped k e) = record { stop = k; turns = turns; attempted = e }
+
+-- what is told: number and place of a refusal, or stop, completed turns and attempted entry
+pub data Told : Type 0 where
+  refusal : Refusal → Told
+  answer : Meant → Told
+
+-- what each of the code's answers tells
+abbrev pub toldBy : Answer → Told
+toldBy (a.Refused r) = refusal (refusalOf r)
+toldBy (a.Ended x) = answer (answerOf x)
+
+-- what the model's result tells
+abbrev pub toldIn : Result → Told
+toldIn (refused r) = refusal r
+toldIn (ran x trace snapshot) = answer x
+
+-- the three buffers with what they hold
+abbrev pub buffers : List ℕ → List ℕ → List ℕ → Buffers
+buffers trace snapshot work = record { trace = trace; snapshot = snapshot; work = work }
+
+-- the answer and the three buffers afterwards are those of a result
+pub record Delivers (result : Result) (before after : Buffers) (x : Answer) : Type 0 where
+  pub told : toldBy x ≡ toldIn result
+  pub trace : after .trace ≡ traceAfter result (before .trace)
+  pub snapshot : after .snapshot ≡ snapshotAfter result (before .snapshot)
+  pub work : after .work ≡ workAfter result (before .work)

@@ -1,0 +1,57 @@
+// The turns of a job, one after the other.
+ghost use mathlib.Core.Path.{_≡_};
+ghost use mathlib.Core.List.{List};
+ghost use Prim.Native.Nat.{_*_, _≤_};
+ghost use lib.ListN.{length};
+ghost use Rattle.model.specs.Table.{TURN};
+ghost use Rattle.model.specs.Command.{Command};
+ghost use Rattle.model.specs.Refusal.{accepted, decodeJob};
+ghost use Rattle.tables.specs.Tables.{countIn};
+ghost use Rattle.run.specs.Runs.{Ready, runOf, RunsAs};
+use command::bytes;
+use declared::count_of;
+use engine::State;
+use engine::start;
+use entries::Outcome;
+use job::turns::turn_at;
+use output::numbers::numbers_of;
+use output::trace::put_entry;
+use crate::answer::Ending;
+use crate::answer::ending_by;
+use crate::answer::without_entry;
+
+// A run that is over: its last state, and how it ended.
+pub struct Ran {
+    pub state: State,
+    pub ending: Ending,
+}
+
+// The run of an accepted job from the start to its last turn or a stop, its entries written to the trace.
+pub fn run_turns(job: &[u8], t: &[u32], work: &[u8], trace: &mut [u8], monitored: bool) -> Ran
+    requires { ⌜ Ready (now job) (now t) (now work) ⌝ }
+    requires { ⌜ 7 * countIn (now t) TURN ≤ length (now trace) ⌝ }
+    ensures { λ r. ⌜ ((past : List Command) → decodeJob (now (job .entry)) ≡ accepted past → RunsAs (runOf monitored past) (now (trace .entry)) (now (trace .exit)) r) ⌝ }
+{
+    let turns = count_of(t, bytes::TURN);
+    let mut s = start(t);
+    let mut at: usize = 0;
+    let mut k: u32 = 0;
+    while k < turns {
+        let n = turn_at(job, t, k);
+        let turned = s.turn(t, work, n, monitored);
+        s = turned.state;
+        let outcome = turned.outcome;
+        let Outcome::Made(entry) = outcome else {
+            return Ran {
+                state: s,
+                ending: ending_by(outcome, k),
+            };
+        };
+        at = put_entry(trace, at, numbers_of(entry));
+        k += 1;
+    }
+    Ran {
+        state: s,
+        ending: without_entry(0, k, 0),
+    }
+}

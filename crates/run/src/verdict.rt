@@ -1,0 +1,50 @@
+// The tests 1 to 12 of a job with its buffers.
+ghost use mathlib.Core.Path.{_≡_};
+ghost use mathlib.Core.List.{List};
+ghost use Prim.Native.Nat.{ℕ, _≤_};
+ghost use lib.ListN.{length};
+ghost use Rattle.model.specs.Command.{Command};
+ghost use Rattle.model.specs.Declared.{countOf};
+ghost use Rattle.model.specs.Table.{TURN};
+ghost use Rattle.model.specs.Refusal.{sizes, shortBuffer, decodeFor};
+ghost use Rattle.job.specs.Decoding.{verdictOf, Verdicts};
+use command::bytes;
+use command::read::Refusal;
+use declared::count_of;
+use job::Verdict;
+use job::decode;
+use tables::cells::CELLS;
+
+// The lengths that the snapshot buffer (01's "picture buffer") and the work buffer must have.
+pub const SNAPSHOT: usize = 2624;
+pub const WORK: usize = 16384;
+
+// The tests 10 to 12: a job of this length and so many turns, with buffers of these lengths.
+fn check_buffers(size: usize, turns: u32, trace: usize, snapshot: usize, work: usize) -> Verdict
+    ensures { λ r. ⌜ ((job : List ℕ) (past : List Command) → length job ≡ size → countOf TURN past ≡ turns → verdictOf r ≡ shortBuffer job (sizes trace snapshot work) past) ⌝ }
+{
+    if trace < 7 * (turns as usize) {
+        return Verdict::Refused(Refusal { number: 10, place: size });
+    }
+    if snapshot < SNAPSHOT {
+        return Verdict::Refused(Refusal { number: 11, place: size });
+    }
+    if work < WORK {
+        return Verdict::Refused(Refusal { number: 12, place: size });
+    }
+    Verdict::Accepted
+}
+
+// The verdict on a job of any length with buffers of any lengths, and the tables of an accepted job.
+pub fn judge(job: &[u8], t: &mut [u32; CELLS], trace: usize, snapshot: usize, work: usize) -> Verdict
+    ensures { λ r. ⌜ Verdicts (decodeFor (now (job .entry)) (sizes trace snapshot work)) (now (t .exit)) r ⌝ }
+{
+    let decoded = decode(job, t);
+    match decoded {
+        Verdict::Refused(r) => Verdict::Refused(r),
+        Verdict::Accepted => {
+            let turns = count_of(t, bytes::TURN);
+            check_buffers(job.len(), turns, trace, snapshot, work)
+        }
+    }
+}
