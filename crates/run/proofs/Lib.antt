@@ -1,3 +1,4 @@
 pub mod Judging
 pub mod Narrow
 pub mod Running
+pub mod Delivering

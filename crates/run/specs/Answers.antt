@@ -1,11 +1,12 @@
 -- The code's answers in document 01's numbers, and what an entry point leaves.
 use Prim.Native.Nat.{ℕ}
 use mathlib.Core.Path.{_≡_}
+use mathlib.Core.Bool.{Bool, true, false}
 use mathlib.Core.List.{List}
 use Rattle.model.specs.Turn.{entry, Turned, completed, stopped}
 use Rattle.model.specs.Output.{Answer as Meant}
-use Rattle.model.specs.Refusal.{Refusal}
-use Rattle.model.specs.Result.{Result, refused, ran, Buffers, traceAfter, snapshotAfter, workAfter}
+use Rattle.model.specs.Refusal.{Refusal, Sizes}
+use Rattle.model.specs.Result.{Result, refused, ran, monitored, unmonitored, Buffers, traceAfter, snapshotAfter, workAfter}
 use Rattle.command.specs.Reading.{refusalOf}
 use Rattle.output.specs.Output.{entryOf}
 use Rattle.run.specs.declared.answer.Ending.{Ending}
@@ -35,6 +36,11 @@ toldBy (a.Ended x) = answer (answerOf x)
 abbrev pub toldIn : Result → Told
 toldIn (refused r) = refusal r
 toldIn (ran x trace snapshot) = answer x
+
+-- the model's result of a job with buffers of these lengths, monitored ("watched") or not ("bare")
+abbrev pub resultFor : Bool → List ℕ → Sizes → Result
+resultFor true job b = monitored job b
+resultFor false job b = unmonitored job b
 
 -- the three buffers with what they hold
 abbrev pub buffers : List ℕ → List ℕ → List ℕ → Buffers
