@@ -118,9 +118,11 @@ module _ (job t : List ℕ) (before : Buffers) (f : Fitting job t (sizesOf befor
       let shown = ap (λ (s : State). shownBytes s (countIn t NODE) (countIn t VAR)) (r .state) ∙ shown-snapshot job t (sizesOf before) f (runOf m (f .past) .final) in
       let given : Delivers (report (programOf (f .past)) (runOf m (f .past))) before (buffers trace picture work) (a.Ended (x .ending)) = record {
         told = ap answer (r .answer);
-        trace = r .trace;
-        snapshot = shows .buffer ∙ placed-front (before .snapshot) _ ∙ ap (λ (l : List ℕ). written l (before .snapshot)) shown;
-        work = zeros .buffer ∙ placed-front _ (replicate workSize 0) ∙ ap (written (replicate workSize 0)) (loads job t (sizesOf before) f (before .work)) ∙ zeros-over job t (sizesOf before) f (before .work);
+        left = record {
+          trace = r .trace;
+          snapshot = shows .buffer ∙ placed-front (before .snapshot) _ ∙ ap (λ (l : List ℕ). written l (before .snapshot)) shown;
+          work = zeros .buffer ∙ placed-front _ (replicate workSize 0) ∙ ap (written (replicate workSize 0)) (loads job t (sizesOf before) f (before .work)) ∙ zeros-over job t (sizesOf before) f (before .work);
+        };
       } in
       subst (λ (p : List Command). Delivers (report (programOf p) (runOf m p)) before (buffers trace picture work) (a.Ended (x .ending))) same given
 
@@ -138,7 +140,7 @@ result-refused false job b r e = rw e
 -- what the entry points deliver
 module _ (m : Bool) (job : List ℕ) (before : Buffers) where
   pub delivers-refused : (q : Refused) → decodeFor job (sizesOf before) ≡ rejected (refusalOf q) → Delivers (resultFor m job (sizesOf before)) before before (a.Refused q)
-  delivers-refused q e = subst (λ (r : Result). Delivers r before before (a.Refused q)) (sym (result-refused m job (sizesOf before) (refusalOf q) e)) (record { told = refl; trace = refl; snapshot = refl; work = refl })
+  delivers-refused q e = subst (λ (r : Result). Delivers r before before (a.Refused q)) (sym (result-refused m job (sizesOf before) (refusalOf q) e)) (record { told = refl; left = record { trace = refl; snapshot = refl; work = refl } })
 
   pub delivers-ran : (after : Buffers) (x : Ending) (past : List Command) → decodeFor job (sizesOf before) ≡ accepted past → Hands m job before after x → Delivers (resultFor m job (sizesOf before)) before after (a.Ended x)
   delivers-ran after x past e h = subst (λ (r : Result). Delivers r before after (a.Ended x)) (sym (result-ran m job (sizesOf before) past e)) (h past e)

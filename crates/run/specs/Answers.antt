@@ -2,7 +2,7 @@
 use Prim.Native.Nat.{ℕ}
 use mathlib.Core.Path.{_≡_}
 use mathlib.Core.Bool.{Bool, true, false}
-use mathlib.Core.List.{List}
+use mathlib.Core.List.{List, [], _∷_}
 use Rattle.model.specs.Turn.{entry, Turned, completed, stopped}
 use Rattle.model.specs.Output.{Answer as Meant}
 use Rattle.model.specs.Refusal.{Refusal, Sizes}
@@ -46,9 +46,23 @@ resultFor false job b = unmonitored job b
 abbrev pub buffers : List ℕ → List ℕ → List ℕ → Buffers
 buffers trace snapshot work = record { trace = trace; snapshot = snapshot; work = work }
 
--- the answer and the three buffers afterwards are those of a result
-pub record Delivers (result : Result) (before after : Buffers) (x : Answer) : Type 0 where
-  pub told : toldBy x ≡ toldIn result
+-- the three buffers afterwards are those of a result
+pub record BuffersAfter (result : Result) (before after : Buffers) : Type 0 where
   pub trace : after .trace ≡ traceAfter result (before .trace)
   pub snapshot : after .snapshot ≡ snapshotAfter result (before .snapshot)
   pub work : after .work ≡ workAfter result (before .work)
+
+-- the answer and the three buffers afterwards are those of a result
+pub record Delivers (result : Result) (before after : Buffers) (x : Answer) : Type 0 where
+  pub told : toldBy x ≡ toldIn result
+  pub left : BuffersAfter result before after
+
+-- what is told, as eight numbers: number and place of the refusal, stop, completed turns, and the attempted entry; 0 where there is none
+abbrev pub numbersIn : Told → List ℕ
+numbersIn (refusal r) = r .number ∷ r .place ∷ 0 ∷ 0 ∷ 0 ∷ 0 ∷ 0 ∷ 0 ∷ []
+numbersIn (answer x) = 0 ∷ 0 ∷ x .stop ∷ x .turns ∷ x .attempted .node ∷ x .attempted .kind ∷ x .attempted .number ∷ x .attempted .value ∷ []
+
+-- the eight numbers and the three buffers afterwards are those of a result
+pub record Exports (result : Result) (before after : Buffers) (numbers : List ℕ) : Type 0 where
+  pub told : numbers ≡ numbersIn (toldIn result)
+  pub left : BuffersAfter result before after

@@ -3,11 +3,7 @@ pub mod answer;
 mod turns;
 mod verdict;
 
-ghost use mathlib.Core.Path.{_≡_};
-ghost use mathlib.Core.List.{List};
-ghost use Rattle.model.specs.Command.{Command};
-ghost use Rattle.model.specs.Refusal.{accepted, decodeFor};
-ghost use Rattle.model.specs.Result.{monitored as monitoredResult, unmonitored as unmonitoredResult, sizesOf};
+ghost use Rattle.model.specs.Result.{monitored, unmonitored, sizesOf};
 ghost use Rattle.run.specs.Answers.{buffers, resultFor, Delivers};
 ghost use Rattle.run.specs.Runs.{Fitting, Hands};
 use answer::Answer;
@@ -65,4 +61,18 @@ fn run(
             Answer::Ended(ending)
         }
     }
+}
+
+// The monitored run (01's "watched").
+pub fn run_monitored(job: &[u8], trace: &mut [u8], picture: &mut [u8], work: &mut [u8]) -> Answer
+    ensures { λ r. ⌜ Delivers (monitored (now (job .entry)) (sizesOf (buffers (now (trace .entry)) (now (picture .entry)) (now (work .entry))))) (buffers (now (trace .entry)) (now (picture .entry)) (now (work .entry))) (buffers (now (trace .exit)) (now (picture .exit)) (now (work .exit))) r ⌝ }
+{
+    run(job, trace, picture, work, true)
+}
+
+// The unmonitored run (01's "bare").
+pub fn run_unmonitored(job: &[u8], trace: &mut [u8], picture: &mut [u8], work: &mut [u8]) -> Answer
+    ensures { λ r. ⌜ Delivers (unmonitored (now (job .entry)) (sizesOf (buffers (now (trace .entry)) (now (picture .entry)) (now (work .entry))))) (buffers (now (trace .entry)) (now (picture .entry)) (now (work .entry))) (buffers (now (trace .exit)) (now (picture .exit)) (now (work .exit))) r ⌝ }
+{
+    run(job, trace, picture, work, false)
 }
