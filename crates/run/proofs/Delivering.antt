@@ -31,7 +31,8 @@ use Rattle.output.specs.Output.{shownBytes}
 use Rattle.run.specs.declared.answer.Ending.{Ending}
 use Rattle.run.specs.declared.turns.Ran.{Ran}
 use Rattle.run.specs.declared.answer.Answer.the-variants as a
-use Rattle.run.specs.Answers.{answer, resultFor, buffers, Delivers}
+use Rattle.run.specs.declared.answer.Answer.{Answer}
+use Rattle.run.specs.Answers.{answer, toldBy, numbersIn, resultFor, buffers, Delivers, Exports}
 use Rattle.run.specs.Runs.{runOf, Ready, RunsAs, Fitting, Hands}
 
 -- accepted behind a further test: accepted before it, and the test finds nothing
@@ -144,3 +145,9 @@ module _ (m : Bool) (job : List ℕ) (before : Buffers) where
 
   pub delivers-ran : (after : Buffers) (x : Ending) (past : List Command) → decodeFor job (sizesOf before) ≡ accepted past → Hands m job before after x → Delivers (resultFor m job (sizesOf before)) before after (a.Ended x)
   delivers-ran after x past e h = subst (λ (r : Result). Delivers r before after (a.Ended x)) (sym (result-ran m job (sizesOf before) past e)) (h past e)
+
+-- the same, as eight numbers
+pub exports-numbers :
+    (result : Result) (before after : Buffers) (x : Answer) (numbers : List ℕ) → Delivers result before after x → numbers ≡ numbersIn (toldBy x)
+    → Exports result before after numbers
+exports-numbers result before after x numbers d e = record { told = e ∙ ap numbersIn (d .told); left = d .left }
