@@ -7,6 +7,7 @@ mod checks;
 pub mod command;
 pub mod corpus;
 pub mod decode;
+pub mod dirt;
 pub mod engine;
 pub mod generate;
 pub mod hex;

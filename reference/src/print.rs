@@ -3,30 +3,34 @@
 use std::fmt::Write;
 
 use crate::decode::decode;
-use crate::outcome::{Answer, Entry, Mode, Refusal};
+use crate::outcome::{Answer, Entry, Mode, Outcome, Refusal};
 use crate::output::{entry_from_bytes, ENTRY_BYTES, SNAPSHOT_BYTES, WORK_BYTES};
 use crate::program::Program;
-use crate::run::run_program;
+use crate::run::run;
 
 /// Runs a job with buffers of its own and gives the text to print.
 pub fn print(job: &[u8], mode: Mode) -> String {
-    match decode(job) {
-        Err(Refusal { number, place }) => format!("refused {number} {place}\n"),
-        Ok(program) => print_run(&program, mode),
-    }
-}
-
-fn print_run(program: &Program, mode: Mode) -> String {
-    let mut trace = vec![0; ENTRY_BYTES * program.turns.len()];
+    let turns = decode(job).map_or(0, |program| program.turns.len());
+    let mut trace = vec![0; ENTRY_BYTES * turns];
     let mut snapshot = vec![0; SNAPSHOT_BYTES];
     let mut work = vec![0; WORK_BYTES];
-    let answer = run_program(program, mode, &mut trace, &mut snapshot, &mut work);
+    let outcome = run(job, mode, &mut trace, &mut snapshot, &mut work);
+    text(job, &outcome, &trace, &snapshot)
+}
+
+/// The text for a run of a job that handed over this outcome and these bytes.
+pub fn text(job: &[u8], outcome: &Outcome, trace: &[u8], snapshot: &[u8]) -> String {
+    let answer = match outcome {
+        Outcome::Refused(Refusal { number, place }) => return format!("refused {number} {place}\n"),
+        Outcome::Ran(answer) => answer,
+    };
     let mut text = String::new();
     for bytes in trace.chunks_exact(ENTRY_BYTES).take(answer.turns) {
         push_entry(&mut text, &entry_from_bytes(bytes));
     }
-    push_answer(&mut text, &answer);
-    push_snapshot(&mut text, program, &snapshot);
+    push_answer(&mut text, answer);
+    let program = decode(job).expect("the job was accepted");
+    push_snapshot(&mut text, &program, snapshot);
     text
 }
 

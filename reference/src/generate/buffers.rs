@@ -6,7 +6,8 @@ use crate::output::{ENTRY_BYTES, SNAPSHOT_BYTES, WORK_BYTES};
 /// Lengths of trace, snapshot and work.
 pub type Lengths = [usize; 3];
 
-fn exact(turns: usize) -> Lengths {
+/// Just long enough.
+pub fn exact(turns: usize) -> Lengths {
     [ENTRY_BYTES * turns, SNAPSHOT_BYTES, WORK_BYTES]
 }
 
@@ -29,4 +30,13 @@ pub fn short(random: &mut Random, turns: usize) -> Lengths {
         };
     }
     lengths
+}
+
+/// Mostly long enough; for a job that may be refused before the buffers matter.
+pub fn any(random: &mut Random, turns: usize) -> Lengths {
+    if random.chance(75) {
+        enough(random, turns)
+    } else {
+        short(random, turns)
+    }
 }

@@ -101,15 +101,6 @@ fn short_case(random: &mut Random, max_bytes: usize) -> Case {
     Case { job: plan.bytes(), mode: mode(random), lengths, damage: None }
 }
 
-/// Lengths for a job that may be refused before the buffers matter.
-fn some_lengths(random: &mut Random, turns: usize) -> Lengths {
-    if random.chance(75) {
-        buffers::enough(random, turns)
-    } else {
-        buffers::short(random, turns)
-    }
-}
-
 /// After so many jobs that are too long or do not suit the reason, an empty job has to do.
 const TRIES: usize = 300;
 
@@ -121,7 +112,7 @@ fn damaged_case(random: &mut Random, max_bytes: usize) -> Case {
         let turns = turns(&plan);
         let Some(Damaged { job, refusal }) = damage(reason, &mut plan, random) else { continue };
         if job.len() <= max_bytes {
-            let lengths = some_lengths(random, turns);
+            let lengths = buffers::any(random, turns);
             return Case { job, mode: mode(random), lengths, damage: Some((reason, refusal)) };
         }
     }
@@ -133,7 +124,7 @@ fn blind_case(random: &mut Random, max_bytes: usize, spoil: impl FnOnce(&mut Vec
     let plan = valid::valid(random, max_bytes);
     let mut job = plan.bytes();
     spoil(&mut job, random);
-    let lengths = some_lengths(random, turns(&plan));
+    let lengths = buffers::any(random, turns(&plan));
     Case { job, mode: mode(random), lengths, damage: None }
 }
 
@@ -142,6 +133,6 @@ fn soup_case(random: &mut Random, max_bytes: usize) -> Case {
     let mut job = noise::soup(random, most);
     job.truncate(max_bytes);
     let turns = random.below(40);
-    let lengths = some_lengths(random, turns);
+    let lengths = buffers::any(random, turns);
     Case { job, mode: mode(random), lengths, damage: None }
 }

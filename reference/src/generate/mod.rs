@@ -1,6 +1,6 @@
 //! Seeded generator of cases: valid jobs, damaged jobs, short buffers.
 
-mod buffers;
+pub mod buffers;
 mod case;
 pub mod count;
 pub mod damage;
