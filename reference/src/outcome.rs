@@ -1,7 +1,7 @@
 //! What a run hands over: refusal or answer.
 
 /// Whether the permissions are enforced.
-#[derive(Clone, Copy, Debug, PartialEq, Eq)]
+#[derive(Clone, Copy, Debug, PartialEq, Eq, PartialOrd, Ord)]
 pub enum Mode {
     /// 01: watched.
     Monitored,

@@ -5,28 +5,41 @@ mod common;
 use std::collections::{BTreeMap, BTreeSet};
 use std::process::Command;
 
-use flow_reference::corpus::{families, jobs, lines, records, Job};
+use common::made::{all, runs_of, Made};
+use flow_reference::corpus::{records, runs, Run};
 use flow_reference::table::*;
-use flow_reference::{decode, Program, Refusal};
+use flow_reference::{decode, Mode, Program, Refusal};
 
-/// What becomes of each job.
-fn verdicts(jobs: &[Job]) -> Vec<Result<Program, Refusal>> {
-    jobs.iter().map(|job| decode(job)).collect()
+/// All runs without what became of them.
+fn all_runs() -> Vec<Run> {
+    all().iter().map(|made| made.run.clone()).collect()
 }
 
-/// The lines of a family's jobs.
-fn lines_of(name: &str) -> Vec<String> {
-    let families = families();
-    let family = families.iter().find(|family| family.name == name).expect("a family of this name");
-    lines(&family.jobs).lines().map(String::from).collect()
+/// All texts in one.
+fn all_texts() -> String {
+    all().iter().map(|made| made.text.as_str()).collect()
+}
+
+/// What the decoder says to each run's job.
+fn verdicts(runs: &[Run]) -> Vec<Result<Program, Refusal>> {
+    runs.iter().map(|run| decode(&run.job)).collect()
+}
+
+/// `accepted` or refusal and place, of the jobs of a family.
+fn verdicts_of(name: &str) -> Vec<String> {
+    let line = |verdict| match verdict {
+        Ok(_) => String::from("accepted"),
+        Err(Refusal { number, place }) => format!("refused {number} {place}"),
+    };
+    verdicts(&runs_of(name)).into_iter().map(line).collect()
 }
 
 /// The bytes at the places of each refusal.
-fn bytes_at_places(jobs: &[Job]) -> BTreeMap<u8, BTreeSet<u8>> {
+fn bytes_at_places(runs: &[Run]) -> BTreeMap<u8, BTreeSet<u8>> {
     let mut bytes: BTreeMap<u8, BTreeSet<u8>> = BTreeMap::new();
-    for job in jobs {
-        if let Err(Refusal { number: number @ 2.., place }) = decode(job) {
-            bytes.entry(number).or_default().insert(job[place]);
+    for run in runs {
+        if let Err(Refusal { number: number @ 2.., place }) = decode(&run.job) {
+            bytes.entry(number).or_default().insert(run.job[place]);
         }
     }
     bytes
@@ -38,40 +51,24 @@ fn commands(holds: impl Fn(&Row) -> bool) -> BTreeSet<u8> {
 }
 
 #[test]
-fn size() {
-    let jobs = jobs();
-    assert!((3_500..=4_500).contains(&jobs.len()), "{}", jobs.len());
-    assert!(records(&jobs).len() < 1_000_000);
-    assert!(jobs.iter().all(|job| job.len() <= 16_400));
-    assert_eq!(jobs.iter().collect::<BTreeSet<_>>().len(), jobs.len(), "each job once");
+fn sizes() {
+    let runs = all_runs();
+    assert!((5_000..=6_500).contains(&runs.len()), "{}", runs.len());
+    assert!(records(&runs).len() < 1_200_000);
+    assert!(all_texts().len() < 2_000_000);
+    assert!(runs.iter().all(|run| run.job.len() <= 16_400));
+    let [trace, snapshot, work] = [0, 1, 2].map(|buffer| runs.iter().map(|run| run.lengths[buffer]).max());
+    assert!(trace <= Some(28_800) && snapshot <= Some(2_700) && work <= Some(16_500));
 }
 
 #[test]
 fn the_same_every_time() {
-    assert_eq!(jobs(), jobs());
-}
-
-#[test]
-fn refusals_and_places() {
-    let mut places: BTreeMap<u8, BTreeSet<usize>> = BTreeMap::new();
-    let mut accepted = 0;
-    for verdict in verdicts(&jobs()) {
-        match verdict {
-            Ok(_) => accepted += 1,
-            Err(refusal) => {
-                places.entry(refusal.number).or_default().insert(refusal.place);
-            }
-        }
-    }
-    assert!(accepted >= 1_000, "{accepted}");
-    assert_eq!(places.keys().copied().collect::<Vec<u8>>(), (1..=9).collect::<Vec<u8>>());
-    assert_eq!(places[&1], BTreeSet::from([0]));
-    assert!(places.range(2..).all(|(_, places)| places.len() >= 50), "{places:?}");
+    assert_eq!(all_runs(), runs());
 }
 
 #[test]
 fn every_command_of_each_refusal() {
-    let bytes = bytes_at_places(&jobs());
+    let bytes = bytes_at_places(&all_runs());
     let names = |row: &Row| {
         use Operand::*;
         row.operands.iter().any(|operand| !matches!(operand, Number | Position))
@@ -89,8 +86,7 @@ fn every_command_of_each_refusal() {
 
 #[test]
 fn largest_counts_reached() {
-    let jobs = jobs();
-    let accepted: Vec<Program> = verdicts(&jobs).into_iter().flatten().collect();
+    let accepted: Vec<Program> = verdicts(&all_runs()).into_iter().flatten().collect();
     let most = |count: fn(&Program) -> usize| accepted.iter().map(count).max();
     assert_eq!(most(|program| program.flows), Some(8));
     assert_eq!(most(|program| program.nodes.len()), Some(32));
@@ -101,16 +97,15 @@ fn largest_counts_reached() {
     let full_bodies = |program: &Program| program.nodes.iter().filter(|node| node.length == 64).count();
     assert!(accepted.iter().any(|program| full_bodies(program) == 1));
     assert!(accepted.iter().any(|program| full_bodies(program) == 2));
-    let longest = jobs.iter().filter(|job| decode(job).is_ok()).map(Vec::len).max();
-    assert_eq!(longest, Some(16_384));
-    assert!(jobs.iter().any(|job| job.len() == 16_385));
+    let jobs = || all().iter().map(|Made { run, .. }| &run.job);
+    assert_eq!(jobs().filter(|job| decode(job).is_ok()).map(Vec::len).max(), Some(16_384));
+    assert!(jobs().any(|job| job.len() == 16_385));
 }
 
 /// The largest places that refusals have in the longest jobs.
 #[test]
 fn ends_of_the_longest_jobs() {
     let expected = [
-        "refused 1 0",
         "accepted",
         "refused 1 0",
         "refused 1 0",
@@ -123,24 +118,33 @@ fn ends_of_the_longest_jobs() {
         "refused 5 16382",
         "refused 6 16382",
     ];
-    assert_eq!(lines_of("lengths"), expected);
+    assert_eq!(verdicts_of("lengths"), expected);
 }
 
+/// K1, K2 (K3 is its other mode), K4 to K11, then turns and nodes: each in both modes.
 #[test]
 fn worked_jobs() {
-    let expected = [
-        &["accepted"; 6][..],
-        &["refused 1 0", "refused 6 0", "refused 3 1", "accepted", "refused 9 4"],
-        &["accepted", "refused 5 8194", "accepted", "refused 5 33"],
-    ];
-    assert_eq!(lines_of("worked"), expected.concat());
-    assert_eq!(jobs()[0], common::k1());
+    let runs = runs_of("worked");
+    let k1 =
+        "0 1 0 2\n0 0 0 0\n0 3 0 5\n0 6 0 7\n0 2 0 0\n1 1 0 7\n1 0 0 0\n1 5 0 7\n1 2 0 0\nend 0 9 0 0 0 0\n\
+              node 0 255 0 0 0\nnode 1 255 0 0 0\nvar 0 5\nkept\n";
+    assert_eq!((&runs[0].job, runs[0].mode), (&common::k1(), Mode::Monitored));
+    assert_eq!(runs[0].text(), k1);
+    let is_end = |line: &&str| line.starts_with("end") || line.starts_with("refused");
+    let end = |run: &Run| run.text().lines().find(is_end).map(String::from).unwrap();
+    let monitored: Vec<String> = runs.iter().step_by(2).map(end).collect();
+    let ran = ["end 0 9 0 0 0 0", "end 1 7 1 5 0 8", "end 1 2 0 3 0 0", "end 2 0 1 0 0 0", "end 1 7 1 5 0 3"];
+    let refused =
+        ["end 3 33 0 6 0 0", "refused 1 0", "refused 6 0", "refused 3 1", "end 0 0 0 0 0 0", "refused 9 4"];
+    let counts = ["end 2 0 0 0 0 0", "refused 5 8194", "end 0 0 0 0 0 0", "refused 5 33"];
+    assert_eq!(monitored, [&ran[..], &refused, &counts].concat());
+    assert_eq!(end(&runs[3]), "end 0 9 0 0 0 0", "K3");
 }
 
 #[test]
 fn the_lowest_of_several_tests() {
     for number in 2..=6 {
-        let lines = lines_of(&format!("{number} before others"));
+        let lines = verdicts_of(&format!("{number} before others"));
         let start = format!("refused {number} ");
         assert!(lines.iter().all(|line| line.starts_with(&start)), "{number}: {lines:?}");
     }
@@ -149,22 +153,26 @@ fn the_lowest_of_several_tests() {
 /// Early refusals by late ones; the early jump too far gives way to every late refusal.
 #[test]
 fn the_first_of_several_commands() {
-    let numbers: Vec<char> = lines_of("first goes").iter().filter_map(|line| line.chars().nth(8)).collect();
+    let numbers: Vec<char> =
+        verdicts_of("first goes").iter().filter_map(|line| line.chars().nth(8)).collect();
     let expected: Vec<String> =
         ["2", "4", "5", "6", "7", "8"].map(|number| number.repeat(8)).into_iter().collect();
     assert_eq!(numbers.into_iter().collect::<String>(), expected.concat() + "23456789");
 }
 
-/// The jobs of a file of records.
-fn read_back(mut file: &[u8]) -> Vec<Job> {
-    let mut jobs = Vec::new();
-    while let [low, high, rest @ ..] = file {
-        let (job, behind) = rest.split_at(usize::from(*low) + 256 * usize::from(*high));
-        jobs.push(job.to_vec());
+/// The runs of a file of records.
+fn read_back(mut file: &[u8]) -> Vec<Run> {
+    let mut runs = Vec::new();
+    while let [mode, seed, rest @ ..] = file {
+        let (head, behind) = rest.split_at(8);
+        let length = |at: usize| usize::from(head[at]) + 256 * usize::from(head[at + 1]);
+        let (job, behind) = behind.split_at(length(0));
+        let mode = common::MODES[usize::from(*mode)];
+        runs.push(Run { mode, seed: *seed, lengths: [length(2), length(4), length(6)], job: job.to_vec() });
         file = behind;
     }
     assert!(file.is_empty());
-    jobs
+    runs
 }
 
 #[test]
@@ -174,9 +182,8 @@ fn files_of_the_program() {
         Command::new(env!("CARGO_BIN_EXE_corpus")).args(arguments).output().unwrap().status
     };
     assert!(corpus(&[folder]).success());
-    let jobs = jobs();
-    assert_eq!(read_back(&std::fs::read(folder.join("stdin")).unwrap()), jobs);
-    assert_eq!(std::fs::read_to_string(folder.join("stdout")).unwrap(), lines(&jobs));
+    assert_eq!(read_back(&std::fs::read(folder.join("stdin")).unwrap()), all_runs());
+    assert_eq!(std::fs::read_to_string(folder.join("stdout")).unwrap(), all_texts());
     assert!(!corpus(&[]).success());
     assert!(!corpus(&[folder, folder]).success());
     assert!(!corpus(&[&folder.join("no such folder")]).success());
@@ -184,8 +191,7 @@ fn files_of_the_program() {
 
 #[test]
 fn stored() {
-    let folder = concat!(env!("CARGO_MANIFEST_DIR"), "/../crates/decoding/");
-    let jobs = jobs();
-    assert!(std::fs::read(folder.to_owned() + "stdin").unwrap() == records(&jobs));
-    assert_eq!(std::fs::read_to_string(folder.to_owned() + "stdout").unwrap(), lines(&jobs));
+    let folder = concat!(env!("CARGO_MANIFEST_DIR"), "/../crates/conformance/");
+    assert!(std::fs::read(folder.to_owned() + "stdin").unwrap() == records(&all_runs()));
+    assert!(std::fs::read_to_string(folder.to_owned() + "stdout").unwrap() == all_texts());
 }

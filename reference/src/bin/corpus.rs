@@ -1,17 +1,17 @@
-//! Writes the decoder's stored corpus into a folder:
+//! Writes the stored corpus of runs into a folder:
 //!
 //! ```text
 //! corpus FOLDER
 //! ```
 //!
-//! `stdin` holds the jobs: of each its length as 2 bytes, lowest first, then its bytes. `stdout` holds a line
-//! a job: `accepted` or `refused NUMBER PLACE`. Both are the same every time.
+//! `stdin` holds the runs: of each its mode, seed and lengths in 10 bytes, then its job. `stdout` holds what the
+//! printing program prints for each, and a line `kept` or `changed`. Both are the same every time.
 
 use std::io;
 use std::path::{Path, PathBuf};
 use std::process::ExitCode;
 
-use flow_reference::corpus::{jobs, lines, records};
+use flow_reference::corpus::{records, runs, texts};
 
 fn folder() -> Option<PathBuf> {
     let mut arguments = std::env::args_os().skip(1);
@@ -20,9 +20,9 @@ fn folder() -> Option<PathBuf> {
 }
 
 fn write_corpus(folder: &Path) -> io::Result<()> {
-    let jobs = jobs();
-    std::fs::write(folder.join("stdin"), records(&jobs))?;
-    std::fs::write(folder.join("stdout"), lines(&jobs))
+    let runs = runs();
+    std::fs::write(folder.join("stdin"), records(&runs))?;
+    std::fs::write(folder.join("stdout"), texts(&runs))
 }
 
 fn main() -> ExitCode {

@@ -1,81 +1,92 @@
-//! The decoder's stored corpus: jobs in families, and what becomes of each.
+//! The stored corpus: runs in families, and what is printed of each.
 
+mod buffers;
 mod bytes;
 mod edits;
+mod full;
 mod groups;
 mod jumps;
 mod lengths;
 mod limits;
 mod names;
 mod order;
+mod pairs;
 mod random;
 mod repeats;
+mod run;
 mod sight;
+mod stops;
 mod worked;
 mod worlds;
 
 use std::collections::BTreeSet;
 
-use crate::decode;
+pub use run::Run;
+use run::Runs;
 
 pub type Job = Vec<u8>;
 
-/// Jobs of one kind, with a name.
+/// Runs of one kind, with a name.
 pub struct Family {
     pub name: &'static str,
-    pub jobs: Vec<Job>,
+    pub runs: Vec<Run>,
 }
 
-/// All families, the hand-made ones in the order of the refusals that they are about.
-pub fn families() -> Vec<Family> {
-    let family = |name, jobs| Family { name, jobs };
+/// Jobs by what they are about, the hand-made ones in the order of the refusals.
+fn jobs() -> Vec<(&'static str, Vec<Job>)> {
     vec![
-        family("worked", worked::jobs()),
-        family("lengths", lengths::jobs()),
-        family("bytes", bytes::jobs()),
-        family("groups", groups::jobs()),
-        family("limits", limits::jobs()),
-        family("names", names::jobs()),
-        family("sight", sight::jobs()),
-        family("repeats", repeats::jobs()),
-        family("jumps", jumps::jobs()),
-        family("2 before others", order::several(2)),
-        family("3 before others", order::several(3)),
-        family("4 before others", order::several(4)),
-        family("5 before others", order::several(5)),
-        family("6 before others", order::several(6)),
-        family("first goes", order::first_goes()),
-        family("edits", edits::jobs()),
-        family("random", random::jobs()),
+        ("lengths", lengths::jobs()),
+        ("bytes", bytes::jobs()),
+        ("groups", groups::jobs()),
+        ("limits", limits::jobs()),
+        ("names", names::jobs()),
+        ("sight", sight::jobs()),
+        ("repeats", repeats::jobs()),
+        ("jumps", jumps::jobs()),
+        ("2 before others", order::several(2)),
+        ("3 before others", order::several(3)),
+        ("4 before others", order::several(4)),
+        ("5 before others", order::several(5)),
+        ("6 before others", order::several(6)),
+        ("first goes", order::first_goes()),
+        ("edits", edits::jobs()),
+        ("random", random::jobs()),
     ]
 }
 
-/// The jobs of all families, each job once.
-pub fn jobs() -> Vec<Job> {
-    let mut seen = BTreeSet::new();
-    let all = families().into_iter().flat_map(|family| family.jobs);
-    all.filter(|job| seen.insert(job.clone())).collect()
-}
-
-/// The jobs in one file: of each its length as 2 bytes, lowest first, then its bytes.
-pub fn records(jobs: &[Job]) -> Vec<u8> {
-    let mut file = Vec::new();
-    for job in jobs {
-        let length = u16::try_from(job.len()).expect("2 bytes hold the length");
-        file.extend_from_slice(&length.to_le_bytes());
-        file.extend_from_slice(job);
+/// All families: the worked jobs in both modes, each of the jobs above once, then what is about runs.
+pub fn families() -> Vec<Family> {
+    let mut runs = Runs::new();
+    let mut list = vec![Family { name: "worked", runs: runs.pairs(&worked::jobs()) }];
+    let mut seen: BTreeSet<Job> = worked::jobs().into_iter().collect();
+    for (name, mut jobs) in jobs() {
+        jobs.retain(|job| seen.insert(job.clone()));
+        list.push(Family { name, runs: jobs.iter().map(|job| runs.any(job)).collect() });
     }
-    file
+    list.push(Family { name: "buffers", runs: buffers::runs(&mut runs) });
+    let pairs = [
+        ("accesses", stops::accesses()),
+        ("not ready", stops::not_ready()),
+        ("full queues", stops::full_queues()),
+        ("largest states", full::states()),
+        ("long runs", full::long_runs()),
+        ("pairs", pairs::jobs(350)),
+    ];
+    list.extend(pairs.map(|(name, jobs)| Family { name, runs: runs.pairs(&jobs) }));
+    list
 }
 
-/// What the decoder says to each job, a line each: `accepted` or `refused NUMBER PLACE`.
-pub fn lines(jobs: &[Job]) -> String {
-    jobs.iter().map(|job| line(job)).collect()
+/// The runs of all families.
+pub fn runs() -> Vec<Run> {
+    families().into_iter().flat_map(|family| family.runs).collect()
 }
 
-fn line(job: &[u8]) -> String {
-    match decode(job) {
-        Ok(_) => String::from("accepted\n"),
-        Err(refusal) => format!("refused {} {}\n", refusal.number, refusal.place),
-    }
+/// All records in one file.
+pub fn records(runs: &[Run]) -> Vec<u8> {
+    runs.iter().flat_map(Run::record).collect()
+}
+
+/// The texts of all runs in one file.
+pub fn texts(runs: &[Run]) -> String {
+    runs.iter().map(Run::text).collect()
 }

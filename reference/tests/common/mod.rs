@@ -2,6 +2,8 @@
 
 #![allow(dead_code)]
 
+pub mod made;
+
 use std::collections::HashSet;
 
 use flow_reference::{hex, Mode, Outcome};

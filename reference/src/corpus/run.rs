@@ -1,0 +1,95 @@
+//! One run of the stored corpus, and its modes, seeds and buffer lengths.
+
+use super::Job;
+use crate::dirt::{dirty, handed_over, is_kept};
+use crate::generate::buffers::{self, Lengths};
+use crate::generate::Random;
+use crate::print::text;
+use crate::{decode, run, Mode};
+
+/// A job, how it is run, and what its buffers hold before: see `dirt`.
+#[derive(Clone, Debug, PartialEq, Eq)]
+pub struct Run {
+    pub mode: Mode,
+    pub seed: u8,
+    /// Lengths of trace, snapshot and work.
+    pub lengths: Lengths,
+    pub job: Job,
+}
+
+impl Run {
+    /// Mode (0 monitored, 1 unmonitored) and seed, a byte each; the lengths of job, trace, snapshot and work,
+    /// 2 bytes each, lowest first; the job.
+    pub fn record(&self) -> Vec<u8> {
+        let [trace, snapshot, work] = self.lengths;
+        let mut record = vec![u8::from(self.mode == Mode::Unmonitored), self.seed];
+        for length in [self.job.len(), trace, snapshot, work] {
+            let length = u16::try_from(length).expect("2 bytes hold the length");
+            record.extend_from_slice(&length.to_le_bytes());
+        }
+        record.extend_from_slice(&self.job);
+        record
+    }
+
+    /// What the printing program prints for the run; then `kept` if every byte that has to be unchanged is
+    /// unchanged and every byte that has to be 0 is 0, else `changed`.
+    pub fn text(&self) -> String {
+        let before = dirty(self.seed, self.lengths);
+        let mut after = before.clone();
+        let [trace, snapshot, work] = &mut after;
+        let outcome = run(&self.job, self.mode, trace, snapshot, work);
+        let lines = text(&self.job, &outcome, &after[0], &after[1]);
+        let handed_over = handed_over(&self.job, &outcome, &after[1]);
+        let last = if is_kept(&before, &after, handed_over) { "kept\n" } else { "changed\n" };
+        lines + last
+    }
+}
+
+/// The turns of a job; of a refused one any number.
+fn turns(job: &[u8], random: &mut Random) -> usize {
+    decode(job).map_or_else(|_| random.below(40), |program| program.turns.len())
+}
+
+/// Buffers just long enough for a job that is accepted.
+pub fn exact(job: &[u8]) -> Lengths {
+    buffers::exact(decode(job).map_or(0, |program| program.turns.len()))
+}
+
+/// Makes runs of jobs, from a fixed seed.
+pub struct Runs(Random);
+
+impl Runs {
+    pub fn new() -> Runs {
+        Runs(Random::new(0x0C04_F02A))
+    }
+
+    /// A run with these lengths.
+    pub fn with(&mut self, job: &[u8], mode: Mode, lengths: Lengths) -> Run {
+        Run { mode, seed: self.0.below(256) as u8, lengths, job: job.to_vec() }
+    }
+
+    /// A run in either mode, with buffers that are mostly long enough.
+    pub fn any(&mut self, job: &[u8]) -> Run {
+        let mode = self.0.pick(&[Mode::Monitored, Mode::Unmonitored]);
+        let turns = turns(job, &mut self.0);
+        let lengths = buffers::any(&mut self.0, turns);
+        self.with(job, mode, lengths)
+    }
+
+    /// The same job in both modes, with buffers that are long enough.
+    pub fn pair(&mut self, job: &[u8]) -> [Run; 2] {
+        let turns = turns(job, &mut self.0);
+        let lengths = buffers::enough(&mut self.0, turns);
+        self.both(job, lengths)
+    }
+
+    /// The same job in both modes, with these lengths.
+    pub fn both(&mut self, job: &[u8], lengths: Lengths) -> [Run; 2] {
+        [Mode::Monitored, Mode::Unmonitored].map(|mode| self.with(job, mode, lengths))
+    }
+
+    /// Pairs of all these jobs.
+    pub fn pairs(&mut self, jobs: &[Job]) -> Vec<Run> {
+        jobs.iter().flat_map(|job| self.pair(job)).collect()
+    }
+}

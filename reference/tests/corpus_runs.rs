@@ -1,0 +1,145 @@
+//! How the runs of the stored corpus go.
+
+mod common;
+
+use std::collections::{BTreeMap, BTreeSet};
+
+use common::made::{all, runs_of, Made};
+use common::{run_dirty, MODES};
+use flow_reference::corpus::Run;
+use flow_reference::output::{snapshot_length, ENTRY_BYTES};
+use flow_reference::print::print;
+use flow_reference::{decode, Answer, Mode, Outcome, Refusal};
+
+/// The runs of accepted jobs with buffers that are long enough, and their answers.
+fn ran() -> impl Iterator<Item = (&'static Run, Answer)> {
+    all().iter().filter_map(|Made { run, outcome, .. }| match outcome {
+        Outcome::Ran(answer) => Some((run, *answer)),
+        Outcome::Refused(_) => None,
+    })
+}
+
+/// Every run keeps the bytes that it has to keep.
+#[test]
+fn all_kept() {
+    for Made { run, text, .. } in all() {
+        assert_eq!(text.lines().last(), Some("kept"), "{run:?}");
+    }
+}
+
+/// The text without its last line is the printing program's, if the buffers are long enough.
+#[test]
+fn texts_of_the_printing_program() {
+    let mut same = 0;
+    for Made { run, outcome, text } in all() {
+        if !matches!(outcome, Outcome::Refused(Refusal { number: 10.., .. })) {
+            assert_eq!(*text, print(&run.job, run.mode) + "kept\n");
+            same += 1;
+        }
+    }
+    assert!(same > 5_000, "{same}");
+}
+
+#[test]
+fn refusals_and_places() {
+    let mut counts: BTreeMap<(u8, Mode), usize> = BTreeMap::new();
+    let mut places: BTreeMap<u8, BTreeSet<usize>> = BTreeMap::new();
+    for Made { run, outcome, .. } in all() {
+        if let Outcome::Refused(Refusal { number, place }) = *outcome {
+            *counts.entry((number, run.mode)).or_default() += 1;
+            places.entry(number).or_default().insert(place);
+        }
+    }
+    assert_eq!(counts.len(), 24, "1 to 12 in both modes: {counts:?}");
+    let least = |number| if number == 1 { 8 } else { 60 };
+    assert!(counts.iter().all(|(&(number, _), &count)| count >= least(number)), "{counts:?}");
+    assert_eq!(places[&1], BTreeSet::from([0]));
+    assert!(places.range(2..).all(|(_, places)| places.len() >= 35), "{places:?}");
+}
+
+/// How often the runs stop so, by mode, stop and kind of the attempted entry.
+fn stops() -> BTreeMap<(Mode, u8, u8), usize> {
+    let mut counts = BTreeMap::new();
+    for (run, answer) in ran() {
+        *counts.entry((run.mode, answer.stop, answer.attempted.kind)).or_default() += 1;
+    }
+    counts
+}
+
+#[test]
+fn stops_and_attempted_kinds() {
+    let counts = stops();
+    let monitored = [(0, 0), (1, 3), (1, 4), (1, 5), (2, 0), (3, 6)].map(|(s, k)| (Mode::Monitored, s, k));
+    let unmonitored = [(0, 0), (2, 0), (3, 6)].map(|(s, k)| (Mode::Unmonitored, s, k));
+    assert_eq!(counts.keys().copied().collect::<Vec<_>>(), [&monitored[..], &unmonitored].concat());
+    assert!(counts.values().all(|&count| count >= 60), "{counts:?}");
+}
+
+/// Sends that found a queue full, by their number of targets.
+#[test]
+fn full_queues_of_one_and_several_targets() {
+    let mut counts: BTreeMap<u32, usize> = BTreeMap::new();
+    for (run, answer) in ran().filter(|(_, answer)| answer.stop == 3) {
+        let (node, port) = (usize::from(answer.attempted.node), usize::from(answer.attempted.number));
+        let targets = decode(&run.job).unwrap().nodes[node].wires[port];
+        *counts.entry(targets.count_ones()).or_default() += 1;
+    }
+    assert!((1..=4).all(|targets| counts[&targets] >= 10), "{counts:?}");
+}
+
+#[test]
+fn modes_seeds_and_pairs() {
+    for mode in MODES {
+        let seeds: Vec<u8> =
+            all().iter().filter(|made| made.run.mode == mode).map(|made| made.run.seed).collect();
+        assert!(seeds.len() > 2_500);
+        assert_eq!(seeds.iter().collect::<BTreeSet<_>>().len(), 256);
+    }
+    let both = |pair: &[Run]| pair[0].job == pair[1].job && pair[0].mode != pair[1].mode;
+    for (family, count) in
+        [("worked", 15), ("accesses", 200), ("full queues", 80), ("long runs", 3), ("pairs", 350)]
+    {
+        let runs = runs_of(family);
+        assert!(runs.chunks(2).all(both), "{family}");
+        assert!(runs.len() >= 2 * count, "{family}");
+    }
+}
+
+/// Each buffer short by one, shorter, exact, longer by one and longer, while the two others suffice.
+#[test]
+fn buffer_lengths() {
+    let mut seen: BTreeMap<(usize, isize), usize> = BTreeMap::new();
+    for Made { run, .. } in all() {
+        let Ok(program) = decode(&run.job) else { continue };
+        let needed = [ENTRY_BYTES * program.turns.len(), 2_624, 16_384];
+        let more = [0, 1, 2].map(|buffer| run.lengths[buffer] as isize - needed[buffer] as isize);
+        for buffer in (0..3).filter(|&buffer| (0..3).all(|other| other == buffer || more[other] >= 0)) {
+            *seen.entry((buffer, more[buffer].clamp(-2, 2))).or_default() += 1;
+        }
+    }
+    let expected: Vec<_> = (0..3).flat_map(|buffer| (-2..=2).map(move |more| (buffer, more))).collect();
+    assert_eq!(seen.keys().copied().collect::<Vec<_>>(), expected);
+    assert!(seen.values().all(|&count| count >= 20), "{seen:?}");
+}
+
+#[test]
+fn lengths_of_runs() {
+    let mut turns: BTreeMap<usize, usize> = BTreeMap::new();
+    for (_, answer) in ran() {
+        *turns.entry(answer.turns).or_default() += 1;
+    }
+    assert!(turns[&0] > 500);
+    assert!(turns.range(10..=60).map(|(_, count)| count).sum::<usize>() > 700, "{turns:?}");
+    assert_eq!((turns[&4_096], turns[&4_095], turns[&4_094]), (3, 1, 2));
+}
+
+/// The longest snapshot: 16 messages at each of 32 nodes, 64 variables.
+#[test]
+fn fullest_snapshot() {
+    let is_fullest = |run: &&Run| {
+        let ran = run_dirty(&run.job, run.mode, run.lengths, run.seed);
+        matches!(ran.outcome, Outcome::Ran(_))
+            && snapshot_length(&decode(&run.job).unwrap(), &ran.snapshot) == 2_624
+    };
+    assert_eq!(runs_of("largest states").iter().filter(is_fullest).count(), 2);
+}
