@@ -1,0 +1,54 @@
+//! One run by both sides, and where they differ.
+
+use flow_reference::corpus::Run;
+use flow_reference::{hex, Mode};
+
+use crate::guarded::Guarded;
+use crate::{library, reference};
+
+/// A number that no answer has.
+const UNWRITTEN: u64 = 0xDEAD_BEEF_DEAD_BEEF;
+
+/// Runs a job in these buffers and writes the answer.
+type Side = fn(&[u8], Mode, [&mut [u8]; 3], &mut [u64; 8]);
+
+/// What a side left.
+struct Left {
+    answer: [u64; 8],
+    /// Job, trace, snapshot and work, with guard bytes.
+    bytes: [Guarded; 4],
+}
+
+const NAMES: [&str; 4] = ["job", "trace", "snapshot", "work"];
+
+fn left_by(side: Side, run: &Run) -> Left {
+    let mut answer = [UNWRITTEN; 8];
+    let mut job = Guarded::holding(&run.job, run.seed);
+    let [mut trace, mut snapshot, mut work] = run.lengths.map(|length| Guarded::dirty(run.seed, length));
+    side(job.slice(), run.mode, [trace.slice(), snapshot.slice(), work.slice()], &mut answer);
+    Left { answer, bytes: [job, trace, snapshot, work] }
+}
+
+/// The second implementation's answer, and what the library leaves otherwise: a line each.
+pub fn compare(run: &Run) -> ([u64; 8], Vec<String>) {
+    let expected = left_by(reference::run, run);
+    let found = left_by(library::run, run);
+    let mut lines = Vec::new();
+    if found.answer != expected.answer {
+        lines.push(format!("answer {:?}, expected {:?}", found.answer, expected.answer));
+    }
+    for (name, (found, expected)) in NAMES.iter().zip(found.bytes.iter().zip(&expected.bytes)) {
+        lines.extend(found.difference(expected).map(|difference| format!("{name}: {difference}")));
+    }
+    (expected.answer, lines)
+}
+
+/// The arguments with which the program repeats a run.
+pub fn arguments(run: &Run) -> String {
+    let mode = match run.mode {
+        Mode::Monitored => "monitored",
+        Mode::Unmonitored => "unmonitored",
+    };
+    let [trace, snapshot, work] = run.lengths;
+    format!("run {mode} {trace} {snapshot} {work} {} {}", run.seed, hex::encode(&run.job))
+}

@@ -1,0 +1,33 @@
+//! Fresh runs: a generated job in both modes, with seeds and buffer lengths of their own.
+
+use flow_reference::corpus::Run;
+use flow_reference::generate::buffers::{self, Lengths};
+use flow_reference::generate::{case, Kind, Random};
+use flow_reference::{decode, Mode};
+
+/// Largest lengths of jobs, and how often each is chosen. Only the last allows the longest schedules.
+const LONGEST: [usize; 5] = [60, 200, 600, 2_000, usize::MAX];
+const WEIGHTS: [usize; 5] = [8, 12, 20, 20, 40];
+
+/// Both runs of the job `index` of a seed.
+pub fn runs(seed: u64, index: u64, kind: Kind) -> [Run; 2] {
+    // Other numbers than those from which the generator makes the job.
+    let mut random = Random::for_case(!seed, index);
+    let longest = LONGEST[random.weighted(&WEIGHTS)];
+    let job = case(seed, index, kind, longest).job;
+    let turns = decode(&job).map_or_else(|_| random.below(40), |program| program.turns.len());
+    [Mode::Monitored, Mode::Unmonitored].map(|mode| {
+        let (lengths, seed) = (lengths(&mut random, turns), random.below(256) as u8);
+        Run { mode, seed, lengths, job: job.clone() }
+    })
+}
+
+/// Exact, a little longer or much longer; of a quarter of the runs at least one too short: by one byte, by many, or
+/// empty.
+fn lengths(random: &mut Random, turns: usize) -> Lengths {
+    let lengths = buffers::any(random, turns);
+    if random.chance(10) {
+        return lengths.map(|length| length + random.below(3_000));
+    }
+    lengths
+}

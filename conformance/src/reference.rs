@@ -1,0 +1,26 @@
+//! The second implementation, with its answer as the library's 8 numbers.
+
+use flow_reference::{Answer, Mode, Outcome};
+
+/// Refusal number and place; stop, completed turns; node, kind, number and value of the attempted entry.
+fn numbers(outcome: &Outcome) -> [u64; 8] {
+    match *outcome {
+        Outcome::Refused(refusal) => [refusal.number.into(), refusal.place as u64, 0, 0, 0, 0, 0, 0],
+        Outcome::Ran(Answer { stop, turns, attempted }) => [
+            0,
+            0,
+            stop.into(),
+            turns as u64,
+            attempted.node.into(),
+            attempted.kind.into(),
+            attempted.number.into(),
+            attempted.value.into(),
+        ],
+    }
+}
+
+/// Runs a job.
+pub fn run(job: &[u8], mode: Mode, buffers: [&mut [u8]; 3], answer: &mut [u64; 8]) {
+    let [trace, snapshot, work] = buffers;
+    *answer = numbers(&flow_reference::run(job, mode, trace, snapshot, work));
+}
