@@ -75,6 +75,24 @@ fn stops_and_attempted_kinds() {
     assert!(counts.values().all(|&count| count >= 60), "{counts:?}");
 }
 
+/// The monitored runs of a family: stop and completed turns.
+fn monitored_ends(family: &str) -> Vec<(u8, usize)> {
+    let end = |run: &Run| match run_dirty(&run.job, run.mode, run.lengths, run.seed).outcome {
+        Outcome::Ran(answer) => (answer.stop, answer.turns),
+        Outcome::Refused(refusal) => panic!("{refusal:?}"),
+    };
+    runs_of(family).iter().filter(|run| run.mode == Mode::Monitored).map(end).collect()
+}
+
+/// Of 256 arguments, the listed ones are permitted; of the last node, each missing permission stops its access.
+#[test]
+fn ends_of_the_lists() {
+    let (listed, other) = ((0, 4), (1, 2));
+    assert_eq!(monitored_ends("long lists"), [other, listed, listed, listed, listed, listed, listed, other]);
+    let (all, calls) = ((0, 13), (1, 6));
+    assert_eq!(monitored_ends("last numbers"), [all, (1, 2), (1, 3), (1, 5), calls, all, calls, calls]);
+}
+
 /// Sends that found a queue full, by their number of targets.
 #[test]
 fn full_queues_of_one_and_several_targets() {

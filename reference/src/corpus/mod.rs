@@ -8,6 +8,7 @@ mod groups;
 mod jumps;
 mod lengths;
 mod limits;
+mod lists;
 mod names;
 mod order;
 mod pairs;
@@ -66,6 +67,8 @@ pub fn families() -> Vec<Family> {
     list.push(Family { name: "buffers", runs: buffers::runs(&mut runs) });
     let pairs = [
         ("accesses", stops::accesses()),
+        ("long lists", lists::long_lists()),
+        ("last numbers", lists::last_numbers()),
         ("not ready", stops::not_ready()),
         ("full queues", stops::full_queues()),
         ("largest states", full::states()),
