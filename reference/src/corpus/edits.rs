@@ -4,44 +4,46 @@ use super::worlds::small;
 use super::Job;
 use crate::table::*;
 
+/// What follows the declarations in the tour.
+const TAIL: [(u8, &[u32]); 32] = [
+    (WIRE, &[0, 0, 1]),
+    (WIRE, &[1, 3, 0]),
+    (WIRE, &[2, 1, 2]),
+    (ANY, &[0, 0]),
+    (ARG, &[0, 0, 7]),
+    (READ, &[0, 1]),
+    (WRITE, &[0, 3]),
+    (ARG, &[2, 1, 1 << 31]),
+    (READ, &[2, 2]),
+    (BODY, &[1]),
+    (TAKE, &[]),
+    (GET, &[1]),
+    (JUMPZ, &[4]),
+    (CALL, &[1]),
+    (BODY, &[0]),
+    (SET, &[9]),
+    (ADD, &[u32::MAX]),
+    (PUT, &[0]),
+    (PLUS, &[3]),
+    (JUMPZ, &[7]),
+    (SEND, &[3]),
+    (JUMP, &[1]),
+    (SKIP, &[]),
+    (BODY, &[2]),
+    (PUT, &[4]),
+    (JUMP, &[2]),
+    (START, &[1, 3]),
+    (START, &[2, 0]),
+    (TURN, &[1]),
+    (TURN, &[0]),
+    (TURN, &[2]),
+    (TURN, &[1]),
+];
+
 /// Two flows, every command at least once, jumps forward, backward and to the end.
 pub fn tour() -> Vec<Vec<u8>> {
     let mut plan = small();
-    let tail: [(u8, &[u32]); 32] = [
-        (WIRE, &[0, 0, 1]),
-        (WIRE, &[1, 3, 0]),
-        (WIRE, &[2, 1, 2]),
-        (ANY, &[0, 0]),
-        (ARG, &[0, 0, 7]),
-        (READ, &[0, 1]),
-        (WRITE, &[0, 3]),
-        (ARG, &[2, 1, 1 << 31]),
-        (READ, &[2, 2]),
-        (BODY, &[1]),
-        (TAKE, &[]),
-        (GET, &[1]),
-        (JUMPZ, &[4]),
-        (CALL, &[1]),
-        (BODY, &[0]),
-        (SET, &[9]),
-        (ADD, &[u32::MAX]),
-        (PUT, &[0]),
-        (PLUS, &[3]),
-        (JUMPZ, &[7]),
-        (SEND, &[3]),
-        (JUMP, &[1]),
-        (SKIP, &[]),
-        (BODY, &[2]),
-        (PUT, &[4]),
-        (JUMP, &[2]),
-        (START, &[1, 3]),
-        (START, &[2, 0]),
-        (TURN, &[1]),
-        (TURN, &[0]),
-        (TURN, &[2]),
-        (TURN, &[1]),
-    ];
-    for (byte, operands) in tail {
+    for (byte, operands) in TAIL {
         plan.push(byte, operands);
     }
     plan.groups.concat()
