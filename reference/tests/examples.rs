@@ -1,0 +1,124 @@
+//! The jobs in `examples/`: each is the bytes of its text and prints the lines stored beside it.
+
+mod common;
+
+use std::collections::BTreeSet;
+use std::path::PathBuf;
+
+use common::{bytes, commands};
+use flow_reference::print::print;
+use flow_reference::Mode::{Monitored, Unmonitored};
+
+/// Flows of the papers, each as a benign and as a malicious job.
+const FLOWS: [&str; 4] = ["email", "water", "earthquake", "lowercase"];
+
+fn folder() -> PathBuf {
+    PathBuf::from(env!("CARGO_MANIFEST_DIR")).join("../examples")
+}
+
+fn read(file: &str) -> Vec<u8> {
+    std::fs::read(folder().join(file)).unwrap_or_else(|error| panic!("{file}: {error}"))
+}
+
+fn text(file: &str) -> String {
+    String::from_utf8(read(file)).expect("UTF-8")
+}
+
+/// The names of the files with this ending.
+fn names(ending: &str) -> BTreeSet<String> {
+    let files = std::fs::read_dir(folder()).expect("the folder of examples");
+    let files = files.map(|file| file.unwrap().file_name().into_string().unwrap());
+    files.filter_map(|file| file.strip_suffix(ending).map(str::to_string)).collect()
+}
+
+/// The bytes of a text: what stands before `#` on its lines.
+fn made(name: &str) -> Vec<u8> {
+    let text = text(&format!("{name}.txt"));
+    let lines = text.lines().map(|line| line.split('#').next().unwrap_or_default());
+    lines.flat_map(bytes).collect()
+}
+
+/// The entries printed, and the line `end` behind them.
+fn printed(file: &str) -> (Vec<String>, String) {
+    let lines: Vec<String> = text(file).lines().map(str::to_string).collect();
+    let end = lines.iter().position(|line| line.starts_with("end ")).expect("a line `end`");
+    (lines[..end].to_vec(), lines[end].clone())
+}
+
+#[test]
+fn every_job_has_its_text_and_its_lines() {
+    let expected: BTreeSet<String> = ["k1", "k2", "k4", "k5", "k6", "k7"]
+        .map(str::to_string)
+        .into_iter()
+        .chain(FLOWS.iter().flat_map(|flow| [format!("{flow}-benign"), format!("{flow}-malicious")]))
+        .collect();
+    for ending in [".txt", ".job", ".watched", ".bare"] {
+        assert_eq!(names(ending), expected, "{ending}");
+    }
+}
+
+#[test]
+fn jobs_are_their_texts() {
+    for name in names(".txt") {
+        assert_eq!(read(&format!("{name}.job")), made(&name), "{name}: run examples/make");
+    }
+}
+
+#[test]
+fn jobs_print_the_stored_lines() {
+    for name in names(".job") {
+        let job = read(&format!("{name}.job"));
+        assert_eq!(print(&job, Monitored), text(&format!("{name}.watched")), "{name}");
+        assert_eq!(print(&job, Unmonitored), text(&format!("{name}.bare")), "{name}");
+    }
+}
+
+/// The paper's words on K1 to K7; K3 is K2 bare.
+#[test]
+fn worked_jobs_end_as_the_paper_says() {
+    for (file, end) in [
+        ("k1.watched", "end 0 9 0 0 0 0"),
+        ("k2.watched", "end 1 7 1 5 0 8"),
+        ("k2.bare", "end 0 9 0 0 0 0"),
+        ("k4.watched", "end 1 2 0 3 0 0"),
+        ("k5.watched", "end 2 0 1 0 0 0"),
+        ("k6.watched", "end 1 7 1 5 0 3"),
+        ("k7.watched", "end 3 33 0 6 0 0"),
+    ] {
+        assert_eq!(printed(file).1, end, "{file}");
+    }
+}
+
+/// The commands of a job but those of handlers and the turns: declarations, wires, lists, first messages.
+fn frame(job: &[u8]) -> Vec<&[u8]> {
+    commands(job).into_iter().filter(|command| !matches!(command[0] / 16, 4 | 6)).collect()
+}
+
+#[test]
+fn an_attack_changes_the_handlers_and_the_turns_alone() {
+    for flow in FLOWS {
+        let [benign, malicious] = ["benign", "malicious"].map(|kind| read(&format!("{flow}-{kind}.job")));
+        assert_eq!(frame(&benign), frame(&malicious), "{flow}");
+    }
+}
+
+#[test]
+fn benign_flows_complete_and_run_alike() {
+    for flow in FLOWS {
+        let (entries, end) = printed(&format!("{flow}-benign.watched"));
+        assert_eq!(end, format!("end 0 {} 0 0 0 0", entries.len()), "{flow}");
+        assert_eq!(text(&format!("{flow}-benign.watched")), text(&format!("{flow}-benign.bare")), "{flow}");
+    }
+}
+
+#[test]
+fn malicious_flows_part_at_the_forbidden_turn() {
+    for flow in FLOWS {
+        let (monitored, end) = printed(&format!("{flow}-malicious.watched"));
+        let (bare, bare_end) = printed(&format!("{flow}-malicious.bare"));
+        let turns = monitored.len();
+        assert_eq!(monitored, bare[..turns], "{flow}");
+        assert_eq!(end, format!("end 1 {turns} {}", bare[turns]), "{flow}");
+        assert_eq!(bare_end, format!("end 0 {} 0 0 0 0", bare.len()), "{flow}");
+    }
+}
