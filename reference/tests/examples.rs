@@ -122,3 +122,30 @@ fn malicious_flows_part_at_the_forbidden_turn() {
         assert_eq!(bare_end, format!("end 0 {} 0 0 0 0", bare.len()), "{flow}");
     }
 }
+
+/// Whether words are an entry, or a line `end`, `node` or `var`, with its numbers.
+fn is_printed_line(words: &[&str]) -> bool {
+    let numbers = match words {
+        ["end" | "node" | "var", numbers @ ..] => numbers,
+        [_, _, _, _] => words,
+        _ => return false,
+    };
+    numbers.len() > 1 && numbers.iter().all(|word| word.parse::<u32>().is_ok())
+}
+
+/// The page quotes printed lines between backticks; each is a line of some stored file.
+#[test]
+fn lines_on_the_page_are_printed() {
+    let page = text("README.md");
+    let quoted = page.lines().flat_map(|line| line.split('`').skip(1).step_by(2));
+    let quoted: Vec<&str> =
+        quoted.filter(|quote| is_printed_line(&quote.split(' ').collect::<Vec<_>>())).collect();
+    assert!(quoted.len() > 60, "{} lines found", quoted.len());
+    let files =
+        names(".job").into_iter().flat_map(|name| [format!("{name}.watched"), format!("{name}.bare")]);
+    let stored: Vec<String> = files.map(|file| text(&file)).collect();
+    let printed: BTreeSet<&str> = stored.iter().flat_map(|text| text.lines()).collect();
+    for quote in quoted {
+        assert!(printed.contains(quote), "no file has the line {quote}");
+    }
+}
