@@ -1,0 +1,68 @@
+/* Running a job, monitored or not: the C functions of the static library librun.a.
+ *
+ * Document 01 says what a job is, what a run does and when a job is refused. "Monitored" is 01's "watched", "unmonitored" its "bare",
+ * "picture" its "end picture". Both functions are proved to do what the definitions of 01 say, for any bytes and any lengths. */
+#ifndef LEQSUMIR_H
+#define LEQSUMIR_H
+
+#include <stddef.h>
+#include <stdint.h>
+
+#ifdef __cplusplus
+extern "C" {
+#endif
+
+/* Lengths that are enough for every job. A trace needs only LEQSUMIR_ENTRY_BYTES for each TURN of its job. */
+#define LEQSUMIR_JOB_BYTES 16384     /* the longest job that is accepted */
+#define LEQSUMIR_ENTRY_BYTES 7       /* an entry: node 1 byte, kind 1, number 1, value 4, lowest first */
+#define LEQSUMIR_TRACE_BYTES 28672   /* 4,096 turns of 7 bytes */
+#define LEQSUMIR_PICTURE_BYTES 2624  /* asked of every job */
+#define LEQSUMIR_WORK_BYTES 16384    /* asked of every job */
+
+/* The numbers of the answer. All eight are always written. */
+enum {
+    LEQSUMIR_REFUSAL = 0, /* 0: the job ran; 1 to 12: why it was refused, in 01's numbers */
+    LEQSUMIR_PLACE = 1,   /* of a refusal: the offset of the offending command; the job's length for 10 to 12 */
+    LEQSUMIR_STOP = 2,    /* of a run: one of the stops below */
+    LEQSUMIR_TURNS = 3,   /* of a run: the completed turns, which are the entries of the trace */
+    LEQSUMIR_NODE = 4,    /* of a run: the attempted entry, from here to the value: zeros for stop 0, */
+    LEQSUMIR_KIND = 5,    /* node and zeros for stop 2, the entry not made for stops 1 and 3, */
+    LEQSUMIR_NUMBER = 6,  /* with value 0 for a read */
+    LEQSUMIR_VALUE = 7,
+    LEQSUMIR_ANSWER = 8   /* how many numbers there are */
+};
+
+/* Why a run stopped. */
+enum {
+    LEQSUMIR_TURNS_OUT = 0, /* every turn was completed */
+    LEQSUMIR_FORBIDDEN = 1, /* the lists do not permit the entry; monitored runs alone */
+    LEQSUMIR_NOT_READY = 2, /* the node is idle and no message waits */
+    LEQSUMIR_FULL = 3       /* a target of the send already holds 16 messages */
+};
+
+/* Runs a job and stops before the first turn whose entry its lists do not permit.
+ *
+ *   job, job_len          the job's bytes; only read
+ *   trace, trace_len      gets 7 bytes for each completed turn
+ *   picture, picture_len  gets the state that the run left: each node in order with position (1 byte, 255 idle), accumulator (4),
+ *                         message (4), waiting count (1), waiting messages, oldest first (4 each); then each variable (4)
+ *   work, work_len        room for the handlers; after a run its first 16,384 bytes are 0
+ *   answer                gets the eight numbers: for a refusal the last six are 0, for a run the first two
+ *
+ * Any bytes and any lengths are allowed, 0 included, and the buffers may hold anything before. A short buffer is a refusal (10 trace,
+ * 11 picture, 12 work). A refusal changes none of the three buffers. Bytes beyond those named stay unchanged.
+ *
+ * Of the caller: each pointer is to memory of its length, none is NULL (with length 0 it may point anywhere else), and the five do not
+ * overlap. No pointer is kept. */
+void leqsumir_run_monitored(const uint8_t *job, size_t job_len, uint8_t *trace, size_t trace_len, uint8_t *picture,
+                            size_t picture_len, uint8_t *work, size_t work_len, uint64_t answer[8]);
+
+/* The same without the lists: a run that ignores them, with the same refusals. */
+void leqsumir_run_unmonitored(const uint8_t *job, size_t job_len, uint8_t *trace, size_t trace_len, uint8_t *picture,
+                              size_t picture_len, uint8_t *work, size_t work_len, uint64_t answer[8]);
+
+#ifdef __cplusplus
+}
+#endif
+
+#endif
