@@ -1,0 +1,75 @@
+/* Reruns a job file through the proved static library, monitored and unmonitored, and says where the two part.
+ * At the repository's root:
+ *     rt staticlib run
+ *     gcc -O2 -Wall -Wextra -Iinclude -o target/rerun rerun/rerun.c target/staticlib/librun.a
+ *     target/rerun examples/k2.job */
+#include <inttypes.h>
+#include <stdio.h>
+#include <string.h>
+
+#include "leqsumir.h"
+
+typedef void run(const uint8_t *, size_t, uint8_t *, size_t, uint8_t *, size_t, uint8_t *, size_t, uint64_t *);
+
+/* What a run hands over. */
+struct rerun {
+    uint8_t trace[LEQSUMIR_TRACE_BYTES], picture[LEQSUMIR_PICTURE_BYTES], work[LEQSUMIR_WORK_BYTES];
+    uint64_t answer[LEQSUMIR_ANSWER];
+};
+
+static void rerun(run *run, const uint8_t *job, size_t length, struct rerun *to) {
+    run(job, length, to->trace, sizeof to->trace, to->picture, sizeof to->picture, to->work, sizeof to->work, to->answer);
+}
+
+static void print_answer(const char *name, const uint64_t *answer) {
+    if (answer[LEQSUMIR_REFUSAL] != 0) {
+        printf("%s: refused %" PRIu64 " %" PRIu64 "\n", name, answer[LEQSUMIR_REFUSAL], answer[LEQSUMIR_PLACE]);
+        return;
+    }
+    printf("%s: stop %" PRIu64 ", turns %" PRIu64 ", attempted %" PRIu64 " %" PRIu64 " %" PRIu64 " %" PRIu64 "\n", name,
+           answer[LEQSUMIR_STOP], answer[LEQSUMIR_TURNS], answer[LEQSUMIR_NODE], answer[LEQSUMIR_KIND], answer[LEQSUMIR_NUMBER],
+           answer[LEQSUMIR_VALUE]);
+}
+
+static const uint8_t *entry_at(const struct rerun *of, uint64_t turn) {
+    return of->trace + LEQSUMIR_ENTRY_BYTES * turn;
+}
+
+/* An entry as the printing program prints it: node, kind, number, value. */
+static void print_entry(const uint8_t *e) {
+    uint32_t value = e[3] | (uint32_t)e[4] << 8 | (uint32_t)e[5] << 16 | (uint32_t)e[6] << 24;
+    printf("%d %d %d %" PRIu32, e[0], e[1], e[2], value);
+}
+
+/* The first turn at which one run made an entry that the other did not make. */
+static void print_parting(const struct rerun *monitored, const struct rerun *unmonitored) {
+    uint64_t turn = 0;
+    while (turn < monitored->answer[LEQSUMIR_TURNS] && turn < unmonitored->answer[LEQSUMIR_TURNS] &&
+           memcmp(entry_at(monitored, turn), entry_at(unmonitored, turn), LEQSUMIR_ENTRY_BYTES) == 0)
+        turn++;
+    if (turn == unmonitored->answer[LEQSUMIR_TURNS]) {
+        printf("they do not part\n");
+        return;
+    }
+    printf("they part at turn %" PRIu64 ": unmonitored, the entry ", turn);
+    print_entry(entry_at(unmonitored, turn));
+    printf(" is made\n");
+}
+
+int main(int count, char **words) {
+    static uint8_t job[LEQSUMIR_JOB_BYTES + 1]; /* one byte more than the longest job is enough to refuse it */
+    static struct rerun monitored, unmonitored;
+    FILE *file = count == 2 ? fopen(words[1], "rb") : NULL;
+    if (file == NULL) {
+        fprintf(stderr, "usage: rerun JOB, a file that can be read\n");
+        return 2;
+    }
+    size_t length = fread(job, 1, sizeof job, file);
+    fclose(file);
+    rerun(leqsumir_run_monitored, job, length, &monitored);
+    rerun(leqsumir_run_unmonitored, job, length, &unmonitored);
+    print_answer("monitored", monitored.answer);
+    print_answer("unmonitored", unmonitored.answer);
+    print_parting(&monitored, &unmonitored);
+    return 0;
+}
