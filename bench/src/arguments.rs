@@ -1,19 +1,16 @@
-//! What both programs take: ENGINE MODE ROUNDS.
+//! What both programs take: ENGINE MODE SCHEDULE RUNS.
 
 use flow_reference::Mode;
 
-use crate::rounds::Engine;
+use crate::runs::{Bench, Engine, Schedule};
 
-/// Engine, mode and number of rounds.
-pub struct Arguments {
-    pub engine: Engine,
-    pub mode: Mode,
-    pub rounds: u32,
-}
+/// What the four words are.
+pub const WORDS: &str = "ENGINE: proved or reference; MODE: monitored or bare;
+SCHEDULE: turns (4,096 of them), stopped (as many, none of which is made) or none; RUNS: how often, above 0";
 
-/// Reads `proved` or `reference`, `monitored` or `bare`, and a number above 0.
-pub fn read(words: &[&str]) -> Option<Arguments> {
-    let [engine, mode, rounds] = words else { return None };
+/// Reads the words: what to run, and how often.
+pub fn read(words: &[&str]) -> Option<(Bench, u32)> {
+    let [engine, mode, schedule, runs] = words else { return None };
     let engine = match *engine {
         "proved" => Engine::Proved,
         "reference" => Engine::Reference,
@@ -24,6 +21,12 @@ pub fn read(words: &[&str]) -> Option<Arguments> {
         "bare" => Mode::Unmonitored,
         _ => return None,
     };
-    let rounds = rounds.parse().ok().filter(|&rounds| rounds > 0)?;
-    Some(Arguments { engine, mode, rounds })
+    let schedule = match *schedule {
+        "turns" => Schedule::Turns,
+        "stopped" => Schedule::Stopped,
+        "none" => Schedule::None,
+        _ => return None,
+    };
+    let runs = runs.parse().ok().filter(|&runs| runs > 0)?;
+    Some((Bench::new(engine, mode, schedule, 0), runs))
 }

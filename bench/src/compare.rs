@@ -1,46 +1,43 @@
-//! Whether both engines make the same of the script.
+//! Whether both implementations make the same of the script's job.
 
-use flow_reference::outcome::{stop, Answer, Outcome};
-use flow_reference::output::{ENTRY_BYTES, SNAPSHOT_BYTES, WORK_BYTES};
-use flow_reference::{run, Mode};
+use flow_reference::outcome::stop;
+use flow_reference::table::MAX_TURNS;
+use flow_reference::Mode;
 
-use crate::rounds::{Bench, Engine};
+use crate::runs::{Bench, Engine, Schedule};
 
-/// Turns between two lengths at which the sums are compared.
-const STEP: usize = 16;
+/// What the buffers hold before.
+const BYTE: u8 = 0xA5;
 
-/// Tests both modes; the error says what is wrong.
-pub fn compare(bench: &Bench) -> Result<(), String> {
+/// Compares answers and whole buffers in both modes; the error says what is wrong.
+pub fn compare() -> Result<(), String> {
     for mode in [Mode::Monitored, Mode::Unmonitored] {
-        if !completes(bench, mode) {
-            return Err(format!("{mode:?}: the run does not complete every turn"));
-        }
-        for engine in [Engine::Proved, Engine::Reference] {
-            has_sums(bench, engine, mode)?;
+        for schedule in [Schedule::Turns, Schedule::Stopped, Schedule::None] {
+            agree(mode, schedule).map_err(|what| format!("{mode:?} {schedule:?}: {what}"))?;
         }
     }
     Ok(())
 }
 
-/// Whether the whole run of the job completes every turn.
-fn completes(bench: &Bench, mode: Mode) -> bool {
-    let turns = bench.turns();
-    let (mut trace, mut snapshot) = (vec![0; ENTRY_BYTES * turns], vec![0; SNAPSHOT_BYTES]);
-    let outcome = run(&bench.script.job, mode, &mut trace, &mut snapshot, &mut [0; WORK_BYTES]);
-    matches!(outcome, Outcome::Ran(Answer { stop: stop::TURNS_OUT, turns: made, .. }) if made == turns)
+/// Stop and completed turns of a run, and the attempted node.
+fn expected(schedule: Schedule) -> [u64; 8] {
+    let (stop, turns, node) = match schedule {
+        Schedule::Turns => (stop::TURNS_OUT, MAX_TURNS, 0),
+        Schedule::Stopped => (stop::NOT_READY, 0, 1),
+        Schedule::None => (stop::TURNS_OUT, 0, 0),
+    };
+    [0, 0, stop.into(), turns as u64, node, 0, 0, 0]
 }
 
-/// An engine has the sum of the script's entries at every 16th turn, and at the last.
-fn has_sums(bench: &Bench, engine: Engine, mode: Mode) -> Result<(), String> {
-    for count in (0..=bench.turns()).step_by(STEP) {
-        let entries = &bench.script.entries[..count];
-        let sum = entries.iter().fold(0, |sum: u32, entry| sum.wrapping_add(entry.value));
-        let made = bench.first(engine, mode, count);
-        if made != sum {
-            return Err(format!(
-                "{engine:?} {mode:?}: the first {count} turns have the sum {made}, not {sum}"
-            ));
-        }
+fn agree(mode: Mode, schedule: Schedule) -> Result<(), String> {
+    let [mut proved, mut reference] =
+        [Engine::Proved, Engine::Reference].map(|engine| Bench::new(engine, mode, schedule, BYTE));
+    let answers = [proved.run(), reference.run()];
+    if answers != [expected(schedule); 2] {
+        return Err(format!("the answers are {answers:?}"));
+    }
+    if proved.buffers != reference.buffers {
+        return Err("the buffers differ".to_string());
     }
     Ok(())
 }

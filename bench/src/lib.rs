@@ -1,13 +1,10 @@
-//! One script, run by the proved engine and by the second implementation.
-//!
-//! The proved engine takes the state of a run by value and hands it back with each turn; the second
-//! implementation changes it in place.
+//! Whole runs of one job, by the proved run and by the second implementation.
 
 pub mod arguments;
+pub mod buffers;
 pub mod compare;
 pub mod job;
 pub mod proved;
-pub mod random;
 pub mod reference;
-pub mod rounds;
+pub mod runs;
 pub mod script;

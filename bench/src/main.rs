@@ -1,29 +1,25 @@
-//! Runs the script by one of the engines, takes the time, compares the engines, or tells what the script is.
+//! Runs the script's job, takes the time, compares both implementations, or tells what the script is.
 
 use std::process::ExitCode;
 
-use flow_bench::arguments::{self, Arguments};
+use flow_bench::arguments;
 use flow_bench::compare::compare;
-use flow_bench::random;
-use flow_bench::rounds::Bench;
 use flow_bench::script::Script;
 
-const USAGE: &str =
-    "usage: bench ENGINE MODE ROUNDS | bench time ENGINE MODE ROUNDS | bench compare | bench mix | bench random SEED COUNT
-ENGINE: proved or reference; MODE: monitored or bare";
+const USAGE: &str = "usage: bench ENGINE MODE SCHEDULE RUNS | bench time ENGINE MODE SCHEDULE RUNS | bench compare | bench mix";
 
-/// The sum of the rounds' sums.
-fn print_sum(arguments: &Arguments) {
-    let Arguments { engine, mode, rounds } = *arguments;
-    println!("{}", Bench::new().rounds(engine, mode, rounds));
+/// The completed turns of all runs.
+fn print_turns(words: &[&str]) -> Option<()> {
+    let (mut bench, runs) = arguments::read(words)?;
+    println!("{}", bench.runs(runs));
+    Some(())
 }
 
-/// Nanoseconds a turn in the quickest round.
-fn print_time(arguments: &Arguments) {
-    let Arguments { engine, mode, rounds } = *arguments;
-    let bench = Bench::new();
-    let time = bench.quickest(engine, mode, rounds).as_nanos() as f64;
-    println!("{:.1}", time / bench.turns() as f64);
+/// Nanoseconds of the quickest run.
+fn print_time(words: &[&str]) -> Option<()> {
+    let (mut bench, runs) = arguments::read(words)?;
+    println!("{}", bench.quickest(runs).as_nanos());
+    Some(())
 }
 
 /// How many turns, and how many entries of each kind.
@@ -38,9 +34,9 @@ fn print_mix() {
 }
 
 fn print_comparison() -> ExitCode {
-    match compare(&Bench::new()) {
+    match compare() {
         Ok(()) => {
-            println!("both engines have the same sums, monitored and bare");
+            println!("both have the same answers and buffers, monitored and bare");
             ExitCode::SUCCESS
         }
         Err(difference) => {
@@ -50,26 +46,13 @@ fn print_comparison() -> ExitCode {
     }
 }
 
-/// Compares the engines on generated jobs.
-fn print_random(seed: &str, count: &str) -> Option<ExitCode> {
-    match random::compare(seed.parse().ok()?, count.parse().ok()?) {
-        Ok(turns) => println!("{count} jobs, {turns} turns, monitored and bare: no difference"),
-        Err(difference) => {
-            println!("{difference}");
-            return Some(ExitCode::FAILURE);
-        }
-    }
-    Some(ExitCode::SUCCESS)
-}
-
 /// Does what the words ask for; none if they ask for nothing.
 fn execute(words: &[&str]) -> Option<ExitCode> {
     match words {
         ["compare"] => return Some(print_comparison()),
         ["mix"] => print_mix(),
-        ["random", seed, count] => return print_random(seed, count),
-        ["time", words @ ..] => print_time(&arguments::read(words)?),
-        _ => print_sum(&arguments::read(words)?),
+        ["time", words @ ..] => print_time(words)?,
+        _ => print_turns(words)?,
     }
     Some(ExitCode::SUCCESS)
 }
@@ -78,7 +61,7 @@ fn main() -> ExitCode {
     let words: Vec<String> = std::env::args().skip(1).collect();
     let words: Vec<&str> = words.iter().map(String::as_str).collect();
     execute(&words).unwrap_or_else(|| {
-        eprintln!("{USAGE}");
+        eprintln!("{USAGE}\n{}", arguments::WORDS);
         ExitCode::from(2)
     })
 }

@@ -1,71 +1,55 @@
-//! The proved engine, behind the C functions of its static library.
+//! The proved run, behind the C functions of its static library (`include/leqsumir.h`).
 
-use flow_reference::output::WORK_BYTES;
 use flow_reference::Mode;
 
-/// Cells of the tables that hold what a job declares.
-const TABLE_CELLS: usize = 15_936;
+use crate::buffers::Buffers;
 
 extern "C" {
-    /// Decodes the job into the tables and loads its handlers into the work buffer; false if the job is
-    /// refused or the buffer too short. The tables are 15,936 cells, whatever they hold before.
-    fn leqsumir_bench_prepare(
+    fn leqsumir_run_monitored(
         job: *const u8,
         job_len: usize,
-        tables: *mut u32,
+        trace: *mut u8,
+        trace_len: usize,
+        picture: *mut u8,
+        picture_len: usize,
         work: *mut u8,
         work_len: usize,
-    ) -> bool;
-
-    /// Runs the turns of these nodes from the start of the program in tables and work buffer, until a stop
-    /// or the last; the sum modulo 2^32 of the values of the entries made.
-    fn leqsumir_bench_turns(
-        tables: *const u32,
-        tables_len: usize,
-        work: *const u8,
+        answer: *mut u64,
+    );
+    fn leqsumir_run_unmonitored(
+        job: *const u8,
+        job_len: usize,
+        trace: *mut u8,
+        trace_len: usize,
+        picture: *mut u8,
+        picture_len: usize,
+        work: *mut u8,
         work_len: usize,
-        nodes: *const u8,
-        nodes_len: usize,
-        monitored: bool,
-    ) -> u32;
+        answer: *mut u64,
+    );
 }
 
-/// A job that the proved decoder accepted.
-pub struct Prepared {
-    tables: Vec<u32>,
-    work: Vec<u8>,
-}
-
-impl Prepared {
-    /// Decodes a job; none if it is refused.
-    pub fn new(job: &[u8]) -> Option<Prepared> {
-        let (mut tables, mut work) = (vec![0; TABLE_CELLS], vec![0; WORK_BYTES]);
-        // SAFETY: job and work buffer are passed with their lengths, the tables have their 15,936 cells.
-        let accepted = unsafe {
-            leqsumir_bench_prepare(
-                job.as_ptr(),
-                job.len(),
-                tables.as_mut_ptr(),
-                work.as_mut_ptr(),
-                work.len(),
-            )
-        };
-        accepted.then_some(Prepared { tables, work })
+/// Runs a job; the eight numbers of the answer.
+pub fn run(job: &[u8], mode: Mode, buffers: &mut Buffers) -> [u64; 8] {
+    let run = match mode {
+        Mode::Monitored => leqsumir_run_monitored,
+        Mode::Unmonitored => leqsumir_run_unmonitored,
+    };
+    let Buffers { trace, snapshot, work } = buffers;
+    let mut answer = [0; 8];
+    // SAFETY: job and buffers are passed with their lengths and do not overlap; the answer has eight numbers.
+    unsafe {
+        run(
+            job.as_ptr(),
+            job.len(),
+            trace.as_mut_ptr(),
+            trace.len(),
+            snapshot.as_mut_ptr(),
+            snapshot.len(),
+            work.as_mut_ptr(),
+            work.len(),
+            answer.as_mut_ptr(),
+        );
     }
-
-    /// Runs the turns of these nodes from the start; the sum of the entries' values.
-    pub fn turns(&self, nodes: &[u8], mode: Mode) -> u32 {
-        // SAFETY: all three are passed with their lengths, and are only read.
-        unsafe {
-            leqsumir_bench_turns(
-                self.tables.as_ptr(),
-                self.tables.len(),
-                self.work.as_ptr(),
-                self.work.len(),
-                nodes.as_ptr(),
-                nodes.len(),
-                mode == Mode::Monitored,
-            )
-        }
-    }
+    answer
 }

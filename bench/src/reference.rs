@@ -1,16 +1,24 @@
-//! The second implementation, turn by turn in place.
+//! The second implementation, its answer in the eight numbers of the proved run.
 
-use flow_reference::engine::turn;
-use flow_reference::{Mode, Program, State};
+use flow_reference::{Answer, Mode, Outcome, Refusal};
 
-/// Runs the turns of these nodes from the start, until a stop or the last; the sum of the entries' values.
+use crate::buffers::Buffers;
+
+/// Runs a job; the eight numbers of the answer.
 #[inline(never)]
-pub fn turns(program: &Program, nodes: &[u8], mode: Mode) -> u32 {
-    let mut state = State::new(program);
-    let mut sum: u32 = 0;
-    for &node in nodes {
-        let Ok(entry) = turn(program, &mut state, node, mode) else { break };
-        sum = sum.wrapping_add(entry.value);
+pub fn run(job: &[u8], mode: Mode, buffers: &mut Buffers) -> [u64; 8] {
+    let Buffers { trace, snapshot, work } = buffers;
+    match flow_reference::run(job, mode, trace, snapshot, work) {
+        Outcome::Refused(Refusal { number, place }) => [number.into(), place as u64, 0, 0, 0, 0, 0, 0],
+        Outcome::Ran(Answer { stop, turns, attempted }) => [
+            0,
+            0,
+            stop.into(),
+            turns as u64,
+            attempted.node.into(),
+            attempted.kind.into(),
+            attempted.number.into(),
+            attempted.value.into(),
+        ],
     }
-    sum
 }

@@ -1,5 +1,5 @@
-//! Runs rounds of the script and prints the calls of memcpy and memmove a turn, and the bytes that they
-//! copied a turn.
+//! Runs the script's job and prints the calls of memcpy and memmove a run, and the bytes that they copied a
+//! run.
 //!
 //! The linker turns every call of the two, in the static library, the second implementation and the
 //! standard library alike, into a call of the counting functions below (see `build.rs`). Copies that the
@@ -11,7 +11,6 @@ use std::process::ExitCode;
 use std::sync::atomic::{AtomicU64, Ordering::Relaxed};
 
 use flow_bench::arguments;
-use flow_bench::rounds::Bench;
 
 static CALLS: AtomicU64 = AtomicU64::new(0);
 static BYTES: AtomicU64 = AtomicU64::new(0);
@@ -66,20 +65,17 @@ fn is_counting() -> bool {
 fn main() -> ExitCode {
     let words: Vec<String> = std::env::args().skip(1).collect();
     let words: Vec<&str> = words.iter().map(String::as_str).collect();
-    let Some(arguments) = arguments::read(&words) else {
-        eprintln!("usage: copies ENGINE MODE ROUNDS\nENGINE: proved or reference; MODE: monitored or bare");
+    let Some((mut bench, runs)) = arguments::read(&words) else {
+        eprintln!("usage: copies ENGINE MODE SCHEDULE RUNS\n{}", arguments::WORDS);
         return ExitCode::from(2);
     };
     if !is_counting() {
         eprintln!("copies: calls of memcpy are not counted");
         return ExitCode::FAILURE;
     }
-    let bench = Bench::new();
     let before = counted();
-    black_box(bench.rounds(arguments.engine, arguments.mode, arguments.rounds));
+    black_box(bench.runs(runs));
     let after = counted();
-    let turns = bench.turns() as f64 * f64::from(arguments.rounds);
-    let (calls, bytes) = (after.0 - before.0, after.1 - before.1);
-    println!("{:.2} {:.1}", calls as f64 / turns, bytes as f64 / turns);
+    println!("{} {}", (after.0 - before.0) / u64::from(runs), (after.1 - before.1) / u64::from(runs));
     ExitCode::SUCCESS
 }

@@ -1,0 +1,91 @@
+//! Whole runs of the script's job, by either implementation.
+
+use std::hint::black_box;
+use std::time::{Duration, Instant};
+
+use flow_reference::Mode;
+
+use crate::buffers::Buffers;
+use crate::script::Script;
+use crate::{job, proved, reference};
+
+/// Which implementation runs.
+#[derive(Clone, Copy, Debug, PartialEq, Eq)]
+pub enum Engine {
+    Proved,
+    Reference,
+}
+
+/// Which job is run.
+#[derive(Clone, Copy, Debug, PartialEq, Eq)]
+pub enum Schedule {
+    /// All 4,096 turns, each of which completes.
+    Turns,
+    /// As many TURN commands, the first of them for a node that is not ready: all are decoded, none is made.
+    Stopped,
+    /// The job without its TURN commands.
+    None,
+}
+
+/// A page of memory.
+#[repr(align(4096))]
+struct Page([u8; 4096]);
+
+/// Calls with a stack that lies at the same place of a page every time: how many instructions memcpy takes
+/// depends on the place, and the environment's size would shift it.
+#[inline(never)]
+fn on_new_page<T>(work: impl FnOnce() -> T) -> T {
+    let page = Page([0; 4096]);
+    black_box(&page.0);
+    let result = work();
+    black_box(&page.0);
+    result
+}
+
+/// One run, again and again, in the same buffers.
+pub struct Bench {
+    engine: Engine,
+    mode: Mode,
+    job: Vec<u8>,
+    pub buffers: Box<Buffers>,
+}
+
+impl Bench {
+    /// The buffers hold this byte everywhere before the first run.
+    pub fn new(engine: Engine, mode: Mode, schedule: Schedule, byte: u8) -> Bench {
+        let mut job = match schedule {
+            Schedule::None => job::without_turns(),
+            Schedule::Turns | Schedule::Stopped => Script::new().job,
+        };
+        if schedule == Schedule::Stopped {
+            // Node 1 has no message at the start.
+            job[job::without_turns().len() + 1] = 1;
+        }
+        Bench { engine, mode, job, buffers: Buffers::filled(byte) }
+    }
+
+    /// Runs once; the answer.
+    pub fn run(&mut self) -> [u64; 8] {
+        // The compiler may not take a run's result from the run before.
+        let job = black_box(&self.job);
+        match self.engine {
+            Engine::Proved => proved::run(job, self.mode, &mut self.buffers),
+            Engine::Reference => reference::run(job, self.mode, &mut self.buffers),
+        }
+    }
+
+    /// Runs so many times; the completed turns of all runs.
+    pub fn runs(&mut self, count: u32) -> u64 {
+        on_new_page(|| (0..count).map(|_| self.run()[3]).sum())
+    }
+
+    /// The time of the quickest of so many runs.
+    pub fn quickest(&mut self, count: u32) -> Duration {
+        let mut timed = || {
+            let start = Instant::now();
+            black_box(self.run());
+            start.elapsed()
+        };
+        on_new_page(|| (0..count).map(|_| timed()).min().unwrap_or_default())
+    }
+}
