@@ -7,10 +7,9 @@ use flow_reference::{decode, Mode, Program, State};
 
 use crate::job;
 
-/// The job's bytes, the decoded job (its `turns` are the schedule) and the entries of its run.
+/// The job's bytes and the entries of its run.
 pub struct Script {
     pub job: Vec<u8>,
-    pub program: Program,
     pub entries: Vec<Entry>,
 }
 
@@ -27,9 +26,7 @@ impl Script {
             entries.push(entry);
         }
         let nodes: Vec<u8> = entries.iter().map(|entry| entry.node).collect();
-        let job = job::with_turns(&nodes);
-        let program = decode(&job).expect("a valid job");
-        Script { job, program, entries }
+        Script { job: job::with_turns(&nodes), entries }
     }
 
     /// How many entries there are of each kind, 0 to 6.
