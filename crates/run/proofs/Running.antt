@@ -20,7 +20,7 @@ use Rattle.model.specs.Result.{written}
 use Rattle.model.proofs.Bounds.{length-trace}
 use Rattle.model.proofs.Positions.{Placed, initial-placed, turn-placed, monitored-placed, program-jumps}
 use Rattle.model.proofs.Runs.{trace-snoc, entries-snoc, behind, behind-none, behind-completed, behind-stopped, behind-ended}
-use Rattle.model.proofs.Valid.{job-valid}
+use Rattle.model.proofs.Valid.{job-valid, limits}
 use Rattle.model.proofs.Ways.{Keeps}
 use Rattle.tables.specs.Tables.{countIn}
 use Rattle.job.specs.Program.{turnIn, Prepared}
@@ -56,6 +56,14 @@ pub record Underway (monitored : Bool) (past : List Command) (before : List ℕ)
   pub size : length trace ≡ length before
   pub bounded : Bounded (s .waiting)
   pub placed : Placed (programOf past) (view s)
+
+-- what the loop keeps: while it goes on, the run behind k turns; when it is left, the run that is over
+pub record Reached (monitored : Bool) (past : List Command) (before : List ℕ) (turns : ℕ) (trace : List ℕ) (s : State) (ending : Ending) (last at k : ℕ) : Type 0 where
+  pub size : length trace ≡ length before
+  pub all : k < last → last ≡ turns
+  pub allMade : k < last → answerOf ending ≡ answerBy turns (stopped 0 (entry 0 0 0 0))
+  pub going : k < last → Underway monitored past before s trace at k
+  pub ended : last ≤ k → RunsAs (runOf monitored past) before trace (record { state = s; ending = ending })
 
 -- as many entries as steps
 length-entries : (steps : List Step) → length (entriesOf steps) ≡ length steps
@@ -116,6 +124,9 @@ module _ (monitored : Bool) (job t w : List ℕ) (ready : Ready job t w) where
   -- a turn may be asked for
   pub node-inside : (k : ℕ) → k < countIn t TURN → turnIn job t k < 32
   node-inside k h = meets .nodes k (omega (arith, prepares .turns))
+
+  pub turns-few : countIn t TURN ≤ 4096
+  turns-few = omega (arith, ready .stands .counts TURN (omega arith), limits past (valid .commands) .turns)
 
   -- the run is over
   over :
@@ -192,12 +203,27 @@ module _ (monitored : Bool) (job t w : List ℕ) (ready : Ready job t w) where
         (u .same ∙ behind-stopped rule (turnsOf past) (u .done) k (view s) (h .stop) (h .attempted) inside (ap (rule (view s)) (sym named) ∙ e))
         (comes .leaves ∙ ap (stateAfter (view s)) e) (turns .bounded) (told (view (turned .state)) ∙ ap (answerBy k) (h .same))
 
-  -- behind the last turn
-  pub underway-out :
-      (before : List ℕ) (s : State) (trace : List ℕ) (at k : ℕ) (u : Underway monitored past before s trace at k) → countIn t TURN ≤ k
-      → (x : Ending) → answerOf x ≡ answerBy k (stopped 0 (entry 0 0 0 0))
-      → RunsAs (runOf monitored past) before trace (record { state = s; ending = x })
-  underway-out before s trace at k u last x told =
-      over u (record { state = s; ending = x }) 0 (entry 0 0 0 0)
-      (u .same ∙ behind-ended rule (turnsOf past) (u .done) k (view s) (omega (arith, prepares .turns)))
-      refl (u .bounded) told
+  -- behind the last turn the run is over
+  pub reached :
+      (before : List ℕ) (s : State) (trace : List ℕ) (at k turns last : ℕ) → last ≡ turns → turns ≡ countIn t TURN → k ≤ turns → Underway monitored past before s trace at k
+      → (x : Ending) → answerOf x ≡ answerBy turns (stopped 0 (entry 0 0 0 0))
+      → Reached monitored past before turns trace s x last at k
+  reached before s trace at k turns last same counted inside u x told =
+      record {
+        size = u .size;
+        all = λ h. same;
+        allMade = λ h. told;
+        going = λ h. u;
+        ended = λ h.
+          let e : turns ≡ k = omega arith in
+          over u (record { state = s; ending = x }) 0 (entry 0 0 0 0)
+          (u .same ∙ behind-ended rule (turnsOf past) (u .done) k (view s) (omega (arith, prepares .turns)))
+          refl (u .bounded) (rw e at told);
+      }
+
+-- the run is over at a stop
+pub halted :
+    (monitored : Bool) (past : List Command) (before : List ℕ) (turns : ℕ) (trace : List ℕ) (s : State) (x : Ending) (at k : ℕ) → length trace ≡ length before
+    → RunsAs (runOf monitored past) before trace (record { state = s; ending = x }) → Reached monitored past before turns trace s x k at k
+halted monitored past before turns trace s x at k size r =
+    record { size = size; all = λ h. absurd (omega (arith, h)); allMade = λ h. absurd (omega (arith, h)); going = λ h. absurd (omega (arith, h)); ended = λ h. r }

@@ -34,24 +34,25 @@ pub fn run_turns(job: &[u8], t: &[u32], work: &[u8], trace: &mut [u8], monitored
 {
     let turns = count_of(t, bytes::TURN);
     let mut s = start(t);
+    let mut ending = without_entry(0, turns, 0);
+    let mut last = turns;
     let mut at: usize = 0;
     let mut k: u32 = 0;
-    while k < turns {
+    while k < last {
         let n = turn_at(job, t, k);
         let turned = s.turn(t, work, n, monitored);
         s = turned.state;
         let outcome = turned.outcome;
-        let Outcome::Made(entry) = outcome else {
-            return Ran {
-                state: s,
-                ending: ending_by(outcome, k),
-            };
-        };
-        at = put_entry(trace, at, numbers_of(entry));
-        k += 1;
+        if let Outcome::Made(entry) = outcome {
+            at = put_entry(trace, at, numbers_of(entry));
+            k += 1;
+        } else {
+            ending = ending_by(outcome, k);
+            last = k;
+        }
     }
     Ran {
         state: s,
-        ending: without_entry(0, k, 0),
+        ending: ending,
     }
 }
