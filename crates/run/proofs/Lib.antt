@@ -2,3 +2,4 @@ pub mod Judging
 pub mod Narrow
 pub mod Running
 pub mod Delivering
+pub mod Beside
