@@ -6,6 +6,7 @@ use mathlib.Core.List.{List}
 use lib.ListN.{take, replicate}
 use Rattle.model.specs.Command.{Command}
 use Rattle.model.specs.Program.{programOf}
+use Rattle.model.specs.Turn.{Entry}
 use Rattle.model.specs.Permission.{redacted}
 use Rattle.model.specs.Run.{Run, entriesOf, entryAt, stateAt}
 use Rattle.model.specs.Output.{Answer as Meant, answerIn, traceBytes, traceIn, snapshotBytes}
@@ -21,6 +22,10 @@ pub record Call : Type 0 where
   pub before : Buffers
   pub after : Buffers
   pub answered : Answer
+
+-- the call with these
+abbrev pub call : Buffers → Buffers → Answer → Call
+call before after x = record { before = before; after = after; answered = x }
 
 -- the call tells this answer; these bytes of trace and snapshot, and 16,384 zero bytes, stand at the front of its buffers, and nothing behind them has changed
 pub record Shows (x : Meant) (entries state : List ℕ) (c : Call) : Type 0 where
@@ -48,6 +53,8 @@ pub record BothShow (past : List Command) (m u : Call) : Type 0 where
   pub identical : AllPermitted (programOf past) (unmonitoredOf past) → ShowsRun past (unmonitoredOf past) m
   -- if it has one, the monitored call shows the unmonitored run stopped there
   pub stops : (n : ℕ) → FirstForbidden (programOf past) (unmonitoredOf past) n → ShowsStopped past (unmonitoredOf past) n m
+  -- the two part at turn n exactly if the monitored call answers stop 1 and n turns
+  pub parts : (n : ℕ) → FirstForbidden (programOf past) (unmonitoredOf past) n ↔ ((e : Entry) × (toldBy (m .answered) ≡ answer (record { stop = 1; turns = n; attempted = e })))
 
 -- a refusal: told by the call, and no buffer changed
 pub record Rejects (r : Refusal) (c : Call) : Type 0 where
@@ -69,6 +76,12 @@ Monitored job c = Delivers (monitored job (sizesOf (c .before))) (c .before) (c 
 
 abbrev pub Unmonitored : List ℕ → Call → Type 0
 Unmonitored job c = Delivers (unmonitored job (sizesOf (c .before))) (c .before) (c .after) (c .answered)
+
+-- what a function promises that makes both calls: each is as its entry point promises, and with buffers of equal lengths they stand beside each other so
+pub record Compares (job : List ℕ) (m u : Call) : Type 0 where
+  pub monitored : Monitored job m
+  pub unmonitored : Unmonitored job u
+  pub beside : sizesOf (m .before) ≡ sizesOf (u .before) → Beside job m u
 
 -- demand 3 of the code: every job, any two calls of the two entry points, with buffers of equal lengths, whatever they held before
 abbrev pub BesideHolds : Type 0

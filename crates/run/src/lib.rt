@@ -1,5 +1,6 @@
 // The run of a job, monitored (01's "watched") or unmonitored ("bare"). Every byte string and all buffers are taken.
 pub mod answer;
+pub mod both;
 mod exports;
 mod turns;
 mod verdict;

@@ -1,0 +1,63 @@
+use denote.Ref.{now}
+use Rattle.run.specs.Answers.{buffers}
+use Rattle.run.specs.Beside.{call}
+use Rattle.run.proofs.Beside.{compares}
+use borrow.Author.Needs.{needs}
+use Rattle.run.proofs.both.run_both.Statement.{statement}
+use Rattle.run.proofs.both.run_both.Tie as tie
+use Rattle.run.proofs.both.run_both.Reads as reads
+use Rattle.run.proofs.both.run_both.Lts as lts
+use Rattle.run.proofs.run_monitored.Reads as run-monitored-reads
+use Rattle.run.proofs.run_unmonitored.Reads as run-unmonitored-reads
+
+-- src/both.rt:26:9
+run-monitored-requires : tie.Need-run-monitored-requires
+run-monitored-requires c κs = search needs
+
+-- src/both.rt:27:9
+run-unmonitored-requires : tie.Need-run-unmonitored-requires
+run-unmonitored-requires c κs = search needs
+
+-- src/both.rt:15:1
+same-length : tie.Need-same-length
+same-length c = search needs
+
+-- src/both.rt:15:1
+same-length-2 : tie.Need-same-length-2
+same-length-2 c = search needs
+
+-- src/both.rt:15:1
+same-length-3 : tie.Need-same-length-3
+same-length-3 c = search needs
+
+-- src/both.rt:15:1
+same-length-4 : tie.Need-same-length-4
+same-length-4 c = search needs
+
+-- src/both.rt:15:1
+same-length-5 : tie.Need-same-length-5
+same-length-5 c = search needs
+
+-- src/both.rt:15:1
+same-length-6 : tie.Need-same-length-6
+same-length-6 c = search needs
+
+-- src/both.rt:15:1
+returns : tie.Need-returns
+returns c =
+    let a = c .before .before .before .before .before .before .before .before .before .before .before .before .before .before .before .before .before .before .before .before .before .before .before .before .before .before .before .args in
+    compares (now (a .job)) (call (buffers (now (a .trace)) (now (a .picture)) (now (a .work))) (buffers _ _ _) _) (call (buffers (now (a .bare-trace)) (now (a .bare-picture)) (now (a .bare-work))) (buffers _ _ _) _) (c .before .before .before .before .before .before .before .before .before .before .before .before .before .before .before .before .run-monitored .ensures) (c .before .before .before .before .before .before .run-unmonitored .ensures)
+
+pub run-both-spec : {M : Type 1} → statement M
+run-both-spec =
+    tie.close
+    (tie.spec
+    run-monitored-requires
+    run-unmonitored-requires
+    same-length
+    same-length-2
+    same-length-3
+    same-length-4
+    same-length-5
+    same-length-6
+    returns)
