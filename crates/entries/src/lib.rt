@@ -1,10 +1,9 @@
 // Trace entries: what a handler command leaves, whether the lists permit it, and what a stop shows of it.
 ghost use mathlib.Core.Path.{_≡_};
 ghost use mathlib.Core.Bool.{cond};
-ghost use Prim.Native.Nat.{ℕ};
 ghost use lib.ListN.{getD};
 ghost use Rattle.tables.specs.Tables.{sharedIn};
-ghost use Rattle.entries.specs.Entries.{entryFor, LeavesEvent, Judges, Redacts};
+ghost use Rattle.entries.specs.Entries.{LeavesEvent, Judges, Redacts};
 use allowlists::may_call;
 use allowlists::may_read;
 use allowlists::may_write;
@@ -104,20 +103,5 @@ pub fn redact(event: Event) -> Event
         Event::Read(x, 0)
     } else {
         event
-    }
-}
-
-// The value of an event's entry.
-pub fn value_of(event: Event) -> u32
-    ensures { λ r. ⌜ ((n : ℕ) → r ≡ entryFor n event .value) ⌝ }
-{
-    match event {
-        Event::Other => 0,
-        Event::Begin(message) => message,
-        Event::Finish => 0,
-        Event::Read(_, value) => value,
-        Event::Write(_, value) => value,
-        Event::Call(_, argument) => argument,
-        Event::Send(_, value) => value,
     }
 }

@@ -1,7 +1,7 @@
 -- The bytes of an entry.
 use Prim.Native.Nat.{ℕ, _%_, _<_}
 use mathlib.Core.Path.{_≡_}
-use mathlib.Core.List.{List, _∷_}
+use mathlib.Core.List.{_∷_}
 use native.Mathlib.Omega.{arith}
 use Rattle.model.specs.Turn.{Entry}
 use Rattle.model.specs.Output.{bytes4, entryBytes}

@@ -1,22 +1,22 @@
 -- The bytes of the snapshot, part by part.
 use Prim.Native.Nat.{ℕ, zero, suc, _+_, _*_, _≤_, _<_}
 use mathlib.Core.Path.{_≡_, refl, sym, ap, _∙_}
-use mathlib.Core.List.{List, [], _∷_, _++_}
-use native.Mathlib.Omega.{arith}
+use mathlib.Core.List.{List, _++_}
 use native.Mathlib.Numerals.{add-one}
-use lib.ListN.{length, getD, take, drop, length-append, length-drop}
+use native.Mathlib.Omega.{arith}
+use lib.ListN.{length, getD, take, drop, length-drop}
 use lib.Seq.{length-take-le}
 use Rattle.model.specs.State.{variableAt}
 use Rattle.model.specs.Output.{bytes4, numbersBytes, nodeBytes, nodesBytes, variablesBytes}
-use Rattle.model.proofs.Bounds.{length-numbers, length-variables, nodes-next, variables-next}
-use Rattle.writing.specs.Writing.{Writes}
-use Rattle.writing.proofs.Placing.{writes-on, writes-nothing}
-use Rattle.writing.proofs.Words.{numbers-next}
+use Rattle.model.proofs.Bounds.{length-numbers, length-variables, nodes-next}
 use Rattle.queues.specs.Queues.{Bounded}
 use Rattle.queues.proofs.Queues.{queue-at, count-at}
 use Rattle.effects.specs.declared.Registers.{Registers}
 use Rattle.engine.specs.declared.State.{State}
 use Rattle.engine.specs.Engine.{view}
+use Rattle.writing.specs.Writing.{Writes}
+use Rattle.writing.proofs.Placing.{writes-on, writes-nothing}
+use Rattle.writing.proofs.Words.{numbers-next}
 use Rattle.output.specs.Output.{partBytes, shownBytes}
 
 -- how long the waiting messages are

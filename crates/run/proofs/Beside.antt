@@ -9,7 +9,7 @@ use Rattle.model.specs.Turn.{Entry}
 use Rattle.model.specs.Run.{Run}
 use Rattle.model.specs.Output.{Answer as Meant}
 use Rattle.model.specs.Refusal.{Refusal, Sizes}
-use Rattle.model.specs.Result.{Result, refused, ran, report, monitored, unmonitored, Buffers, sizesOf}
+use Rattle.model.specs.Result.{Result, refused, ran, report, monitored, unmonitored, sizesOf}
 use Rattle.model.specs.Conclusion.{Refuses, Accepts, Filled, Leaves, unmonitoredOf}
 use Rattle.model.specs.Transparency.{AllPermitted, FirstForbidden}
 use Rattle.model.proofs.Conclusion.{demand1}

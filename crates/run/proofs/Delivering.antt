@@ -9,7 +9,6 @@ use lib.ListN.{length, getD, drop, replicate, length-drop, length-replicate}
 use lib.Seq.{ext-getD, getD-drop}
 use Rattle.model.specs.Table.{NODE, VAR, TURN}
 use Rattle.model.specs.Command.{Command}
-use Rattle.model.specs.Declared.{countOf}
 use Rattle.model.specs.Program.{programOf}
 use Rattle.model.specs.State.{State}
 use Rattle.model.specs.Run.{monitoredRun, unmonitoredRun}
@@ -21,19 +20,20 @@ use Rattle.model.proofs.Results.{buffers-fit}
 use Rattle.model.proofs.Valid.{job-valid, limits}
 use Rattle.command.specs.declared.read.Refusal.{Refusal as Refused}
 use Rattle.command.specs.Reading.{refusalOf}
-use Rattle.tables.specs.Tables.{countIn}
 use Rattle.handlers.specs.Loading.{loaded, commandsOf, IsAccepted}
 use Rattle.handlers.proofs.Slots.{length-loaded, beyond-loaded}
+use Rattle.tables.specs.Tables.{countIn}
 use Rattle.engine.specs.Engine.{view}
 use Rattle.writing.specs.Writing.{Writes}
 use Rattle.writing.proofs.Placing.{placed-front}
 use Rattle.output.specs.Output.{shownBytes}
-use Rattle.run.specs.declared.answer.Ending.{Ending}
-use Rattle.run.specs.declared.turns.Ran.{Ran}
-use Rattle.run.specs.declared.answer.Answer.the-variants as a
+use Rattle.turns.specs.declared.ending.Ending.{Ending}
+use Rattle.turns.specs.declared.Ran.{Ran}
+use Rattle.turns.specs.Runs.{runOf, Ready, RunsAs}
 use Rattle.run.specs.declared.answer.Answer.{Answer}
+use Rattle.run.specs.declared.answer.Answer.the-variants as a
+use Rattle.run.specs.Accepted.{Fitting, Hands}
 use Rattle.run.specs.Answers.{answer, toldBy, numbersIn, resultFor, buffers, Delivers, Exports}
-use Rattle.run.specs.Runs.{runOf, Ready, RunsAs, Fitting, Hands}
 
 -- accepted behind a further test: accepted before it, and the test finds nothing
 and-then-accepted : (test : List Command → Option Refusal) (d : Decoded) (past : List Command) → andThen test d ≡ accepted past → (d ≡ accepted past) × (test past ≡ none)

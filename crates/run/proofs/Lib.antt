@@ -1,5 +1,2 @@
-pub mod Judging
-pub mod Narrow
-pub mod Running
 pub mod Delivering
 pub mod Beside

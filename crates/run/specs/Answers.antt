@@ -3,24 +3,13 @@ use Prim.Native.Nat.{ℕ}
 use mathlib.Core.Path.{_≡_}
 use mathlib.Core.Bool.{Bool, true, false}
 use mathlib.Core.List.{List, [], _∷_}
-use Rattle.model.specs.Turn.{entry, Turned, completed, stopped}
 use Rattle.model.specs.Output.{Answer as Meant}
 use Rattle.model.specs.Refusal.{Refusal, Sizes}
 use Rattle.model.specs.Result.{Result, refused, ran, monitored, unmonitored, Buffers, traceAfter, snapshotAfter, workAfter}
 use Rattle.command.specs.Reading.{refusalOf}
-use Rattle.output.specs.Output.{entryOf}
-use Rattle.run.specs.declared.answer.Ending.{Ending}
+use Rattle.turns.specs.Endings.{answerOf}
 use Rattle.run.specs.declared.answer.Answer.{Answer}
 use Rattle.run.specs.declared.answer.Answer.the-variants as a
-
--- stop, completed turns and attempted entry
-abbrev pub answerOf : Ending → Meant
-answerOf x = record { stop = x .stop; turns = x .turns; attempted = entryOf (x .attempted) }
-
--- the answer of a run whose next turn, behind so many completed ones, comes to this
-abbrev pub answerBy : ℕ → Turned → Meant
-answerBy turns (completed e s) = record { stop = 0; turns = turns; attempted = entry 0 0 0 0 }
-answerBy turns (stopped k e) = record { stop = k; turns = turns; attempted = e }
 
 -- what is told: number and place of a refusal, or stop, completed turns and attempted entry
 pub data Told : Type 0 where

@@ -1,8 +1,8 @@
 -- Demand 3 of the code: what the monitored ("watched") and the unmonitored ("bare") call hand back and leave in their buffers, beside each other ("Watched beside bare").
 use Prim.Native.Nat.{ℕ}
 use mathlib.Core.Path.{_≡_}
-use mathlib.Core.Logic.{_↔_, _⊎_}
 use mathlib.Core.List.{List}
+use mathlib.Core.Logic.{_↔_, _⊎_}
 use lib.ListN.{take, replicate}
 use Rattle.model.specs.Command.{Command}
 use Rattle.model.specs.Program.{programOf}
@@ -15,7 +15,7 @@ use Rattle.model.specs.Result.{monitored, unmonitored, Buffers, sizesOf}
 use Rattle.model.specs.Conclusion.{Refuses, Accepts, Filled, unmonitoredOf}
 use Rattle.model.specs.Transparency.{AllPermitted, FirstForbidden}
 use Rattle.run.specs.declared.answer.Answer.{Answer}
-use Rattle.run.specs.Answers.{Told, refusal, answer, toldBy, Delivers}
+use Rattle.run.specs.Answers.{refusal, answer, toldBy, Delivers}
 
 -- a call with three buffers: what they held before, what they hold afterwards, and the answer
 pub record Call : Type 0 where

@@ -1,59 +1,9 @@
 // What a run answers.
-ghost use mathlib.Core.Path.{_≡_};
-ghost use Rattle.model.specs.State.{State};
-ghost use Rattle.model.specs.Turn.{entry, stopped};
-ghost use Rattle.entries.specs.Entries.{turnedBy};
-ghost use Rattle.run.specs.Answers.{answerOf, answerBy};
 use command::read::Refusal;
-use entries::Outcome;
-use output::numbers::Numbers;
-use output::numbers::numbers_of;
-
-// How a run ended: the stop, the completed turns, the attempted entry.
-pub struct Ending {
-    pub stop: u32,
-    pub turns: u32,
-    pub attempted: Numbers,
-}
+use turns::ending::Ending;
 
 // The answer to a job: its refusal, or how its run ended.
 pub enum Answer {
     Refused(Refusal),
     Ended(Ending),
-}
-
-// The ending with a stop, and no entry attempted but the node's.
-pub fn without_entry(stop: u32, turns: u32, node: u32) -> Ending
-    ensures { λ r. ⌜ answerOf r ≡ answerBy turns (stopped stop (entry node 0 0 0)) ⌝ }
-{
-    Ending {
-        stop: stop,
-        turns: turns,
-        attempted: Numbers {
-            node: node,
-            kind: 0,
-            number: 0,
-            value: 0,
-        },
-    }
-}
-
-// How a run ends whose turn came to this, behind so many turns. One that made its entry was the last.
-pub fn ending_by(outcome: Outcome, turns: u32) -> Ending
-    ensures { λ r. ⌜ ((after : State) → answerOf r ≡ answerBy turns (turnedBy outcome after)) ⌝ }
-{
-    match outcome {
-        Outcome::Made(_) => without_entry(0, turns, 0),
-        Outcome::Forbidden(entry) => Ending {
-            stop: 1,
-            turns: turns,
-            attempted: numbers_of(entry),
-        },
-        Outcome::Unready(n) => without_entry(2, turns, n.0),
-        Outcome::Full(entry) => Ending {
-            stop: 3,
-            turns: turns,
-            attempted: numbers_of(entry),
-        },
-    }
 }

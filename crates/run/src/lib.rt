@@ -2,23 +2,21 @@
 pub mod answer;
 pub mod both;
 mod exports;
-mod turns;
-mod verdict;
 
 ghost use Rattle.model.specs.Result.{monitored, unmonitored, sizesOf};
 ghost use Rattle.run.specs.Answers.{buffers, resultFor, Delivers};
-ghost use Rattle.run.specs.Runs.{Fitting, Hands};
+ghost use Rattle.run.specs.Accepted.{Fitting, Hands};
 use answer::Answer;
-use answer::Ending;
 use command::bytes;
 use declared::count_of;
 use handlers::load::load;
 use job::Verdict;
 use output::snapshot::put_snapshot;
 use tables::cells::CELLS;
+use turns::ending::Ending;
 use turns::run_turns;
-use verdict::WORK;
-use verdict::judge;
+use verdicts::WORK;
+use verdicts::judge;
 use writing::put_zeros;
 
 // The run of an accepted job: how it ended; its trace and its snapshot (01's "picture") at the front of their buffers, zeros at that of the work buffer.

@@ -1,14 +1,14 @@
 -- Numbers of 4 bytes, one behind the other.
 use Prim.Native.Nat.{ℕ, _+_, _*_, _≤_, _<_}
-use mathlib.Core.Path.{_≡_, refl, sym, ap, _∙_}
-use mathlib.Core.List.{List, [], _∷_, _++_, append-assoc}
-use native.Mathlib.Omega.{arith}
+use mathlib.Core.Path.{_≡_, refl, ap, _∙_}
+use mathlib.Core.List.{List, [], _∷_, _++_}
 use native.Mathlib.Numerals.{add-one}
+use native.Mathlib.Omega.{arith}
 use lib.ListN.{length, getD, take, drop, length-drop}
 use lib.Seq.{take-suc, length-take-le, getD-drop}
 use Rattle.model.specs.Output.{bytes4, numbersBytes}
 use Rattle.model.proofs.Bounds.{length-numbers}
-use Rattle.writing.specs.Writing.{placed, Writes}
+use Rattle.writing.specs.Writing.{Writes}
 use Rattle.writing.proofs.Placing.{writes-on, writes-nothing}
 
 -- one number more at the end

@@ -1,52 +1,40 @@
+-- `run::run` meets its contract.
 use denote.Ref.{now}
+use borrow.Author.Needs.{needs}
 use Rattle.job.proofs.Judged.{is-accepted, is-refused}
 use Rattle.run.specs.Answers.{buffers}
 use Rattle.run.proofs.Delivering.{delivers-refused, delivers-ran}
-use borrow.Author.Needs.{needs}
 use Rattle.run.proofs.run.Statement.{statement}
 use Rattle.run.proofs.run.Tie as tie
-use Rattle.run.proofs.run.Reads as reads
-use Rattle.run.proofs.run.Lts as lts
-use Rattle.run.proofs.run_accepted.Reads as run-accepted-reads
-use Rattle.run.proofs.verdict.judge.Reads as judge-reads
 
--- src/lib.rt:60:9
 judge-requires : tie.Need-judge-requires
 judge-requires c κs = search needs
 
--- src/lib.rt:62:26
 enum-known-verdict : tie.Need-enum-known-verdict
 enum-known-verdict c = search needs
 
--- src/lib.rt:64:44
 enum-told : tie.Need-enum-told
 enum-told c = search needs
 
--- src/lib.rt:64:17
 run-accepted-requires : tie.Need-run-accepted-requires
 run-accepted-requires c κs =
     let a = is-accepted _ _ _ (c .before .before .before .before .before .before .judge .ensures) (c .before .before .before .before .enum-told .given .1) in
     record { past = a .past; decoded = a .decoded; stands = a .stands }
 
--- src/lib.rt:50:1
 returns : tie.Need-returns
 returns c =
     let z = c .before .before .before .before .before .before .before .before .before .args in
     delivers-refused (z .monitored) (now (z .job)) (buffers (now (z .trace)) (now (z .picture)) (now (z .work))) _ (is-refused _ _ _ _ (c .before .before .before .judge .ensures) (c .before .verdict .given .1))
 
--- src/lib.rt:50:1
 same-length : tie.Need-same-length
 same-length c = search needs
 
--- src/lib.rt:50:1
 same-length-2 : tie.Need-same-length-2
 same-length-2 c = search needs
 
--- src/lib.rt:50:1
 same-length-3 : tie.Need-same-length-3
 same-length-3 c = search needs
 
--- src/lib.rt:50:1
 returns-2 : tie.Need-returns-2
 returns-2 c =
     let z = c .before .before .before .before .before .before .before .before .before .before .before .before .before .before .before .before .before .before .before .args in

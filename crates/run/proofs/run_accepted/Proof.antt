@@ -1,70 +1,50 @@
-use mathlib.Core.Path.{refl}
+-- `run::run_accepted` meets its contract.
 use native.Mathlib.Omega.{arith}
 use denote.Ref.{now}
-use Rattle.model.specs.Result.{sizesOf}
+use borrow.Author.Needs.{needs}
 use Rattle.run.specs.Answers.{buffers}
 use Rattle.run.proofs.Delivering.{job-decoded, may-load, trace-fits, snapshot-fits, work-fits, nodes-fit, variables-fit, is-ready, hands-over}
-use borrow.Author.Needs.{needs}
 use Rattle.run.proofs.run_accepted.Statement.{statement}
 use Rattle.run.proofs.run_accepted.Tie as tie
-use Rattle.run.proofs.run_accepted.Reads as reads
-use Rattle.run.proofs.run_accepted.Lts as lts
-use Rattle.declared.proofs.count_of.Reads as count-of-reads
-use Rattle.handlers.proofs.load.load.Reads as load-reads
-use Rattle.output.proofs.snapshot.put_snapshot.Reads as put-snapshot-reads
-use Rattle.run.proofs.turns.run_turns.Reads as run-turns-reads
-use Rattle.writing.proofs.put_zeros.Reads as put-zeros-reads
 
--- src/lib.rt:38:5
 load-requires : tie.Need-load-requires
 load-requires c κs = may-load _ _ _ (c .before .before .before .before .before .pre)
 
--- src/lib.rt:39:9
 run-turns-requires : tie.Need-run-turns-requires
 run-turns-requires c κs =
     let z = c .before .before .before .before .before .before .before .before .before .before .before in
     (is-ready _ _ _ (z .pre) (λ i. omega (arith, c .before .before .before .before .before .before .before .before .before .before .shared-slice-known .given i)) (now (z .args .work)) _ (work-fits _ _ _ (z .pre)) (c .before .before .before .before .before .load .ensures), trace-fits _ _ _ (z .pre))
 
--- src/lib.rt:42:17
 count-of-requires : tie.Need-count-of-requires
 count-of-requires c κs = search needs
 
--- src/lib.rt:42:17
 cast-nodes : tie.Need-cast-nodes
 cast-nodes c = search needs
 
--- src/lib.rt:43:21
 count-of-requires-2 : tie.Need-count-of-requires-2
 count-of-requires-2 c κs = search needs
 
--- src/lib.rt:43:21
 cast-variables : tie.Need-cast-variables
 cast-variables c = search needs
 
--- src/lib.rt:44:5
 put-snapshot-requires : tie.Need-put-snapshot-requires
 put-snapshot-requires c κs =
     let f = c .before .before .before .before .before .before .before .before .before .before .before .before .before .before .before .before .before .before .before .before .before .pre in
     let r = c .before .before .before .before .before .before .before .before .before .run-turns .ensures (f .past) (job-decoded _ _ _ f) in
     ((snapshot-fits _ _ _ f, omega (arith, nodes-fit _ _ _ f, c .before .before .before .count-of .ensures), omega (arith, variables-fit _ _ _ f, c .before .count-of2 .ensures)), (r .bounded, r .positions))
 
--- src/lib.rt:45:5
 put-zeros-requires : tie.Need-put-zeros-requires
 put-zeros-requires c κs = omega (arith, work-fits _ _ _ (c .before .before .before .before .before .before .before .before .before .before .before .before .before .before .before .before .before .before .before .before .before .before .before .before .before .pre))
 
--- src/lib.rt:27:1
 same-length : tie.Need-same-length
 same-length c = search needs
 
--- src/lib.rt:27:1
 same-length-2 : tie.Need-same-length-2
 same-length-2 c = search needs
 
--- src/lib.rt:27:1
 same-length-3 : tie.Need-same-length-3
 same-length-3 c = search needs
 
--- src/lib.rt:27:1
 returns : tie.Need-returns
 returns c =
     let z = c .before .before .before .before .before .before .before .before .before .before .before .before .before .before .before .before .before .before .before .before .before .before .before .before .before .before .before .before in

@@ -1,50 +1,37 @@
+-- `writing::put_word` meets its contract.
 use native.Mathlib.Omega.{arith}
-use mathlib.Core.List.{[], _∷_}
-use Rattle.writing.proofs.Placing.{writes-on}
 use borrow.Author.Needs.{needs}
+use Rattle.writing.proofs.Placing.{writes-on}
 use Rattle.writing.proofs.put_word.Statement.{statement}
 use Rattle.writing.proofs.put_word.Tie as tie
-use Rattle.writing.proofs.put_word.Reads as reads
-use Rattle.writing.proofs.put_word.Lts as lts
-use Rattle.writing.proofs.put_byte.Reads as put-byte-reads
 
--- src/lib.rt:22:39
 cast-put-byte : tie.Need-cast-put-byte
 cast-put-byte c = search needs
 
--- src/lib.rt:22:9
 put-byte-requires : tie.Need-put-byte-requires
 put-byte-requires c κs = search needs
 
--- src/lib.rt:23:42
 cast-put-byte-2 : tie.Need-cast-put-byte-2
 cast-put-byte-2 c = search needs
 
--- src/lib.rt:23:9
 put-byte-requires-2 : tie.Need-put-byte-requires-2
 put-byte-requires-2 c κs = search needs
 
--- src/lib.rt:24:42
 cast-put-byte-3 : tie.Need-cast-put-byte-3
 cast-put-byte-3 c = search needs
 
--- src/lib.rt:24:9
 put-byte-requires-3 : tie.Need-put-byte-requires-3
 put-byte-requires-3 c κs = search needs
 
--- src/lib.rt:25:30
 cast-put-byte-4 : tie.Need-cast-put-byte-4
 cast-put-byte-4 c = search needs
 
--- src/lib.rt:25:5
 put-byte-requires-4 : tie.Need-put-byte-requires-4
 put-byte-requires-4 c κs = search needs
 
--- src/lib.rt:18:1
 same-length : tie.Need-same-length
 same-length c = search needs
 
--- src/lib.rt:18:1
 returns : tie.Need-returns
 returns c =
     let h = c .before .before .before .before .before .before .before .before .before .before .before .before .before .before .before .before .before .pre in

@@ -1,13 +1,11 @@
-use mathlib.Core.Path.{_≡_}
+-- `writing::put_words` meets its contract.
 use Prim.Native.Nat.{_-_, _≤_}
-use borrow.Author.Needs.{needs}
+use mathlib.Core.Path.{_≡_}
 use native.Mathlib.Omega.{arith}
+use borrow.Author.Needs.{needs}
 use Rattle.writing.proofs.Words.{Written, none-written, one-written}
 use Rattle.writing.proofs.put_words.Statement.{statement}
 use Rattle.writing.proofs.put_words.Tie as tie
-use Rattle.writing.proofs.put_words.Reads as reads
-use Rattle.writing.proofs.put_words.Lts as lts
-use Rattle.writing.proofs.put_word.Reads as put-word-reads
 
 abbrev Inv-loop : tie.InvT-loop
 Inv-loop buffer₀ at values first count next₀ i₀ buffer next i = (i ≤ count) × Written values first buffer₀ at i buffer next
@@ -15,46 +13,36 @@ Inv-loop buffer₀ at values first count next₀ i₀ buffer next i = (i ≤ cou
 abbrev μ-loop : tie.MeasureT-loop
 μ-loop buffer₀ at values first count next₀ i₀ buffer next i = count - i
 
--- src/lib.rt:35:5
 loop-holds : tie.Need-loop-holds Inv-loop μ-loop
 loop-holds c = (omega arith, none-written _ _ _ _)
 
--- src/lib.rt:36:46
 add-put-word : tie.Need-add-put-word Inv-loop μ-loop
 add-put-word c = search needs
 
--- src/lib.rt:36:39
 mul-put-word : tie.Need-mul-put-word Inv-loop μ-loop
 mul-put-word c = search needs
 
--- src/lib.rt:36:39
 shared-slice-read-put-word : tie.Need-shared-slice-read-put-word Inv-loop μ-loop
 shared-slice-read-put-word c = search needs
 
--- src/lib.rt:36:9
 put-word-requires : tie.Need-put-word-requires Inv-loop μ-loop
 put-word-requires c κs = search needs
 
--- src/lib.rt:37:9
 add-i : tie.Need-add-i Inv-loop μ-loop
 add-i c = search needs
 
--- src/lib.rt:35:5
 loop-less : tie.Need-loop-less Inv-loop μ-loop
 loop-less c = search needs
 
--- src/lib.rt:35:5
 loop-again : tie.Need-loop-again Inv-loop μ-loop
 loop-again c =
     let l = c .before .before .before .before .before .before .loop in
     let h = c .before .before .before .before .before .before .before .before .before .pre in
     (omega (arith, c .before .before .before .before .before .loop-test .taken), one-written _ _ _ _ (l .i) (l .buffer) (l .next) _ _ (omega (arith, c .before .before .before .before .before .loop-test .taken, h .1)) (omega (arith, c .before .before .before .before .before .loop-test .taken, h .0)) (search needs) (l .inv .1) (c .before .before .put-word .ensures))
 
--- src/lib.rt:29:1
 same-length : tie.Need-same-length Inv-loop μ-loop
 same-length c = search needs
 
--- src/lib.rt:29:1
 returns : tie.Need-returns Inv-loop μ-loop
 returns c =
     let l = c .before .loop in

@@ -1,16 +1,14 @@
-use denote.Ref.{now}
+-- `writing::put_zeros` meets its contract.
 use Prim.Native.Nat.{ℕ, _-_, _≤_}
 use mathlib.Core.Path.{_≡_, refl, subst}
 use native.Mathlib.Omega.{arith}
-use borrow.Author.Needs.{needs}
+use denote.Ref.{now}
 use lib.ListN.{length, replicate}
+use borrow.Author.Needs.{needs}
 use Rattle.writing.specs.Writing.{Writes}
 use Rattle.writing.proofs.Placing.{writes-nothing, zeros-on}
 use Rattle.writing.proofs.put_zeros.Statement.{statement}
 use Rattle.writing.proofs.put_zeros.Tie as tie
-use Rattle.writing.proofs.put_zeros.Reads as reads
-use Rattle.writing.proofs.put_zeros.Lts as lts
-use Rattle.writing.proofs.put_byte.Reads as put-byte-reads
 
 abbrev Inv-loop : tie.InvT-loop
 Inv-loop buffer₀ count at₀ buffer at = (at ≤ count) × (length buffer ≡ length buffer₀) × Writes (replicate at 0) buffer₀ 0 buffer at
@@ -18,29 +16,23 @@ Inv-loop buffer₀ count at₀ buffer at = (at ≤ count) × (length buffer ≡ 
 abbrev μ-loop : tie.MeasureT-loop
 μ-loop buffer₀ count at₀ buffer at = count - at
 
--- src/lib.rt:48:5
 loop-holds : tie.Need-loop-holds Inv-loop μ-loop
 loop-holds c = (omega arith, refl, writes-nothing _ 0)
 
--- src/lib.rt:49:9
 put-byte-requires : tie.Need-put-byte-requires Inv-loop μ-loop
 put-byte-requires c κs = search needs
 
--- src/lib.rt:48:5
 loop-less : tie.Need-loop-less Inv-loop μ-loop
 loop-less c = omega (arith, c .before .before .put-byte .ensures .place, c .before .before .before .before .loop-test .taken)
 
--- src/lib.rt:48:5
 loop-again : tie.Need-loop-again Inv-loop μ-loop
 loop-again c =
     let l = c .before .before .before .before .before .loop in
     (omega (arith, c .before .before .put-byte .ensures .place, c .before .before .before .before .loop-test .taken), search needs, zeros-on _ (l .at) (l .buffer) _ _ (omega (arith, c .before .before .before .before .loop-test .taken, c .before .before .before .before .before .before .before .pre)) (l .inv .2) (c .before .before .put-byte .ensures))
 
--- src/lib.rt:43:1
 same-length : tie.Need-same-length Inv-loop μ-loop
 same-length c = search needs
 
--- src/lib.rt:43:1
 returns : tie.Need-returns Inv-loop μ-loop
 returns c =
     let l = c .before .loop in

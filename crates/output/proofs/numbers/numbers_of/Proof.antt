@@ -1,62 +1,47 @@
+-- `output::numbers::numbers_of` meets its contract.
 use borrow.Author.Needs.{needs}
 use Rattle.output.proofs.numbers.numbers_of.Statement.{statement}
 use Rattle.output.proofs.numbers.numbers_of.Tie as tie
-use Rattle.output.proofs.numbers.numbers_of.Reads as reads
-use Rattle.output.proofs.numbers.numbers_of.Lts as lts
 
--- src/numbers.rt:24:25
 enum-told : tie.Need-enum-told
 enum-told c = search needs
 
--- src/numbers.rt:25:22
 enum-known-event : tie.Need-enum-known-event
 enum-known-event c = search needs
 
--- src/numbers.rt:26:26
 enum-told-2 : tie.Need-enum-told-2
 enum-told-2 c = search needs
 
--- src/numbers.rt:27:21
 enum-known-event-2 : tie.Need-enum-known-event-2
 enum-known-event-2 c = search needs
 
--- src/numbers.rt:28:22
 enum-known-event-3 : tie.Need-enum-known-event-3
 enum-known-event-3 c = search needs
 
--- src/numbers.rt:29:21
 enum-known-event-4 : tie.Need-enum-known-event-4
 enum-known-event-4 c = search needs
 
--- src/numbers.rt:30:21
 enum-known-event-5 : tie.Need-enum-known-event-5
 enum-known-event-5 c = search needs
 
--- src/numbers.rt:17:1
 returns : tie.Need-returns
 returns c = rw (c .enum-told .given .1)
 
--- src/numbers.rt:17:1
 returns-2 : tie.Need-returns-2
 returns-2 c = rw (c .before .event .given .1)
 
--- src/numbers.rt:17:1
 returns-3 : tie.Need-returns-3
 returns-3 c = rw (c .enum-told2 .given .1)
 
--- src/numbers.rt:17:1
 returns-4 : tie.Need-returns-4
 returns-4 c = rw (c .before .event2 .given .1)
 
--- src/numbers.rt:17:1
 returns-5 : tie.Need-returns-5
 returns-5 c = rw (c .before .event3 .given .1)
 
--- src/numbers.rt:17:1
 returns-6 : tie.Need-returns-6
 returns-6 c = rw (c .before .event4 .given .1)
 
--- src/numbers.rt:17:1
 returns-7 : tie.Need-returns-7
 returns-7 c = rw (c .before .event5 .given .1)
 

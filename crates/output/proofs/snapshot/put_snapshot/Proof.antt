@@ -1,15 +1,12 @@
+-- `output::snapshot::put_snapshot` meets its contract.
 use Prim.Native.Nat.{_-_, _≤_}
 use mathlib.Core.Path.{_≡_}
 use native.Mathlib.Omega.{arith}
-use borrow.Author.Needs.{needs}
 use lib.ListN.{length}
+use borrow.Author.Needs.{needs}
 use Rattle.output.proofs.Parts.{Shown, none-shown, one-shown, all-shown}
 use Rattle.output.proofs.snapshot.put_snapshot.Statement.{statement}
 use Rattle.output.proofs.snapshot.put_snapshot.Tie as tie
-use Rattle.output.proofs.snapshot.put_snapshot.Reads as reads
-use Rattle.output.proofs.snapshot.put_snapshot.Lts as lts
-use Rattle.output.proofs.snapshot.put_node.Reads as put-node-reads
-use Rattle.writing.proofs.put_words.Reads as put-words-reads
 
 abbrev Inv-loop : tie.InvT-loop
 Inv-loop picture₀ nodes variables s at₀ n₀ picture at n = (n ≤ nodes) × Shown s picture₀ n picture at
@@ -17,43 +14,33 @@ Inv-loop picture₀ nodes variables s at₀ n₀ picture at n = (n ≤ nodes) ×
 abbrev μ-loop : tie.MeasureT-loop
 μ-loop picture₀ nodes variables s at₀ n₀ picture at n = nodes - n
 
--- src/snapshot.rt:37:5
 loop-holds : tie.Need-loop-holds Inv-loop μ-loop
 loop-holds c = (omega arith, none-shown _ _)
 
--- src/snapshot.rt:38:24
 mul-position : tie.Need-mul-position Inv-loop μ-loop
 mul-position c = search needs
 
--- src/snapshot.rt:38:24
 element-copy-out-position : tie.Need-element-copy-out-position Inv-loop μ-loop
 element-copy-out-position c = search needs
 
--- src/snapshot.rt:39:27
 mul-accumulator : tie.Need-mul-accumulator Inv-loop μ-loop
 mul-accumulator c = search needs
 
--- src/snapshot.rt:39:27
 element-copy-out-accumulator : tie.Need-element-copy-out-accumulator Inv-loop μ-loop
 element-copy-out-accumulator c = search needs
 
--- src/snapshot.rt:40:23
 mul-message : tie.Need-mul-message Inv-loop μ-loop
 mul-message c = search needs
 
--- src/snapshot.rt:40:23
 element-copy-out-message : tie.Need-element-copy-out-message Inv-loop μ-loop
 element-copy-out-message c = search needs
 
--- src/snapshot.rt:41:23
 element-copy-out-waiting : tie.Need-element-copy-out-waiting Inv-loop μ-loop
 element-copy-out-waiting c = search needs
 
--- src/snapshot.rt:47:66
 mul-put-node : tie.Need-mul-put-node Inv-loop μ-loop
 mul-put-node c = search needs
 
--- src/snapshot.rt:47:9
 put-node-requires : tie.Need-put-node-requires Inv-loop μ-loop
 put-node-requires c κs =
     let z = c .before .before .before .before .before .before .before .before .before .before .before in
@@ -62,15 +49,12 @@ put-node-requires c κs =
     let slots : length (z .args .t2 .queue) ≡ 512 = search needs in
     ((omega (arith, l .inv .1 .place, l .inv .1 .size, c .before .before .before .before .before .before .before .before .loop-test .taken, h .0, h .1), z .pre .1 .1 (l .n)), (z .pre .1 .0 (l .n), omega (arith, c .before .before .before .before .before .before .before .before .loop-test .taken, h .1, slots)))
 
--- src/snapshot.rt:48:9
 add-n : tie.Need-add-n Inv-loop μ-loop
 add-n c = search needs
 
--- src/snapshot.rt:37:5
 loop-less : tie.Need-loop-less Inv-loop μ-loop
 loop-less c = search needs
 
--- src/snapshot.rt:37:5
 loop-again : tie.Need-loop-again Inv-loop μ-loop
 loop-again c =
     let z = c .before .before .before .before .before .before .before .before .before .before .before .before .before .before in
@@ -81,7 +65,6 @@ loop-again c =
     let slots : length (s .queue) ≡ 512 = search needs in
     (omega (arith, c .before .before .before .before .before .before .before .before .before .before .before .loop-test .taken), one-shown s (z .pre .1 .0) counts slots _ (l .n) (l .picture) (l .at) _ _ (omega (arith, c .before .before .before .before .before .before .before .before .before .before .before .loop-test .taken, h .1)) (omega (arith, c .before .before .before .before .before .before .before .before .before .before .before .loop-test .taken, h .0, h .1)) (search needs) (l .inv .1) (c .before .before .put-node .ensures))
 
--- src/snapshot.rt:50:5
 put-words-requires : tie.Need-put-words-requires Inv-loop μ-loop
 put-words-requires c κs =
     let z = c .before .before .before .before .before .before .before in
@@ -89,11 +72,9 @@ put-words-requires c κs =
     let variables : length (z .args .t2 .variable) ≡ 64 = search needs in
     (omega (arith, l .inv .1 .place, l .inv .1 .size, l .inv .0, z .pre .0 .0, z .pre .0 .1, z .pre .0 .2), omega (arith, z .pre .0 .2, variables))
 
--- src/snapshot.rt:29:1
 same-length : tie.Need-same-length Inv-loop μ-loop
 same-length c = search needs
 
--- src/snapshot.rt:29:1
 returns : tie.Need-returns Inv-loop μ-loop
 returns c =
     let z = c .before .before .before .before .before .before .before .before .before .before in

@@ -1,48 +1,36 @@
+-- `run::both::run_both` meets its contract.
 use denote.Ref.{now}
+use borrow.Author.Needs.{needs}
 use Rattle.run.specs.Answers.{buffers}
 use Rattle.run.specs.Beside.{call}
 use Rattle.run.proofs.Beside.{compares}
-use borrow.Author.Needs.{needs}
 use Rattle.run.proofs.both.run_both.Statement.{statement}
 use Rattle.run.proofs.both.run_both.Tie as tie
-use Rattle.run.proofs.both.run_both.Reads as reads
-use Rattle.run.proofs.both.run_both.Lts as lts
-use Rattle.run.proofs.run_monitored.Reads as run-monitored-reads
-use Rattle.run.proofs.run_unmonitored.Reads as run-unmonitored-reads
 
--- src/both.rt:26:9
 run-monitored-requires : tie.Need-run-monitored-requires
 run-monitored-requires c κs = search needs
 
--- src/both.rt:27:9
 run-unmonitored-requires : tie.Need-run-unmonitored-requires
 run-unmonitored-requires c κs = search needs
 
--- src/both.rt:15:1
 same-length : tie.Need-same-length
 same-length c = search needs
 
--- src/both.rt:15:1
 same-length-2 : tie.Need-same-length-2
 same-length-2 c = search needs
 
--- src/both.rt:15:1
 same-length-3 : tie.Need-same-length-3
 same-length-3 c = search needs
 
--- src/both.rt:15:1
 same-length-4 : tie.Need-same-length-4
 same-length-4 c = search needs
 
--- src/both.rt:15:1
 same-length-5 : tie.Need-same-length-5
 same-length-5 c = search needs
 
--- src/both.rt:15:1
 same-length-6 : tie.Need-same-length-6
 same-length-6 c = search needs
 
--- src/both.rt:15:1
 returns : tie.Need-returns
 returns c =
     let a = c .before .before .before .before .before .before .before .before .before .before .before .before .before .before .before .before .before .before .before .before .before .before .before .before .before .before .before .args in

@@ -1,50 +1,38 @@
+-- `run::exports::numbers_in` meets its contract.
 use borrow.Author.Needs.{needs}
 use Rattle.run.proofs.exports.numbers_in.Statement.{statement}
 use Rattle.run.proofs.exports.numbers_in.Tie as tie
-use Rattle.run.proofs.exports.numbers_in.Reads as reads
-use Rattle.run.proofs.exports.numbers_in.Lts as lts
 
--- src/exports.rt:14:25
 enum-known-answer : tie.Need-enum-known-answer
 enum-known-answer c = search needs
 
--- src/exports.rt:14:32
 cast-t6 : tie.Need-cast-t6
 cast-t6 c = search needs
 
--- src/exports.rt:15:23
 enum-known-answer-2 : tie.Need-enum-known-answer-2
 enum-known-answer-2 c = search needs
 
--- src/exports.rt:17:20
 cast-t8 : tie.Need-cast-t8
 cast-t8 c = search needs
 
--- src/exports.rt:17:35
 cast-t9 : tie.Need-cast-t9
 cast-t9 c = search needs
 
--- src/exports.rt:17:51
 cast-t10 : tie.Need-cast-t10
 cast-t10 c = search needs
 
--- src/exports.rt:17:66
 cast-t11 : tie.Need-cast-t11
 cast-t11 c = search needs
 
--- src/exports.rt:17:81
 cast-t12 : tie.Need-cast-t12
 cast-t12 c = search needs
 
--- src/exports.rt:17:98
 cast-t13 : tie.Need-cast-t13
 cast-t13 c = search needs
 
--- src/exports.rt:10:1
 returns : tie.Need-returns
 returns c = rw (c .before .before .answer .given .1)
 
--- src/exports.rt:10:1
 returns-2 : tie.Need-returns-2
 returns-2 c = rw (c .before .before .before .before .before .before .before .before .answer2 .given .1)
 

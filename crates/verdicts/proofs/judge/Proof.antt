@@ -1,43 +1,32 @@
-use denote.Ref.{now}
+-- `verdicts::judge` meets its contract.
 use mathlib.Core.Path.{refl, sym, _∙_}
 use native.Mathlib.Omega.{arith}
+use denote.Ref.{now}
+use borrow.Author.Needs.{needs}
 use Rattle.model.specs.Table.{TURN}
 use Rattle.job.proofs.Judged.{is-accepted, is-refused}
-use Rattle.run.proofs.Judging.{refused-before, buffers-decide}
-use borrow.Author.Needs.{needs}
-use Rattle.run.proofs.verdict.judge.Statement.{statement}
-use Rattle.run.proofs.verdict.judge.Tie as tie
-use Rattle.run.proofs.verdict.judge.Reads as reads
-use Rattle.run.proofs.verdict.judge.Lts as lts
-use Rattle.declared.proofs.count_of.Reads as count-of-reads
-use Rattle.job.proofs.decode.Reads as decode-reads
-use Rattle.run.proofs.verdict.check_buffers.Reads as check-buffers-reads
+use Rattle.verdicts.proofs.Judging.{refused-before, buffers-decide}
+use Rattle.verdicts.proofs.judge.Statement.{statement}
+use Rattle.verdicts.proofs.judge.Tie as tie
 
--- src/verdict.rt:42:9
 decode-requires : tie.Need-decode-requires
 decode-requires c κs = search needs
 
--- src/verdict.rt:44:26
 enum-known-decoded : tie.Need-enum-known-decoded
 enum-known-decoded c = search needs
 
--- src/verdict.rt:46:34
 enum-told : tie.Need-enum-told
 enum-told c = search needs
 
--- src/verdict.rt:46:17
 count-of-requires : tie.Need-count-of-requires
 count-of-requires c κs = search needs
 
--- src/verdict.rt:47:13
 check-buffers-requires : tie.Need-check-buffers-requires
 check-buffers-requires c κs = search needs
 
--- src/verdict.rt:39:1
 returns : tie.Need-returns
 returns c = refused-before _ _ _ _ (is-refused _ _ _ _ (c .before .before .before .decode .ensures .judged) (c .before .decoded .given .1))
 
--- src/verdict.rt:39:1
 returns-2 : tie.Need-returns-2
 returns-2 c =
     let job = now (c .before .before .before .before .before .before .before .before .before .args .job) in

@@ -13,19 +13,18 @@ use Rattle.model.specs.Declared.{turnsOf}
 use Rattle.model.specs.Program.{Program, programOf}
 use Rattle.model.specs.State.{State as Meant, positionAt}
 use Rattle.model.specs.Turn.{Entry as Numbered, entry, Turned as Rule, completed, stopped}
-use Rattle.model.specs.Run.{Step, Run, runFrom, entriesOf}
-use Rattle.model.specs.Output.{entryBytes, traceBytes, traceIn, answerIn}
-use Rattle.model.specs.Valid.{Valid, ValidJob}
-use Rattle.model.specs.Result.{written}
+use Rattle.model.specs.Run.{Step, runFrom, entriesOf}
+use Rattle.model.specs.Output.{entryBytes, traceBytes}
+use Rattle.model.specs.Valid.{ValidJob}
 use Rattle.model.proofs.Bounds.{length-trace}
 use Rattle.model.proofs.Positions.{Placed, initial-placed, turn-placed, monitored-placed, program-jumps}
 use Rattle.model.proofs.Runs.{trace-snoc, entries-snoc, behind, behind-none, behind-completed, behind-stopped, behind-ended}
 use Rattle.model.proofs.Valid.{job-valid, limits}
 use Rattle.model.proofs.Ways.{Keeps}
 use Rattle.tables.specs.Tables.{countIn}
+use Rattle.queues.specs.Queues.{Bounded}
 use Rattle.job.specs.Program.{turnIn, Prepared}
 use Rattle.job.proofs.Prepared.{prepared}
-use Rattle.queues.specs.Queues.{Bounded}
 use Rattle.entries.specs.declared.Entry.{Entry}
 use Rattle.entries.specs.declared.Outcome.{Outcome}
 use Rattle.entries.specs.declared.Outcome.the-variants as o
@@ -40,11 +39,11 @@ use Rattle.engine.proofs.Accepted.{engine-holds}
 use Rattle.writing.specs.Writing.{Writes}
 use Rattle.writing.proofs.Placing.{writes-on, writes-nothing, placed-front}
 use Rattle.output.specs.Output.{Narrow}
-use Rattle.run.specs.declared.answer.Ending.{Ending}
-use Rattle.run.specs.declared.turns.Ran.{Ran}
-use Rattle.run.specs.Answers.{answerOf, answerBy}
-use Rattle.run.specs.Runs.{runOf, Ready, RunsAs}
-use Rattle.run.proofs.Narrow.{Makes, rule-narrow, placed-narrow}
+use Rattle.turns.specs.declared.Ran.{Ran}
+use Rattle.turns.specs.declared.ending.Ending.{Ending}
+use Rattle.turns.specs.Endings.{answerOf, answerBy}
+use Rattle.turns.specs.Runs.{runOf, Ready, RunsAs}
+use Rattle.turns.proofs.Narrow.{rule-narrow, placed-narrow}
 
 -- the run behind k completed turns, whose entries stand at the front of the trace
 pub record Underway (monitored : Bool) (past : List Command) (before : List ℕ) (s : State) (trace : List ℕ) (at k : ℕ) : Type 0 where

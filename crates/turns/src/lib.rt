@@ -1,4 +1,6 @@
 // The turns of a job, one after the other.
+pub mod ending;
+
 ghost use mathlib.Core.Path.{_≡_};
 ghost use mathlib.Core.List.{List};
 ghost use Prim.Native.Nat.{_*_, _≤_};
@@ -7,18 +9,18 @@ ghost use Rattle.model.specs.Table.{TURN};
 ghost use Rattle.model.specs.Command.{Command};
 ghost use Rattle.model.specs.Refusal.{accepted, decodeJob};
 ghost use Rattle.tables.specs.Tables.{countIn};
-ghost use Rattle.run.specs.Runs.{Ready, runOf, RunsAs};
+ghost use Rattle.turns.specs.Runs.{Ready, runOf, RunsAs};
 use command::bytes;
 use declared::count_of;
+use ending::Ending;
+use ending::ending_by;
+use ending::without_entry;
 use engine::State;
 use engine::start;
 use entries::Outcome;
 use job::turns::turn_at;
 use output::numbers::numbers_of;
 use output::trace::put_entry;
-use crate::answer::Ending;
-use crate::answer::ending_by;
-use crate::answer::without_entry;
 
 // A run that is over: its last state, and how it ended.
 pub struct Ran {

@@ -1,28 +1,22 @@
+-- `verdicts::check_buffers` meets its contract.
 use native.Mathlib.Omega.{arith}
-use Rattle.run.proofs.Judging.{trace-short, snapshot-short, work-short, all-long}
 use borrow.Author.Needs.{needs}
-use Rattle.run.proofs.verdict.check_buffers.Statement.{statement}
-use Rattle.run.proofs.verdict.check_buffers.Tie as tie
-use Rattle.run.proofs.verdict.check_buffers.Reads as reads
-use Rattle.run.proofs.verdict.check_buffers.Lts as lts
+use Rattle.verdicts.proofs.Judging.{trace-short, snapshot-short, work-short, all-long}
+use Rattle.verdicts.proofs.check_buffers.Statement.{statement}
+use Rattle.verdicts.proofs.check_buffers.Tie as tie
 
--- src/verdict.rt:26:16
 mul-if1 : tie.Need-mul-if1
 mul-if1 c = search needs
 
--- src/verdict.rt:27:9
 returns : tie.Need-returns
 returns c job past long counted = trace-short job past (c .before .args .size) (c .before .args .turns) (c .before .args .trace) (c .before .args .snapshot) (c .before .args .work) long counted (omega (arith, c .if1 .taken))
 
--- src/verdict.rt:30:9
 returns-2 : tie.Need-returns-2
 returns-2 c job past long counted = snapshot-short job past (c .before .before .args .size) (c .before .before .args .turns) (c .before .before .args .trace) (c .before .before .args .snapshot) (c .before .before .args .work) long counted (omega (arith, c .before .if1 .left)) (omega (arith, c .if2 .taken))
 
--- src/verdict.rt:33:9
 returns-3 : tie.Need-returns-3
 returns-3 c job past long counted = work-short job past (c .before .before .before .args .size) (c .before .before .before .args .turns) (c .before .before .before .args .trace) (c .before .before .before .args .snapshot) (c .before .before .before .args .work) long counted (omega (arith, c .before .before .if1 .left)) (omega (arith, c .before .if2 .left)) (omega (arith, c .if3 .taken))
 
--- src/verdict.rt:23:1
 returns-4 : tie.Need-returns-4
 returns-4 c job past long counted = all-long job past (c .before .before .before .args .size) (c .before .before .before .args .turns) (c .before .before .before .args .trace) (c .before .before .before .args .snapshot) (c .before .before .before .args .work) long counted (omega (arith, c .before .before .if1 .left)) (omega (arith, c .before .if2 .left)) (omega (arith, c .if3 .left))
 

@@ -1,6 +1,6 @@
 -- In a run of an accepted job the numbers of an entry and the positions of the nodes are bytes.
 use Prim.Native.Nat.{ℕ, _≤_, _<_}
-use mathlib.Core.Path.{_≡_, ap, _∙_}
+use mathlib.Core.Path.{_≡_}
 use mathlib.Core.Bool.{Bool, true, false}
 use mathlib.Core.List.{List}
 use mathlib.Core.Logic.{_⊎_, inl, inr}
@@ -14,7 +14,6 @@ use Rattle.model.specs.Declared.{Instruction}
 use Rattle.model.specs.Program.{Program, sharedIn, programOf}
 use Rattle.model.specs.State.{State, positionAt}
 use Rattle.model.specs.Turn.{Entry, entry, Turned, completed, stopped, entryOf, instructionAt, turn}
-use Rattle.model.specs.Permission.{monitoredTurn}
 use Rattle.model.specs.Valid.{Valid, InRange, NamedInstruction}
 use Rattle.model.proofs.Growth.{length-handler}
 use Rattle.model.proofs.Positions.{Placed}
