@@ -41,7 +41,9 @@ use Rattle.writing.proofs.Placing.{writes-on, writes-nothing, placed-front}
 use Rattle.output.specs.Output.{Narrow}
 use Rattle.turns.specs.declared.Ran.{Ran}
 use Rattle.turns.specs.declared.ending.Ending.{Ending}
-use Rattle.turns.specs.Endings.{answerOf, answerBy}
+use Rattle.turns.specs.declared.ending.Stop.{Stop}
+use Rattle.turns.specs.declared.ending.Stop.the-variants as v
+use Rattle.turns.specs.Endings.{answerOf, answerBy, answerAt}
 use Rattle.turns.specs.Runs.{runOf, Ready, RunsAs}
 use Rattle.turns.proofs.Narrow.{rule-narrow, placed-narrow}
 
@@ -57,12 +59,12 @@ pub record Underway (monitored : Bool) (past : List Command) (before : List ℕ)
   pub placed : Placed (programOf past) (view s)
 
 -- what the loop keeps: while it goes on, the run behind k turns; when it is left, the run that is over
-pub record Reached (monitored : Bool) (past : List Command) (before : List ℕ) (turns : ℕ) (trace : List ℕ) (s : State) (ending : Ending) (last at k : ℕ) : Type 0 where
+pub record Reached (monitored : Bool) (past : List Command) (before : List ℕ) (turns : ℕ) (trace : List ℕ) (s : State) (stop : Stop) (last at k : ℕ) : Type 0 where
   pub size : length trace ≡ length before
   pub all : k < last → last ≡ turns
-  pub allMade : k < last → answerOf ending ≡ answerBy turns (stopped 0 (entry 0 0 0 0))
+  pub never : k < last → stop ≡ v.Never
   pub going : k < last → Underway monitored past before s trace at k
-  pub ended : last ≤ k → RunsAs (runOf monitored past) before trace (record { state = s; ending = ending })
+  pub ended : last ≤ k → (x : Ending) → ((after : Meant) → answerOf x ≡ answerAt k stop after) → RunsAs (runOf monitored past) before trace (record { state = s; ending = x })
 
 -- as many entries as steps
 length-entries : (steps : List Step) → length (entriesOf steps) ≡ length steps
@@ -205,24 +207,24 @@ module _ (monitored : Bool) (job t w : List ℕ) (ready : Ready job t w) where
   -- behind the last turn the run is over
   pub reached :
       (before : List ℕ) (s : State) (trace : List ℕ) (at k turns last : ℕ) → last ≡ turns → turns ≡ countIn t TURN → k ≤ turns → Underway monitored past before s trace at k
-      → (x : Ending) → answerOf x ≡ answerBy turns (stopped 0 (entry 0 0 0 0))
-      → Reached monitored past before turns trace s x last at k
-  reached before s trace at k turns last same counted inside u x told =
+      → (stop : Stop) → stop ≡ v.Never
+      → Reached monitored past before turns trace s stop last at k
+  reached before s trace at k turns last same counted inside u stop none =
       record {
         size = u .size;
         all = λ h. same;
-        allMade = λ h. told;
+        never = λ h. none;
         going = λ h. u;
-        ended = λ h.
-          let e : turns ≡ k = omega arith in
+        ended = λ h x told.
           over u (record { state = s; ending = x }) 0 (entry 0 0 0 0)
           (u .same ∙ behind-ended rule (turnsOf past) (u .done) k (view s) (omega (arith, prepares .turns)))
-          refl (u .bounded) (rw e at told);
+          refl (u .bounded) (told (view s) ∙ ap (λ (y : Stop). answerAt k y (view s)) none);
       }
 
 -- the run is over at a stop
 pub halted :
-    (monitored : Bool) (past : List Command) (before : List ℕ) (turns : ℕ) (trace : List ℕ) (s : State) (x : Ending) (at k : ℕ) → length trace ≡ length before
-    → RunsAs (runOf monitored past) before trace (record { state = s; ending = x }) → Reached monitored past before turns trace s x k at k
-halted monitored past before turns trace s x at k size r =
-    record { size = size; all = λ h. absurd (omega (arith, h)); allMade = λ h. absurd (omega (arith, h)); going = λ h. absurd (omega (arith, h)); ended = λ h. r }
+    (monitored : Bool) (past : List Command) (before : List ℕ) (turns : ℕ) (trace : List ℕ) (s : State) (stop : Stop) (at k : ℕ) → length trace ≡ length before
+    → ((x : Ending) → ((after : Meant) → answerOf x ≡ answerAt k stop after) → RunsAs (runOf monitored past) before trace (record { state = s; ending = x }))
+    → Reached monitored past before turns trace s stop k at k
+halted monitored past before turns trace s stop at k size r =
+    record { size = size; all = λ h. absurd (omega (arith, h)); never = λ h. absurd (omega (arith, h)); going = λ h. absurd (omega (arith, h)); ended = λ h. r }

@@ -3,7 +3,7 @@ ghost use mathlib.Core.Path.{_≡_};
 ghost use Rattle.model.specs.State.{State};
 ghost use Rattle.model.specs.Turn.{entry, stopped};
 ghost use Rattle.entries.specs.Entries.{turnedBy};
-ghost use Rattle.turns.specs.Endings.{answerOf, answerBy};
+ghost use Rattle.turns.specs.Endings.{answerOf, answerBy, answerAt};
 use entries::Outcome;
 use output::numbers::Numbers;
 use output::numbers::numbers_of;
@@ -15,8 +15,14 @@ pub struct Ending {
     pub attempted: Numbers,
 }
 
+// Whether a run was stopped, and by what its turn came to.
+pub enum Stop {
+    Never,
+    At(Outcome),
+}
+
 // The ending with a stop, and no entry attempted but the node's.
-pub fn without_entry(stop: u32, turns: u32, node: u32) -> Ending
+fn without_entry(stop: u32, turns: u32, node: u32) -> Ending
     ensures { λ r. ⌜ answerOf r ≡ answerBy turns (stopped stop (entry node 0 0 0)) ⌝ }
 {
     Ending {
@@ -32,7 +38,7 @@ pub fn without_entry(stop: u32, turns: u32, node: u32) -> Ending
 }
 
 // How a run ends whose turn came to this, behind so many turns. One that made its entry was the last.
-pub fn ending_by(outcome: Outcome, turns: u32) -> Ending
+fn ending_by(outcome: Outcome, turns: u32) -> Ending
     ensures { λ r. ⌜ ((after : State) → answerOf r ≡ answerBy turns (turnedBy outcome after)) ⌝ }
 {
     match outcome {
@@ -48,5 +54,15 @@ pub fn ending_by(outcome: Outcome, turns: u32) -> Ending
             turns: turns,
             attempted: numbers_of(entry),
         },
+    }
+}
+
+// How a run ends behind so many turns.
+pub fn ending_of(stop: Stop, turns: u32) -> Ending
+    ensures { λ r. ⌜ ((after : State) → answerOf r ≡ answerAt turns stop after) ⌝ }
+{
+    match stop {
+        Stop::Never => without_entry(0, turns, 0),
+        Stop::At(outcome) => ending_by(outcome, turns),
     }
 }

@@ -13,8 +13,8 @@ ghost use Rattle.turns.specs.Runs.{Ready, runOf, RunsAs};
 use command::bytes;
 use declared::count_of;
 use ending::Ending;
-use ending::ending_by;
-use ending::without_entry;
+use ending::Stop;
+use ending::ending_of;
 use engine::State;
 use engine::start;
 use entries::Outcome;
@@ -36,7 +36,7 @@ pub fn run_turns(job: &[u8], t: &[u32], work: &[u8], trace: &mut [u8], monitored
 {
     let turns = count_of(t, bytes::TURN);
     let mut s = start(t);
-    let mut ending = without_entry(0, turns, 0);
+    let mut stop = Stop::Never;
     let mut last = turns;
     let mut at: usize = 0;
     let mut k: u32 = 0;
@@ -49,12 +49,12 @@ pub fn run_turns(job: &[u8], t: &[u32], work: &[u8], trace: &mut [u8], monitored
             at = put_entry(trace, at, numbers_of(entry));
             k += 1;
         } else {
-            ending = ending_by(outcome, k);
+            stop = Stop::At(outcome);
             last = k;
         }
     }
     Ran {
         state: s,
-        ending: ending,
+        ending: ending_of(stop, k),
     }
 }

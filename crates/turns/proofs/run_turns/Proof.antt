@@ -15,10 +15,10 @@ use Rattle.turns.proofs.run_turns.Statement.{statement}
 use Rattle.turns.proofs.run_turns.Tie as tie
 
 abbrev Inv-loop : tie.InvT-loop
-Inv-loop job t work trace₀ monitored turns s₀ ending₀ last₀ at₀ k₀ trace s ending last at k = (ready : Ready job t work) → Reached monitored (ready .past) trace₀ turns trace s ending last at k
+Inv-loop job t work trace₀ monitored turns s₀ stop₀ last₀ at₀ k₀ trace s stop last at k = (ready : Ready job t work) → Reached monitored (ready .past) trace₀ turns trace s stop last at k
 
 abbrev μ-loop : tie.MeasureT-loop
-μ-loop job t work trace₀ monitored turns s₀ ending₀ last₀ at₀ k₀ trace s ending last at k = last - k
+μ-loop job t work trace₀ monitored turns s₀ stop₀ last₀ at₀ k₀ trace s stop last at k = last - k
 
 count-of-requires : tie.Need-count-of-requires Inv-loop μ-loop
 count-of-requires c κs = search needs
@@ -26,26 +26,23 @@ count-of-requires c κs = search needs
 start-requires : tie.Need-start-requires Inv-loop μ-loop
 start-requires c κs = search needs
 
-without-entry-requires : tie.Need-without-entry-requires Inv-loop μ-loop
-without-entry-requires c κs = search needs
-
 loop-holds : tie.Need-loop-holds Inv-loop μ-loop
 loop-holds c =
-    let a = c .before .before .before .before .before .before .before .args in
+    let a = c .before .before .before .before .before .before .args in
     λ ready.
-    reached (a .monitored) (now (a .job)) (now (a .t)) (now (a .work)) ready _ _ _ 0 0 _ _ refl (c .before .before .count-of .ensures) (omega arith)
-    (underway-none (a .monitored) (now (a .job)) (now (a .t)) (now (a .work)) ready _ _ (c .before .start .ensures)) _ (c .without-entry .ensures)
+    reached (a .monitored) (now (a .job)) (now (a .t)) (now (a .work)) ready _ _ _ 0 0 _ _ refl (c .before .count-of .ensures) (omega arith)
+    (underway-none (a .monitored) (now (a .job)) (now (a .t)) (now (a .work)) ready _ _ (c .start .ensures)) _ refl
 
 turn-at-requires : tie.Need-turn-at-requires Inv-loop μ-loop
 turn-at-requires c κs = search needs
 
 turn-requires : tie.Need-turn-requires Inv-loop μ-loop
 turn-requires c κs =
-    let a = c .before .before .before .before .before .before .before .before .before .before .args in
-    let ready = c .before .before .before .before .before .before .before .before .before .before .pre .0 in
+    let a = c .before .before .before .before .before .before .before .before .before .args in
+    let ready = c .before .before .before .before .before .before .before .before .before .pre .0 in
     let l = c .before .before .loop in
     let h : l .k < l .last = omega (arith, c .before .loop-test .taken) in
-    (l .inv ready .going h .bounded, omega (arith, c .turn-at .ensures, node-inside (a .monitored) (now (a .job)) (now (a .t)) (now (a .work)) ready (l .k) (omega (arith, h, l .inv ready .all h, c .before .before .before .before .before .count-of .ensures))))
+    (l .inv ready .going h .bounded, omega (arith, c .turn-at .ensures, node-inside (a .monitored) (now (a .job)) (now (a .t)) (now (a .work)) ready (l .k) (omega (arith, h, l .inv ready .all h, c .before .before .before .before .count-of .ensures))))
 
 enum-known-outcome : tie.Need-enum-known-outcome Inv-loop μ-loop
 enum-known-outcome c = search needs
@@ -55,67 +52,67 @@ numbers-of-requires c κs = search needs
 
 put-entry-requires : tie.Need-put-entry-requires Inv-loop μ-loop
 put-entry-requires c κs =
-    let a = c .before .before .before .before .before .before .before .before .before .before .before .before .before .before .before .before .before .args in
-    let ready = c .before .before .before .before .before .before .before .before .before .before .before .before .before .before .before .before .before .pre .0 in
+    let a = c .before .before .before .before .before .before .before .before .before .before .before .before .before .before .before .before .args in
+    let ready = c .before .before .before .before .before .before .before .before .before .before .before .before .before .before .before .before .pre .0 in
     let l = c .before .before .before .before .before .before .before .before .before .loop in
     let h : l .k < l .last = omega (arith, c .before .before .before .before .before .before .before .before .loop-test .taken) in
     let u = l .inv ready .going h in
-    let more : l .k < countIn (now (a .t)) TURN = omega (arith, h, l .inv ready .all h, c .before .before .before .before .before .before .before .before .before .before .before .before .count-of .ensures) in
+    let more : l .k < countIn (now (a .t)) TURN = omega (arith, h, l .inv ready .all h, c .before .before .before .before .before .before .before .before .before .before .before .count-of .ensures) in
     let e = c .numbers-of .ensures in
-    (omega (arith, more, u .place, u .size, c .before .before .before .before .before .before .before .before .before .before .before .before .before .before .before .before .before .pre .1), subst Narrow (sym e) (made-narrow (a .monitored) (now (a .job)) (now (a .t)) (now (a .work)) ready _ (l .s) (l .trace) (l .at) (l .k) u more _ (c .before .before .before .before .before .before .before .turn-at .ensures) (c .before .before .before .before .before .before .turn .result) (c .before .before .before .before .before .before .turn .ensures) _ (c .before .before .before .outcome .given .1)))
+    (omega (arith, more, u .place, u .size, c .before .before .before .before .before .before .before .before .before .before .before .before .before .before .before .before .pre .1), subst Narrow (sym e) (made-narrow (a .monitored) (now (a .job)) (now (a .t)) (now (a .work)) ready _ (l .s) (l .trace) (l .at) (l .k) u more _ (c .before .before .before .before .before .before .before .turn-at .ensures) (c .before .before .before .before .before .before .turn .result) (c .before .before .before .before .before .before .turn .ensures) _ (c .before .before .before .outcome .given .1)))
 
 add-k : tie.Need-add-k Inv-loop μ-loop
 add-k c =
-    let a = c .before .before .before .before .before .before .before .before .before .before .before .before .before .before .before .before .before .before .before .before .args in
-    let ready = c .before .before .before .before .before .before .before .before .before .before .before .before .before .before .before .before .before .before .before .before .pre .0 in
+    let a = c .before .before .before .before .before .before .before .before .before .before .before .before .before .before .before .before .before .before .before .args in
+    let ready = c .before .before .before .before .before .before .before .before .before .before .before .before .before .before .before .before .before .before .before .pre .0 in
     let l = c .before .before .before .before .before .before .before .before .before .before .before .before .loop in
     let h : l .k < l .last = omega (arith, c .before .before .before .before .before .before .before .before .before .before .before .loop-test .taken) in
-    omega (arith, h, l .inv ready .all h, c .before .before .before .before .before .before .before .before .before .before .before .before .before .before .before .count-of .ensures, turns-few (a .monitored) (now (a .job)) (now (a .t)) (now (a .work)) ready)
+    omega (arith, h, l .inv ready .all h, c .before .before .before .before .before .before .before .before .before .before .before .before .before .before .count-of .ensures, turns-few (a .monitored) (now (a .job)) (now (a .t)) (now (a .work)) ready)
 
 loop-less : tie.Need-loop-less Inv-loop μ-loop
 loop-less c = search needs
 
 loop-again : tie.Need-loop-again Inv-loop μ-loop
 loop-again c =
-    let a = c .before .before .before .before .before .before .before .before .before .before .before .before .before .before .before .before .before .before .before .before .args in
+    let a = c .before .before .before .before .before .before .before .before .before .before .before .before .before .before .before .before .before .before .before .args in
     let l = c .before .before .before .before .before .before .before .before .before .before .before .before .loop in
     let h : l .k < l .last = omega (arith, c .before .before .before .before .before .before .before .before .before .before .before .loop-test .taken) in
     let e = c .before .before .before .numbers-of .ensures in
     λ ready.
     let r = l .inv ready in
-    let more : l .k < countIn (now (a .t)) TURN = omega (arith, h, r .all h, c .before .before .before .before .before .before .before .before .before .before .before .before .before .before .before .count-of .ensures) in
-    reached (a .monitored) (now (a .job)) (now (a .t)) (now (a .work)) ready _ _ _ _ _ _ (l .last) (r .all h) (c .before .before .before .before .before .before .before .before .before .before .before .before .before .before .before .count-of .ensures) (omega (arith, h, r .all h))
-    (underway-next (a .monitored) (now (a .job)) (now (a .t)) (now (a .work)) ready _ (l .s) (l .trace) (l .at) (l .k) (r .going h) more _ (c .before .before .before .before .before .before .before .before .before .before .turn-at .ensures) (c .before .before .before .before .before .before .before .before .before .turn .result) (c .before .before .before .before .before .before .before .before .before .turn .ensures) _ (c .before .before .before .before .before .before .outcome .given .1) (entryOf (c .before .before .before .numbers-of .result)) e _ _ (c .before .before .before .before .before .before .before .before .before .before .before .before .before .before .before .before .before .before .before .before .pre .1) (search needs) (c .before .before .put-entry .ensures)) _ (r .allMade h)
-
-ending-by-requires : tie.Need-ending-by-requires Inv-loop μ-loop
-ending-by-requires c κs = search needs
+    let more : l .k < countIn (now (a .t)) TURN = omega (arith, h, r .all h, c .before .before .before .before .before .before .before .before .before .before .before .before .before .before .count-of .ensures) in
+    reached (a .monitored) (now (a .job)) (now (a .t)) (now (a .work)) ready _ _ _ _ _ _ (l .last) (r .all h) (c .before .before .before .before .before .before .before .before .before .before .before .before .before .before .count-of .ensures) (omega (arith, h, r .all h))
+    (underway-next (a .monitored) (now (a .job)) (now (a .t)) (now (a .work)) ready _ (l .s) (l .trace) (l .at) (l .k) (r .going h) more _ (c .before .before .before .before .before .before .before .before .before .before .turn-at .ensures) (c .before .before .before .before .before .before .before .before .before .turn .result) (c .before .before .before .before .before .before .before .before .before .turn .ensures) _ (c .before .before .before .before .before .before .outcome .given .1) (entryOf (c .before .before .before .numbers-of .result)) e _ _ (c .before .before .before .before .before .before .before .before .before .before .before .before .before .before .before .before .before .before .before .pre .1) (search needs) (c .before .before .put-entry .ensures)) _ (r .never h)
 
 loop-less-2 : tie.Need-loop-less-2 Inv-loop μ-loop
-loop-less-2 c = omega (arith, c .before .before .before .before .before .loop-test .taken)
+loop-less-2 c = omega (arith, c .before .before .before .before .loop-test .taken)
 
 loop-again-2 : tie.Need-loop-again-2 Inv-loop μ-loop
 loop-again-2 c =
-    let a = c .before .before .before .before .before .before .before .before .before .before .before .before .before .before .args in
-    let l = c .before .before .before .before .before .before .loop in
-    let h : l .k < l .last = omega (arith, c .before .before .before .before .before .loop-test .taken) in
+    let a = c .before .before .before .before .before .before .before .before .before .before .before .before .args in
+    let l = c .before .before .before .before .before .loop in
+    let h : l .k < l .last = omega (arith, c .before .before .before .before .loop-test .taken) in
     λ ready.
     let r = l .inv ready in
-    let more : l .k < countIn (now (a .t)) TURN = omega (arith, h, r .all h, c .before .before .before .before .before .before .before .before .before .count-of .ensures) in
+    let more : l .k < countIn (now (a .t)) TURN = omega (arith, h, r .all h, c .before .before .before .before .before .before .before .count-of .ensures) in
     halted (a .monitored) _ _ _ _ _ _ _ _ (r .size)
-    (underway-stopped (a .monitored) (now (a .job)) (now (a .t)) (now (a .work)) ready _ (l .s) (l .trace) (l .at) (l .k) (r .going h) more _ (c .before .before .before .before .turn-at .ensures) (c .before .before .before .turn .result) (c .before .before .before .turn .ensures) (c .before .match .keys2) _ (c .ending-by .ensures))
+    (underway-stopped (a .monitored) (now (a .job)) (now (a .t)) (now (a .work)) ready _ (l .s) (l .trace) (l .at) (l .k) (r .going h) more _ (c .before .before .before .turn-at .ensures) (c .before .before .turn .result) (c .before .before .turn .ensures) (c .match .keys2))
+
+ending-of-requires : tie.Need-ending-of-requires Inv-loop μ-loop
+ending-of-requires c κs = search needs
 
 same-length : tie.Need-same-length Inv-loop μ-loop
-same-length c = c .before .loop .inv (c .before .before .before .before .before .before .before .before .before .pre .0) .size
+same-length c = c .before .before .loop .inv (c .before .before .before .before .before .before .before .before .before .pre .0) .size
 
 returns : tie.Need-returns Inv-loop μ-loop
 returns c past e =
     let a = c .before .before .before .before .before .before .before .before .before .args in
     let ready = c .before .before .before .before .before .before .before .before .before .pre .0 in
-    let l = c .before .loop in
+    let l = c .before .before .loop in
     let d = ready .decoded in
     let same : ready .past ≡ past = cc in
-    subst (λ (x : List Command). RunsAs (runOf (a .monitored) x) (now (a .trace)) (l .trace) (record { state = l .s; ending = l .ending })) same
-    (l .inv ready .ended (omega (arith, c .loop-test .left)))
+    subst (λ (x : List Command). RunsAs (runOf (a .monitored) x) (now (a .trace)) (l .trace) (record { state = l .s; ending = c .ending-of .result })) same
+    (l .inv ready .ended (omega (arith, c .before .loop-test .left)) _ (c .ending-of .ensures))
 
 pub run-turns-spec : {M : Type 1} → statement M
 run-turns-spec =
@@ -125,7 +122,6 @@ run-turns-spec =
     μ-loop
     count-of-requires
     start-requires
-    without-entry-requires
     loop-holds
     turn-at-requires
     turn-requires
@@ -135,8 +131,8 @@ run-turns-spec =
     add-k
     loop-less
     loop-again
-    ending-by-requires
     loop-less-2
     loop-again-2
+    ending-of-requires
     same-length
     returns)

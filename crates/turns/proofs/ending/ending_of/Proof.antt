@@ -1,0 +1,34 @@
+-- `turns::ending::ending_of` meets its contract.
+use mathlib.Core.Path.{_∙_}
+use borrow.Author.Needs.{needs}
+use Rattle.turns.proofs.ending.ending_of.Statement.{statement}
+use Rattle.turns.proofs.ending.ending_of.Tie as tie
+
+enum-told : tie.Need-enum-told
+enum-told c = search needs
+
+without-entry-requires : tie.Need-without-entry-requires
+without-entry-requires c κs = search needs
+
+enum-known-stop : tie.Need-enum-known-stop
+enum-known-stop c = search needs
+
+ending-by-requires : tie.Need-ending-by-requires
+ending-by-requires c κs = search needs
+
+returns : tie.Need-returns
+returns c after = c .without-entry .ensures ∙ rw (c .before .enum-told .given .1)
+
+returns-2 : tie.Need-returns-2
+returns-2 c after = c .ending-by .ensures after ∙ rw (c .before .before .stop .given .1)
+
+pub ending-of-spec : {M : Type 1} → statement M
+ending-of-spec =
+    tie.close
+    (tie.spec
+    enum-told
+    without-entry-requires
+    enum-known-stop
+    ending-by-requires
+    returns
+    returns-2)
