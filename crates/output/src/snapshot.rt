@@ -1,7 +1,8 @@
 // The bytes of the snapshot (01's "end picture"). The place of each node's part is carried along from part to part.
 ghost use Prim.Native.Nat.{_+_, _*_, _≤_, _<_};
 ghost use lib.ListN.{length};
-ghost use Rattle.model.specs.Output.{nodesBytes, variablesBytes};
+ghost use Rattle.model.specs.Table.{maxNodes, maxVariables};
+ghost use Rattle.model.specs.Refusal.{snapshotSize};
 ghost use Rattle.writing.specs.Writing.{Writes};
 ghost use Rattle.queues.specs.Queues.{Bounded};
 ghost use Rattle.engine.specs.Engine.{view};
@@ -27,7 +28,7 @@ fn put_node(picture: &mut [u8], at: usize, x: Registers, waiting: u8, queue: &[u
 
 // Writes the snapshot of a state with so many nodes and variables.
 pub fn put_snapshot(picture: &mut [u8], s: State, nodes: usize, variables: usize) -> usize
-    requires { ⌜ (2624 ≤ length (now picture)) × (nodes ≤ 32) × (variables ≤ 64) ⌝ }
+    requires { ⌜ (snapshotSize ≤ length (now picture)) × (nodes ≤ maxNodes) × (variables ≤ maxVariables) ⌝ }
     requires { ⌜ Bounded (s .waiting) ⌝ }
     requires { ⌜ NarrowPositions s ⌝ }
     ensures { λ r. ⌜ Writes (shownBytes (view s) nodes variables) (now (picture .entry)) 0 (now (picture .exit)) r ⌝ }

@@ -1,8 +1,10 @@
--- Demand 3 of the code, from what the two entry points promise and the model's demand 3.
+-- Demand 3 of the code, from what the entry points promise and the model's demands 1 and 3.
 use Prim.Native.Nat.{ℕ}
-use mathlib.Core.Path.{_≡_, sym, ap, subst, _∙_}
+use mathlib.Core.Path.{_≡_, refl, sym, ap, subst, _∙_}
+use mathlib.Core.Bool.{Bool, true, false}
 use mathlib.Core.List.{List}
-use mathlib.Core.Logic.{_⊎_, inl, inr}
+use mathlib.Core.Logic.{_↔_, _⊎_, inl, inr}
+use native.Mathlib.Omega.{arith}
 use Rattle.model.specs.Command.{Command}
 use Rattle.model.specs.Program.{Program, programOf}
 use Rattle.model.specs.Turn.{Entry}
@@ -10,34 +12,27 @@ use Rattle.model.specs.Run.{Run}
 use Rattle.model.specs.Output.{Answer as Meant}
 use Rattle.model.specs.Refusal.{Refusal, Sizes}
 use Rattle.model.specs.Result.{Result, refused, ran, report, monitored, unmonitored, sizesOf}
-use Rattle.model.specs.Conclusion.{Refuses, Accepts, Filled, Leaves, unmonitoredOf}
-use Rattle.model.specs.Transparency.{AllPermitted, FirstForbidden}
+use Rattle.model.specs.Conclusion.{Refuses, unmonitoredOf}
+use Rattle.model.specs.Transparency.{AllPermitted, FirstForbidden, stoppedAt}
 use Rattle.model.proofs.Conclusion.{demand1}
 use Rattle.model.proofs.Transparency.{demand3}
-use Rattle.run.specs.Answers.{Told, refusal, answer, toldBy, toldIn, Delivers}
-use Rattle.run.specs.Beside.{Call, Shows, ShowsRun, ShowsStopped, Rejects, Monitored, Unmonitored, Compares, BesideHolds}
+use Rattle.run.specs.Answers.{Told, refusal, answer, toldIn, Call, call, Gives, Monitored, Unmonitored}
+use Rattle.run.specs.Beside.{BesideHolds, ExportsBeside, Compares}
 
--- what a call shows that delivers a result
-module _ (result : Result) (c : Call) (d : Delivers result (c .before) (c .after) (c .answered)) (leaves : Leaves result (c .before)) where
-  shows : (x : Meant) (trace snapshot : List ℕ) → result ≡ ran x trace snapshot → Shows x trace snapshot c
-  shows x trace snapshot e =
-      let f = leaves .filled x trace snapshot e in
-      record {
-        told = d .told ∙ ap toldIn e;
-        trace = subst (Filled trace (c .before .trace)) (sym (d .left .trace)) (f .0);
-        snapshot = subst (Filled snapshot (c .before .snapshot)) (sym (d .left .snapshot)) (f .1);
-        work = subst (Filled _ (c .before .work)) (sym (d .left .work)) (f .2);
-      }
+-- only a refused job tells a refusal
+told-refused : (result : Result) (r : Refusal) → toldIn result ≡ refusal r → result ≡ refused r
+told-refused (refused q) r e = let same : q ≡ r = cc in rw same
+told-refused (ran x trace snapshot) r e = let w : _≡_ {A = ℕ} 0 1 = cc in absurd (omega arith)
 
-  rejects : (r : Refusal) → result ≡ refused r → Rejects r c
-  rejects r e =
-      let f = leaves .untouched r e in
-      let p = d .left .trace ∙ f .0 in
-      let q = d .left .snapshot ∙ f .1 in
-      let w = d .left .work ∙ f .2 in
-      record { told = d .told ∙ ap toldIn e; untouched = λ i. record { trace = p i; snapshot = q i; work = w i } }
+-- a call that gives a result gives a refusal exactly if that is the result
+gives-refused : (result : Result) (c : Call) → Gives result c → (r : Refusal) → Gives (refused r) c ↔ (result ≡ refused r)
+gives-refused result c g r = (λ h. told-refused result r (sym (g .told) ∙ h .told), λ e. subst (λ (x : Result). Gives x c) e g)
 
--- stop and turns of an answer
+-- one equivalence behind another
+then : {A B C : Type 0} → (A ↔ B) → (B ↔ C) → A ↔ C
+then f g = (λ a. g .0 (f .0 a), λ c. f .1 (g .1 c))
+
+-- stop and turns that are told
 abbrev stopIn : Told → ℕ
 stopIn (refusal r) = 0
 stopIn (answer x) = x .stop
@@ -54,45 +49,47 @@ module _ (past : List Command) (m : Call) where
   abbrev u : Run
   u = unmonitoredOf past
 
-  -- the answer with stop 1 after n turns
+  -- stop 1 after n turns
   abbrev One : ℕ → Type 0
-  One n = (e : Entry) × (toldBy (m .answered) ≡ answer (record { stop = 1; turns = n; attempted = e }))
+  One n = (e : Entry) × (m .told ≡ answer (record { stop = 1; turns = n; attempted = e }))
 
   parted :
-      ((n : ℕ) × FirstForbidden P u n) ⊎ AllPermitted P u → (AllPermitted P u → ShowsRun past u m) → ((n : ℕ) → FirstForbidden P u n → ShowsStopped past u n m) → ¬ (u .stop ≡ 1)
+      ((n : ℕ) × FirstForbidden P u n) ⊎ AllPermitted P u → (AllPermitted P u → Gives (report P u) m) → ((n : ℕ) → FirstForbidden P u n → Gives (stoppedAt P u n) m) → ¬ (u .stop ≡ 1)
       → (n : ℕ) → One n → FirstForbidden P u n
-  parted (inl (k, first)) identical stops never n (e, told) =
-      subst (FirstForbidden P u) (ap turnsIn (sym (stops k first .told) ∙ told)) first
-  parted (inr all) identical stops never n (e, told) =
-      absurd (never (ap stopIn (sym (identical all .told) ∙ told)))
+  unfolding report
+  parted (inl (k, first)) identical stops never n (e, told) = subst (FirstForbidden P u) (ap turnsIn (sym (stops k first .told) ∙ told)) first
+  parted (inr all) identical stops never n (e, told) = absurd (never (ap stopIn (sym (identical all .told) ∙ told)))
 
 pub beside : BesideHolds
-unfolding report
-beside job m u dm du same =
+beside job m u gm gu =
     let both = demand3 job (m .before) (u .before) in
     let one = demand1 job (m .before) .concluded in
     let other = demand1 job (u .before) .concluded in
-    let showM = shows (monitored job (sizesOf (m .before))) m dm (both .monitoredLeaves) in
-    let showU = shows (unmonitored job (sizesOf (u .before))) u du (both .unmonitoredLeaves) in
+    let refusesM : (r : Refusal) → Gives (refused r) m ↔ (monitored job (sizesOf (m .before)) ≡ refused r) = gives-refused (monitored job (sizesOf (m .before))) m gm in
+    let refusesU : (r : Refusal) → Gives (refused r) u ↔ (unmonitored job (sizesOf (u .before)) ≡ refused r) = gives-refused (unmonitored job (sizesOf (u .before))) u gu in
     record {
-      concluded = one .decided;
-      refuseAlike = λ r h. (
-        rejects _ m dm (both .monitoredLeaves) r (one .monitoredRefuses r .1 h),
-        rejects _ u du (both .unmonitoredLeaves) r (other .unmonitoredRefuses r .1 (subst (λ (b : Sizes). Refuses job b r) same h)),
-      );
-      bothRun = λ past h.
-          let run = both .bothRun past h (subst (λ (b : Sizes). Accepts job b past) same h) in
-          let identical : AllPermitted (programOf past) (unmonitoredOf past) → ShowsRun past (unmonitoredOf past) m = λ all. showM _ _ _ (run .monitoredReports ∙ run .comparison .identical all) in
-          let stops : (n : ℕ) → FirstForbidden (programOf past) (unmonitoredOf past) n → ShowsStopped past (unmonitoredOf past) n m = λ n first. showM _ _ _ (run .monitoredReports ∙ run .comparison .stops n first) in
+      monitoredRefuses = λ r. then (refusesM r) (one .monitoredRefuses r);
+      unmonitoredRefuses = λ r. then (refusesU r) (other .unmonitoredRefuses r);
+      refuseAlike = λ same r. then (then (refusesM r) (both .refuseAlike same r)) (refusesU r .1, refusesU r .0);
+      bothRun = λ past a b.
+          let run = both .bothRun past a b in
+          let identical : AllPermitted (programOf past) (unmonitoredOf past) → Gives (report (programOf past) (unmonitoredOf past)) m = λ all. subst (λ (x : Result). Gives x m) (run .monitoredReports ∙ run .comparison .identical all) gm in
+          let stops : (n : ℕ) → FirstForbidden (programOf past) (unmonitoredOf past) n → Gives (stoppedAt (programOf past) (unmonitoredOf past) n) m = λ n first. subst (λ (x : Result). Gives x m) (run .monitoredReports ∙ run .comparison .stops n first) gm in
           record {
-            bare = showU _ _ _ (run .unmonitoredReports);
+            unmonitoredRuns = subst (λ (x : Result). Gives x u) (run .unmonitoredReports) gu;
             decided = run .comparison .decided;
             identical = identical;
             stops = stops;
-            parts = λ n. (λ first. (_, stops n first .told), parted past m (run .comparison .decided) identical stops (one .runs past h .neverOne) n);
+            parts = λ n. (λ first. (_, stops n first .told), parted past m (run .comparison .decided) identical stops (one .runs past a .neverOne) n);
           };
     }
 
+pub exports-beside : ExportsBeside
+exports-beside job before after before′ after′ numbers numbers′ em eu =
+    let m = toldIn (monitored job (sizesOf before)) in
+    let u = toldIn (unmonitored job (sizesOf before′)) in
+    (m, u, em .told, eu .told, beside job (call before after m) (call before′ after′ u) (record { told = refl; left = em .left }) (record { told = refl; left = eu .left }))
+
 -- both calls made
 pub compares : (job : List ℕ) (m u : Call) → Monitored job m → Unmonitored job u → Compares job m u
-compares job m u dm du = record { monitored = dm; unmonitored = du; beside = beside job m u dm du }
+compares job m u gm gu = record { monitors = gm; runs = gu; beside = beside job m u gm gu }

@@ -32,7 +32,7 @@ use Rattle.turns.specs.declared.Ran.{Ran}
 use Rattle.turns.specs.Runs.{runOf, Ready, RunsAs}
 use Rattle.run.specs.declared.answer.Answer.{Answer}
 use Rattle.run.specs.declared.answer.Answer.the-variants as a
-use Rattle.run.specs.Accepted.{Fitting, Hands}
+use Rattle.run.specs.Accepted.{AcceptedWith, DeliversRun}
 use Rattle.run.specs.Answers.{answer, toldBy, numbersIn, resultFor, buffers, Delivers, Exports}
 
 -- accepted behind a further test: accepted before it, and the test finds nothing
@@ -55,7 +55,7 @@ over-same size xs ys e same =
     let long = length-replicate {A = ℕ} size 0 in
     ap (λ (l : List ℕ). replicate size 0 ++ l) (drop-same (length (replicate {A = ℕ} size 0)) xs ys e (λ i h. same i (omega arith)))
 
-module _ (job t : List ℕ) (b : Sizes) (f : Fitting job t b) where
+module _ (job t : List ℕ) (b : Sizes) (f : AcceptedWith job t b) where
   abbrev past : List Command
   past = f .past
 
@@ -105,12 +105,12 @@ module _ (job t : List ℕ) (b : Sizes) (f : Fitting job t b) where
   shown-snapshot s = rw (f .stands .counts NODE (omega arith), f .stands .counts VAR (omega arith))
 
 -- what is handed over
-module _ (job t : List ℕ) (before : Buffers) (f : Fitting job t (sizesOf before)) (m : Bool) where
+module _ (job t : List ℕ) (before : Buffers) (f : AcceptedWith job t (sizesOf before)) (m : Bool) where
   pub hands-over :
       (trace : List ℕ) (x : Ran) → ((past : List Command) → decodeJob job ≡ accepted past → RunsAs (runOf m past) (before .trace) trace x)
       → (picture : List ℕ) (next : ℕ) → Writes (shownBytes (view (x .state)) (countIn t NODE) (countIn t VAR)) (before .snapshot) 0 picture next
       → (work : List ℕ) (last : ℕ) → Writes (replicate workSize 0) (loaded (before .work) (commandsOf (decodeJob job))) 0 work last
-      → Hands m job before (buffers trace picture work) (x .ending)
+      → DeliversRun m job before (buffers trace picture work) (x .ending)
   unfolding report
   hands-over trace x runs picture next shows work last zeros past e =
       let d = f .decoded in
@@ -143,7 +143,7 @@ module _ (m : Bool) (job : List ℕ) (before : Buffers) where
   pub delivers-refused : (q : Refused) → decodeFor job (sizesOf before) ≡ rejected (refusalOf q) → Delivers (resultFor m job (sizesOf before)) before before (a.Refused q)
   delivers-refused q e = subst (λ (r : Result). Delivers r before before (a.Refused q)) (sym (result-refused m job (sizesOf before) (refusalOf q) e)) (record { told = refl; left = record { trace = refl; snapshot = refl; work = refl } })
 
-  pub delivers-ran : (after : Buffers) (x : Ending) (past : List Command) → decodeFor job (sizesOf before) ≡ accepted past → Hands m job before after x → Delivers (resultFor m job (sizesOf before)) before after (a.Ended x)
+  pub delivers-ran : (after : Buffers) (x : Ending) (past : List Command) → decodeFor job (sizesOf before) ≡ accepted past → DeliversRun m job before after x → Delivers (resultFor m job (sizesOf before)) before after (a.Ended x)
   delivers-ran after x past e h = subst (λ (r : Result). Delivers r before after (a.Ended x)) (sym (result-ran m job (sizesOf before) past e)) (h past e)
 
 -- the same, as eight numbers

@@ -14,12 +14,12 @@ use Rattle.run.specs.declared.answer.Answer.the-variants as a
 use Rattle.run.specs.Answers.{Delivers}
 
 -- the job is accepted with buffers of these lengths, and the tables stand for its commands
-pub record Fitting (job t : List ℕ) (b : Sizes) : Type 0 where
+pub record AcceptedWith (job t : List ℕ) (b : Sizes) : Type 0 where
   pub past : List Command
   pub decoded : decodeFor job b ≡ accepted past
   pub stands : Stands t past
 
 -- the answer and the buffers afterwards are those of the run of the job's commands
-abbrev pub Hands : Bool → List ℕ → Buffers → Buffers → Ending → Type 0
-Hands monitored job before after x =
+abbrev pub DeliversRun : Bool → List ℕ → Buffers → Buffers → Ending → Type 0
+DeliversRun monitored job before after x =
     (past : List Command) → decodeFor job (sizesOf before) ≡ accepted past → Delivers (report (programOf past) (runOf monitored past)) before after (a.Ended x)

@@ -5,7 +5,7 @@ use mathlib.Core.Bool.{Bool, true, false}
 use mathlib.Core.List.{List, [], _∷_}
 use Rattle.model.specs.Output.{Answer as Meant}
 use Rattle.model.specs.Refusal.{Refusal, Sizes}
-use Rattle.model.specs.Result.{Result, refused, ran, monitored, unmonitored, Buffers, traceAfter, snapshotAfter, workAfter}
+use Rattle.model.specs.Result.{Result, refused, ran, monitored, unmonitored, Buffers, sizesOf, traceAfter, snapshotAfter, workAfter}
 use Rattle.command.specs.Reading.{refusalOf}
 use Rattle.turns.specs.Endings.{answerOf}
 use Rattle.run.specs.declared.answer.Answer.{Answer}
@@ -41,10 +41,31 @@ pub record BuffersAfter (result : Result) (before after : Buffers) : Type 0 wher
   pub snapshot : after .snapshot ≡ snapshotAfter result (before .snapshot)
   pub work : after .work ≡ workAfter result (before .work)
 
--- the answer and the three buffers afterwards are those of a result
-pub record Delivers (result : Result) (before after : Buffers) (x : Answer) : Type 0 where
-  pub told : toldBy x ≡ toldIn result
-  pub left : BuffersAfter result before after
+-- a call: the buffers before and after it, and what it tells
+pub record Call : Type 0 where
+  pub before : Buffers
+  pub after : Buffers
+  pub told : Told
+
+-- the call with these
+abbrev pub call : Buffers → Buffers → Told → Call
+call before after x = record { before = before; after = after; told = x }
+
+-- what a call tells and the buffers after it are those of a result
+pub record Gives (result : Result) (c : Call) : Type 0 where
+  pub told : c .told ≡ toldIn result
+  pub left : BuffersAfter result (c .before) (c .after)
+
+-- the same of an answer of the code
+abbrev pub Delivers : Result → Buffers → Buffers → Answer → Type 0
+Delivers result before after x = Gives result (call before after (toldBy x))
+
+-- what the entry points promise: the monitored ("watched") and the unmonitored ("bare") run of a job
+abbrev pub Monitored : List ℕ → Call → Type 0
+Monitored job c = Gives (monitored job (sizesOf (c .before))) c
+
+abbrev pub Unmonitored : List ℕ → Call → Type 0
+Unmonitored job c = Gives (unmonitored job (sizesOf (c .before))) c
 
 -- what is told, as eight numbers: number and place of the refusal, stop, completed turns, and the attempted entry; 0 where there is none
 abbrev pub numbersIn : Told → List ℕ

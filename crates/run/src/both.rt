@@ -1,11 +1,11 @@
 // Both runs of a job beside each other (01's "Watched beside bare"), each with buffers of its own.
-ghost use Rattle.run.specs.Answers.{buffers};
-ghost use Rattle.run.specs.Beside.{call, Compares};
+ghost use Rattle.run.specs.Answers.{toldBy, buffers, call};
+ghost use Rattle.run.specs.Beside.{Compares};
 use crate::answer::Answer;
 use crate::run_monitored;
 use crate::run_unmonitored;
 
-// The two answers. The runs part exactly if the monitored one ends with stop 1, and then behind as many turns as it has completed.
+// The two answers. If both runs accept the job, they part exactly if the monitored one ends with stop 1, and then behind as many turns as it has completed.
 pub struct Both {
     pub monitored: Answer,
     pub unmonitored: Answer,
@@ -17,14 +17,14 @@ pub fn run_both(
     trace: &mut [u8],
     picture: &mut [u8],
     work: &mut [u8],
-    bare_trace: &mut [u8],
-    bare_picture: &mut [u8],
-    bare_work: &mut [u8],
+    unmonitored_trace: &mut [u8],
+    unmonitored_picture: &mut [u8],
+    unmonitored_work: &mut [u8],
 ) -> Both
-    ensures { λ r. ⌜ Compares (now (job .entry)) (call (buffers (now (trace .entry)) (now (picture .entry)) (now (work .entry))) (buffers (now (trace .exit)) (now (picture .exit)) (now (work .exit))) (r .monitored)) (call (buffers (now («bare_trace» .entry)) (now («bare_picture» .entry)) (now («bare_work» .entry))) (buffers (now («bare_trace» .exit)) (now («bare_picture» .exit)) (now («bare_work» .exit))) (r .unmonitored)) ⌝ }
+    ensures { λ r. ⌜ Compares (now (job .entry)) (call (buffers (now (trace .entry)) (now (picture .entry)) (now (work .entry))) (buffers (now (trace .exit)) (now (picture .exit)) (now (work .exit))) (toldBy (r .monitored))) (call (buffers (now («unmonitored_trace» .entry)) (now («unmonitored_picture» .entry)) (now («unmonitored_work» .entry))) (buffers (now («unmonitored_trace» .exit)) (now («unmonitored_picture» .exit)) (now («unmonitored_work» .exit))) (toldBy (r .unmonitored))) ⌝ }
 {
     let monitored = run_monitored(job, trace, picture, work);
-    let unmonitored = run_unmonitored(job, bare_trace, bare_picture, bare_work);
+    let unmonitored = run_unmonitored(job, unmonitored_trace, unmonitored_picture, unmonitored_work);
     Both {
         monitored: monitored,
         unmonitored: unmonitored,

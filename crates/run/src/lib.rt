@@ -1,11 +1,11 @@
-// The run of a job, monitored (01's "watched") or unmonitored ("bare"). Every byte string and all buffers are taken.
+// The run of a job, monitored (01's "watched") or unmonitored ("bare"). Any bytes and any buffers are allowed.
 pub mod answer;
 pub mod both;
 mod exports;
 
-ghost use Rattle.model.specs.Result.{monitored, unmonitored, sizesOf};
-ghost use Rattle.run.specs.Answers.{buffers, resultFor, Delivers};
-ghost use Rattle.run.specs.Accepted.{Fitting, Hands};
+ghost use Rattle.model.specs.Result.{sizesOf};
+ghost use Rattle.run.specs.Answers.{toldBy, resultFor, buffers, call, Delivers, Monitored, Unmonitored};
+ghost use Rattle.run.specs.Accepted.{AcceptedWith, DeliversRun};
 use answer::Answer;
 use command::bytes;
 use declared::count_of;
@@ -28,8 +28,8 @@ fn run_accepted(
     work: &mut [u8],
     monitored: bool,
 ) -> Ending
-    requires { ⌜ Fitting (now job) (now t) (sizesOf (buffers (now trace) (now picture) (now work))) ⌝ }
-    ensures { λ r. ⌜ Hands monitored (now (job .entry)) (buffers (now (trace .entry)) (now (picture .entry)) (now (work .entry))) (buffers (now (trace .exit)) (now (picture .exit)) (now (work .exit))) r ⌝ }
+    requires { ⌜ AcceptedWith (now job) (now t) (sizesOf (buffers (now trace) (now picture) (now work))) ⌝ }
+    ensures { λ r. ⌜ DeliversRun monitored (now (job .entry)) (buffers (now (trace .entry)) (now (picture .entry)) (now (work .entry))) (buffers (now (trace .exit)) (now (picture .exit)) (now (work .exit))) r ⌝ }
 {
     load(job, work);
     let ran = run_turns(job, t, work, trace, monitored);
@@ -65,14 +65,14 @@ fn run(
 
 // The monitored run (01's "watched").
 pub fn run_monitored(job: &[u8], trace: &mut [u8], picture: &mut [u8], work: &mut [u8]) -> Answer
-    ensures { λ r. ⌜ Delivers (monitored (now (job .entry)) (sizesOf (buffers (now (trace .entry)) (now (picture .entry)) (now (work .entry))))) (buffers (now (trace .entry)) (now (picture .entry)) (now (work .entry))) (buffers (now (trace .exit)) (now (picture .exit)) (now (work .exit))) r ⌝ }
+    ensures { λ r. ⌜ Monitored (now (job .entry)) (call (buffers (now (trace .entry)) (now (picture .entry)) (now (work .entry))) (buffers (now (trace .exit)) (now (picture .exit)) (now (work .exit))) (toldBy r)) ⌝ }
 {
     run(job, trace, picture, work, true)
 }
 
 // The unmonitored run (01's "bare").
 pub fn run_unmonitored(job: &[u8], trace: &mut [u8], picture: &mut [u8], work: &mut [u8]) -> Answer
-    ensures { λ r. ⌜ Delivers (unmonitored (now (job .entry)) (sizesOf (buffers (now (trace .entry)) (now (picture .entry)) (now (work .entry))))) (buffers (now (trace .entry)) (now (picture .entry)) (now (work .entry))) (buffers (now (trace .exit)) (now (picture .exit)) (now (work .exit))) r ⌝ }
+    ensures { λ r. ⌜ Unmonitored (now (job .entry)) (call (buffers (now (trace .entry)) (now (picture .entry)) (now (work .entry))) (buffers (now (trace .exit)) (now (picture .exit)) (now (work .exit))) (toldBy r)) ⌝ }
 {
     run(job, trace, picture, work, false)
 }

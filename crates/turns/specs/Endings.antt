@@ -13,12 +13,12 @@ use Rattle.turns.specs.declared.ending.Stop.the-variants as s
 abbrev pub answerOf : Ending → Answer
 answerOf x = record { stop = x .stop; turns = x .turns; attempted = entryOf (x .attempted) }
 
--- the answer of a run whose next turn, behind so many completed ones, comes to this
+-- the answer of a run that is over behind so many completed turns, as the next one comes to this; none is over at a turn that is completed
 abbrev pub answerBy : ℕ → Turned → Answer
 answerBy turns (completed e s) = record { stop = 0; turns = turns; attempted = entry 0 0 0 0 }
 answerBy turns (stopped k e) = record { stop = k; turns = turns; attempted = e }
 
--- the answer of a run behind so many completed turns: its turns ran out, or its next turn, with this state after it, stopped it
+-- the answer of a run behind so many completed turns: its turns ran out, or the next one stopped it; the state after it does not matter
 abbrev pub answerAt : ℕ → Stop → State → Answer
 answerAt turns s.Never after = answerBy turns (stopped 0 (entry 0 0 0 0))
 answerAt turns (s.At outcome) after = answerBy turns (turnedBy outcome after)

@@ -15,13 +15,13 @@ pub struct Ending {
     pub attempted: Numbers,
 }
 
-// Whether a run was stopped, and by what its turn came to.
+// Whether a turn stopped the run, and what that turn came to.
 pub enum Stop {
     Never,
     At(Outcome),
 }
 
-// The ending with a stop, and no entry attempted but the node's.
+// The ending with a stop; of the attempted entry there is no more than the node.
 fn without_entry(stop: u32, turns: u32, node: u32) -> Ending
     ensures { λ r. ⌜ answerOf r ≡ answerBy turns (stopped stop (entry node 0 0 0)) ⌝ }
 {
@@ -37,7 +37,7 @@ fn without_entry(stop: u32, turns: u32, node: u32) -> Ending
     }
 }
 
-// How a run ends whose turn came to this, behind so many turns. One that made its entry was the last.
+// How a run ends that a turn stopped so, behind so many turns. No run is stopped by a turn that made its entry: that case is told as stop 0.
 fn ending_by(outcome: Outcome, turns: u32) -> Ending
     ensures { λ r. ⌜ ((after : State) → answerOf r ≡ answerBy turns (turnedBy outcome after)) ⌝ }
 {

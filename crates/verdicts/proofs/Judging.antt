@@ -11,28 +11,28 @@ use Rattle.model.specs.Declared.{countOf}
 use Rattle.model.specs.Refusal.{Refusal, refuse, accepted, rejected, decodeJob, Sizes, sizes, shortBuffer, decodeFor}
 use Rattle.command.specs.declared.read.Refusal.{Refusal as Refused}
 use Rattle.command.specs.Reading.{refusalOf}
+use Rattle.tables.specs.Cells.{blank}
 use Rattle.tables.specs.Stands.{Stands}
 use Rattle.job.specs.declared.Verdict.{Verdict}
 use Rattle.job.specs.declared.Verdict.the-variants as v
-use Rattle.job.specs.Decoding.{verdictOf, Verdicts}
-use Rattle.job.proofs.Judged.{accepts, refuses, Accepted}
+use Rattle.job.specs.Decoding.{verdictOf, Decides}
+use Rattle.job.proofs.Judged.{decides-accepted, decides-refused}
 
--- refused by the tests 1 to 9
-pub refused-before : (job : List ℕ) (b : Sizes) (t : List ℕ) (q : Refused) → decodeJob job ≡ rejected (refusalOf q) → Verdicts (decodeFor job b) t (v.Refused q)
-unfolding decodeFor
-refused-before job b t q e = refuses (decodeFor job b) t q (rw e)
+module _ (job : List ℕ) (b : Sizes) (t : List ℕ) where
+  -- refused by the tests 1 to 9
+  pub refused-before : (q : Refused) → decodeJob job ≡ rejected (refusalOf q) → t ≡ blank → Decides (decodeFor job b) t (v.Refused q)
+  unfolding decodeFor
+  refused-before q e = decides-refused (decodeFor job b) t q (rw e)
 
--- the tests 10 to 12 decide
-pub buffers-decide :
-    (job : List ℕ) (b : Sizes) (t : List ℕ) (r : Verdict) → Accepted (decodeJob job) t → ((past : List Command) → decodeJob job ≡ accepted past → Stands t past → verdictOf r ≡ shortBuffer job b past)
-    → Verdicts (decodeFor job b) t r
-unfolding decodeFor
-buffers-decide job b t v.Accepted a h =
-    let e = h (a .past) (a .decoded) (a .stands) in
-    accepts (decodeFor job b) t (a .past) (rw (a .decoded, ← e)) (a .stands)
-buffers-decide job b t (v.Refused q) a h =
-    let e = h (a .past) (a .decoded) (a .stands) in
-    refuses (decodeFor job b) t q (rw (a .decoded, ← e))
+  -- the tests 10 to 12 decide
+  module _ (past : List Command) (decoded : decodeJob job ≡ accepted past) (r : Verdict) (found : verdictOf r ≡ shortBuffer job b past) where
+    pub refused-behind : (q : Refused) → r ≡ v.Refused q → t ≡ blank → Decides (decodeFor job b) t (v.Refused q)
+    unfolding decodeFor
+    refused-behind q is = let e = rw is at found in decides-refused (decodeFor job b) t q (rw (decoded, ← e))
+
+    pub accepted-behind : r ≡ v.Accepted → Stands t past → Decides (decodeFor job b) t v.Accepted
+    unfolding decodeFor
+    accepted-behind is s = let e = rw is at found in decides-accepted (decodeFor job b) t (record { past = past; decoded = rw (decoded, ← e); stands = s })
 
 -- the first buffer that is too short, or none
 module _ (job : List ℕ) (past : List Command) (size turns trace snapshot work : ℕ) (long : length job ≡ size) (counted : countOf TURN past ≡ turns) where

@@ -7,13 +7,14 @@ ghost use Rattle.model.specs.Command.{Command};
 ghost use Rattle.model.specs.Declared.{countOf};
 ghost use Rattle.model.specs.Table.{TURN};
 ghost use Rattle.model.specs.Refusal.{sizes, shortBuffer, decodeFor};
-ghost use Rattle.job.specs.Decoding.{verdictOf, Verdicts};
+ghost use Rattle.job.specs.Decoding.{verdictOf, Decides};
 use command::bytes;
 use command::read::Refusal;
 use declared::count_of;
 use job::Verdict;
 use job::decode;
 use tables::cells::CELLS;
+use tables::cells::clear;
 
 // The lengths that the snapshot buffer (01's "picture buffer") and the work buffer must have.
 pub const SNAPSHOT: usize = 2624;
@@ -35,16 +36,23 @@ fn check_buffers(size: usize, turns: u32, trace: usize, snapshot: usize, work: u
     Verdict::Accepted
 }
 
-// The verdict on a job of any length with buffers of any lengths, and the tables of an accepted job.
+// The verdict on a job of any length with buffers of any lengths, whatever the tables held before: an accepted job leaves its tables, a refused one blank ones.
 pub fn judge(job: &[u8], t: &mut [u32; CELLS], trace: usize, snapshot: usize, work: usize) -> Verdict
-    ensures { λ r. ⌜ Verdicts (decodeFor (now (job .entry)) (sizes trace snapshot work)) (now (t .exit)) r ⌝ }
+    ensures { λ r. ⌜ Decides (decodeFor (now (job .entry)) (sizes trace snapshot work)) (now (t .exit)) r ⌝ }
 {
     let decoded = decode(job, t);
     match decoded {
         Verdict::Refused(r) => Verdict::Refused(r),
         Verdict::Accepted => {
             let turns = count_of(t, bytes::TURN);
-            check_buffers(job.len(), turns, trace, snapshot, work)
+            let checked = check_buffers(job.len(), turns, trace, snapshot, work);
+            match checked {
+                Verdict::Refused(r) => {
+                    clear(t);
+                    Verdict::Refused(r)
+                }
+                Verdict::Accepted => Verdict::Accepted,
+            }
         }
     }
 }

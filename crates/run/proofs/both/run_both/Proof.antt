@@ -1,8 +1,7 @@
 -- `run::both::run_both` meets its contract.
 use denote.Ref.{now}
 use borrow.Author.Needs.{needs}
-use Rattle.run.specs.Answers.{buffers}
-use Rattle.run.specs.Beside.{call}
+use Rattle.run.specs.Answers.{buffers, call}
 use Rattle.run.proofs.Beside.{compares}
 use Rattle.run.proofs.both.run_both.Statement.{statement}
 use Rattle.run.proofs.both.run_both.Tie as tie
@@ -34,7 +33,7 @@ same-length-6 c = search needs
 returns : tie.Need-returns
 returns c =
     let a = c .before .before .before .before .before .before .before .before .before .before .before .before .before .before .before .before .before .before .before .before .before .before .before .before .before .before .before .args in
-    compares (now (a .job)) (call (buffers (now (a .trace)) (now (a .picture)) (now (a .work))) (buffers _ _ _) _) (call (buffers (now (a .bare-trace)) (now (a .bare-picture)) (now (a .bare-work))) (buffers _ _ _) _) (c .before .before .before .before .before .before .before .before .before .before .before .before .before .before .before .before .run-monitored .ensures) (c .before .before .before .before .before .before .run-unmonitored .ensures)
+    compares (now (a .job)) (call (buffers (now (a .trace)) (now (a .picture)) (now (a .work))) (buffers _ _ _) _) (call (buffers (now (a .unmonitored-trace)) (now (a .unmonitored-picture)) (now (a .unmonitored-work))) (buffers _ _ _) _) (c .before .before .before .before .before .before .before .before .before .before .before .before .before .before .before .before .run-monitored .ensures) (c .before .before .before .before .before .before .run-unmonitored .ensures)
 
 pub run-both-spec : {M : Type 1} → statement M
 run-both-spec =

@@ -21,7 +21,7 @@ same-length-3 : tie.Need-same-length-3
 same-length-3 c = search needs
 
 returns : tie.Need-returns
-returns c = exports-numbers _ _ (buffers _ _ _) _ _ (c .before .before .before .before .before .before .before .run-unmonitored .ensures) (c .numbers-in .ensures)
+returns c = exports-numbers _ _ (buffers _ _ _) (c .before .before .before .before .before .before .before .run-unmonitored .result) _ (c .before .before .before .before .before .before .before .run-unmonitored .ensures) (c .numbers-in .ensures)
 
 pub leqsumir-run-unmonitored-spec : {M : Type 1} → statement M
 leqsumir-run-unmonitored-spec =
