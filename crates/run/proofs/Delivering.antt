@@ -36,7 +36,7 @@ use Rattle.run.specs.Accepted.{AcceptedWith, DeliversRun}
 use Rattle.run.specs.Answers.{answer, toldBy, numbersIn, resultFor, buffers, Delivers, Exports}
 
 -- accepted behind a further test: accepted before it, and the test finds nothing
-and-then-accepted : (test : List Command → Option Refusal) (d : Decoded) (past : List Command) → andThen test d ≡ accepted past → (d ≡ accepted past) × (test past ≡ none)
+pub and-then-accepted : (test : List Command → Option Refusal) (d : Decoded) (past : List Command) → andThen test d ≡ accepted past → (d ≡ accepted past) × (test past ≡ none)
 and-then-accepted test (accepted all) past e = by-test (test all) refl e
   where
     by-test : (r : Option Refusal) → test all ≡ r → acceptUnless all r ≡ accepted past → (accepted all ≡ accepted past) × (test past ≡ none)

@@ -1,0 +1,23 @@
+-- What the contracts on the input cite.
+use Prim.Native.Nat.{_≤_}
+use mathlib.Core.Bool.{Bool, true, false}
+use Rattle.conformance.specs.declared.input.Head.{Head}
+use Rattle.conformance.specs.declared.input.Record.{Record}
+use Rattle.conformance.specs.declared.input.Record.the-variants.{Run, End}
+
+-- the lengths of a run are at most the largest
+pub record Within (h : Head) : Type 0 where
+  pub job : h .job ≤ 16400
+  pub trace : h .trace ≤ 28800
+  pub picture : h .picture ≤ 2700
+  pub work : h .work ≤ 16500
+
+-- the test for it
+abbrev pub Short : Head → Bool → Type 0
+Short h true = Within h
+Short h false = Unit {0}
+
+-- a run that was read is within the lengths
+abbrev pub Fits : Record → Type 0
+Fits (Run h) = Within h
+Fits End = Unit {0}

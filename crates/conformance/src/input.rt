@@ -1,0 +1,95 @@
+// The runs on standard input: a head of 10 bytes, then the job's bytes.
+use libc::STDIN_FILENO;
+ghost use Prim.Native.Nat.{_<_, _≤_};
+ghost use lib.ListN.{length};
+ghost use Rattle.conformance.specs.Input.{Fits, Short};
+
+// What a run is asked to be: monitored or not, what its buffers hold before it, and the lengths of its job and of its buffers.
+pub struct Head {
+    pub monitored: bool,
+    pub seed: u8,
+    pub job: usize,
+    pub trace: usize,
+    pub picture: usize,
+    pub work: usize,
+}
+
+// What stands next on standard input: a run, or none.
+pub enum Record {
+    Run(Head),
+    End,
+}
+
+// The largest lengths.
+pub const JOB: usize = 16400;
+
+pub const TRACE: usize = 28800;
+
+pub const PICTURE: usize = 2700;
+
+pub const WORK: usize = 16500;
+
+// A byte as a number, which is below 256.
+pub fn wide(x: u8) -> usize
+    ensures { λ r. ⌜ r < 256 ⌝ }
+{
+    x as usize
+}
+
+// The number of two bytes, lowest first.
+fn pair(low: u8, high: u8) -> usize {
+    wide(low) + wide(high) * 256
+}
+
+// Reads a head; at the end of the input, be it inside a head, there is none.
+fn read_head() -> Record {
+    let mut head = [0u8; 10];
+    if io::read_full(STDIN_FILENO, &mut head) < 10 {
+        return Record::End;
+    }
+    Record::Run(Head {
+        monitored: head[0] == 0,
+        seed: head[1],
+        job: pair(head[2], head[3]),
+        trace: pair(head[4], head[5]),
+        picture: pair(head[6], head[7]),
+        work: pair(head[8], head[9]),
+    })
+}
+
+// Whether every length is at most the largest.
+fn is_short(head: Head) -> bool
+    ensures { λ r. ⌜ Short head r ⌝ }
+{
+    if JOB < head.job {
+        return false;
+    }
+    if TRACE < head.trace {
+        return false;
+    }
+    if PICTURE < head.picture {
+        return false;
+    }
+    if WORK < head.work {
+        return false;
+    }
+    true
+}
+
+// Reads the next run, its job into the front of the buffer. The runs are over where the input ends, be it inside a run, and at a length
+// above the largest.
+pub fn read_run(job: &mut [u8]) -> Record
+    requires { ⌜ 16400 ≤ length (now job) ⌝ }
+    ensures { λ r. ⌜ Fits r ⌝ }
+{
+    let Record::Run(head) = read_head() else {
+        return Record::End;
+    };
+    let size = head.job;
+    if is_short(head) {
+        if io::read_full(STDIN_FILENO, &mut job[..size]) == size {
+            return Record::Run(head);
+        }
+    }
+    Record::End
+}

@@ -1,0 +1,78 @@
+// Reads a job from standard input, runs it monitored (01's "watched"), or unmonitored with the argument `bare`, and prints the lines of its run.
+use libc::STDERR_FILENO;
+use libc::STDIN_FILENO;
+use libc::STDOUT_FILENO;
+use printing::program::run_to_text;
+
+// The bytes that are read at most: one more than a job may have, so that a longer one is refused for its length.
+const JOB: usize = 16385;
+
+// The bytes of the trace, snapshot (01's "picture") and work buffers: 7 for each of 4,096 turns, and what every run asks for.
+const TRACE: usize = 28672;
+
+const PICTURE: usize = 2624;
+
+const WORK: usize = 16384;
+
+// The bytes of text that a run prints at most.
+const TEXT: usize = 131072;
+
+// What the program is started for.
+enum Order {
+    Run(bool),
+    Unknown,
+}
+
+// Whether a word is `bare`.
+fn is_bare(word: &[u8]) -> bool {
+    if word.len() == 4 {
+        word[0] == b'b' && word[1] == b'a' && word[2] == b'r' && word[3] == b'e'
+    } else {
+        false
+    }
+}
+
+// What the arguments ask for: a monitored run without one, an unmonitored one with `bare` alone.
+fn asked() -> Order {
+    let count = os::arg_count();
+    if count < 2 {
+        return Order::Run(true);
+    }
+    let mut word = [0u8; 8];
+    let size = os::arg(1, &mut word);
+    if count == 2 && is_bare(&word[..size]) {
+        return Order::Run(false);
+    }
+    Order::Unknown
+}
+
+// Runs the job on standard input and prints its lines.
+fn print(monitored: bool) {
+    let mut job = [0u8; JOB];
+    let mut trace = [0u8; TRACE];
+    let mut picture = [0u8; PICTURE];
+    let mut work = [0u8; WORK];
+    let mut text = [0u8; TEXT];
+    let size = io::read_full(STDIN_FILENO, &mut job);
+    let printed = run_to_text(
+        &mut text,
+        0,
+        &job[..size],
+        &mut trace,
+        &mut picture,
+        &mut work,
+        monitored,
+    );
+    let end = printed.next;
+    io::write_all(STDOUT_FILENO, &text[..end]);
+}
+
+fn main() {
+    let order = asked();
+    match order {
+        Order::Run(monitored) => print(monitored),
+        Order::Unknown => {
+            io::write_all(STDERR_FILENO, b"usage: flowrun [bare]\n");
+        }
+    }
+}

@@ -1,0 +1,99 @@
+-- What is printed of bytes depends on those alone that are named: bytes behind them change no line.
+use Prim.Native.Nat.{ℕ, zero, suc, _+_, _*_, _≤_, _<_}
+use mathlib.Core.Path.{_≡_, refl, ap, _∙_}
+use mathlib.Core.List.{List, [], _∷_, _++_, append-assoc}
+use native.Mathlib.Omega.{arith}
+use lib.ListN.{length, getD, length-append, List·getD-append}
+use lib.Seq.{getD-append-add}
+use Rattle.model.specs.Command.{numberAt}
+use Rattle.model.specs.Output.{Answer, nodeBytes, nodesBytes}
+use Rattle.model.specs.State.{State, waitingAt as waitingIn}
+use Rattle.model.proofs.Reading.{number-one}
+use Rattle.model.proofs.Bounds.{length-node}
+use Rattle.printing.specs.Printing.{firstOf, entryLine, messagesAt, waitingAt, nextPart, partAt, nodeLine, variableLine, nodeLines, snapshotLines, runLines}
+use Rattle.printing.proofs.Parts.{part-inside, partLine}
+
+-- texts that are the same one by one
+same-first : (f g : ℕ → List ℕ) (n : ℕ) → ((k : ℕ) → k < n → f k ≡ g k) → firstOf f n ≡ firstOf g n
+unfolding firstOf
+same-first f g zero same = refl
+same-first f g (suc n) same =
+    ap (λ (l : List ℕ). l ++ f n) (same-first f g n (λ k h. same k (omega arith))) ∙ ap (λ (l : List ℕ). firstOf g n ++ l) (same n (omega arith))
+
+module _ (xs ys : List ℕ) where
+  number-front : (at w : ℕ) → at + w ≤ length xs → numberAt (xs ++ ys) at w ≡ numberAt xs at w
+  unfolding numberAt
+  number-front at zero h = refl
+  number-front at (suc w) h =
+      ap (λ (b : ℕ). b + 256 * numberAt (xs ++ ys) (at + 1) w) (List·getD-append xs ys 0 at (omega arith))
+      ∙ ap (λ (n : ℕ). getD xs at 0 + 256 * n) (number-front (at + 1) w (omega arith))
+
+  -- the trace
+  entry-front : (k : ℕ) → 7 * k + 7 ≤ length xs → entryLine (xs ++ ys) k ≡ entryLine xs k
+  unfolding entryLine
+  entry-front k h =
+      rw (number-front (7 * k) 1 (omega arith), number-front (7 * k + 1) 1 (omega arith), number-front (7 * k + 2) 1 (omega arith), number-front (7 * k + 3) 4 (omega arith))
+
+  pub entries-front : (n : ℕ) → 7 * n ≤ length xs → firstOf (entryLine (xs ++ ys)) n ≡ firstOf (entryLine xs) n
+  entries-front n h = same-first (entryLine (xs ++ ys)) (entryLine xs) n (λ k i. entry-front k (omega arith))
+
+  -- the snapshot
+  part-front : (n : ℕ) → partAt xs n ≤ length xs → partAt (xs ++ ys) n ≡ partAt xs n
+  unfolding partAt
+  part-front zero h = refl
+  part-front (suc n) h =
+      let same = part-front n (omega arith) in
+      rw (same, number-front (partAt xs n + 9) 1 (omega arith))
+
+  messages-front : (place count : ℕ) → place + 4 * count ≤ length xs → messagesAt (xs ++ ys) place count ≡ messagesAt xs place count
+  unfolding messagesAt
+  messages-front place count h =
+      same-first (λ i. numberAt (xs ++ ys) (place + 4 * i) 4 ∷ []) (λ i. numberAt xs (place + 4 * i) 4 ∷ []) count
+      (λ k i. ap (λ (v : ℕ). v ∷ []) (number-front (place + 4 * k) 4 (omega arith)))
+
+  node-front : (place n : ℕ) → nextPart xs place ≤ length xs → nodeLine (xs ++ ys) place n ≡ nodeLine xs place n
+  unfolding nodeLine
+  node-front place n h =
+      rw (number-front place 1 (omega arith), number-front (place + 1) 4 (omega arith), number-front (place + 5) 4 (omega arith), number-front (place + 9) 1 (omega arith), messages-front (place + 10) (waitingAt xs place) (omega arith))
+
+  variable-front : (place x : ℕ) → place + 4 * x + 4 ≤ length xs → variableLine (xs ++ ys) place x ≡ variableLine xs place x
+  unfolding variableLine
+  variable-front place x h = rw (number-front (place + 4 * x) 4 (omega arith))
+
+  module _ (nodes variables : ℕ) (fits : partAt xs nodes + 4 * variables ≤ length xs) where
+    parts-front : (n : ℕ) → n < nodes → partLine (xs ++ ys) n ≡ partLine xs n
+    parts-front n h =
+        let inside = part-inside xs nodes variables n (partAt xs n) fits h refl in
+        ap (λ (p : ℕ). nodeLine (xs ++ ys) p n) (part-front n (omega arith)) ∙ node-front (partAt xs n) n inside
+
+    pub parts-end : partAt (xs ++ ys) nodes ≡ partAt xs nodes
+    parts-end = part-front nodes (omega arith)
+
+    pub picture-front : snapshotLines (xs ++ ys) nodes variables ≡ snapshotLines xs nodes variables
+    unfolding snapshotLines
+    picture-front =
+        ap (λ (l : List ℕ). l ++ firstOf (variableLine (xs ++ ys) (partAt (xs ++ ys) nodes)) variables) (same-first (partLine (xs ++ ys)) (partLine xs) nodes parts-front)
+        ∙ ap (λ (p : ℕ). nodeLines xs nodes ++ firstOf (variableLine (xs ++ ys) p) variables) parts-end
+        ∙ ap (λ (l : List ℕ). nodeLines xs nodes ++ l)
+        (same-first (variableLine (xs ++ ys) (partAt xs nodes)) (variableLine xs (partAt xs nodes)) variables (λ x h. variable-front (partAt xs nodes) x (omega arith)))
+
+-- a run
+pub run-front :
+    (a : Answer) (trace more picture rest : List ℕ) (nodes variables : ℕ) → 7 * (a .turns) ≤ length trace → partAt picture nodes + 4 * variables ≤ length picture
+    → runLines a (trace ++ more) (picture ++ rest) nodes variables ≡ runLines a trace picture nodes variables
+unfolding runLines
+run-front a trace more picture rest nodes variables h i = rw (entries-front trace more (a .turns) h, picture-front picture rest nodes variables i)
+
+-- the parts of the nodes of a state begin where the definition says
+pub parts-of : (s : State) (k : ℕ) (rest : List ℕ) → partAt (nodesBytes s k ++ rest) k ≡ length (nodesBytes s k)
+unfolding partAt nodesBytes
+parts-of s zero rest = refl
+parts-of s (suc k) rest =
+    let nodes = nodesBytes s k in
+    let all = nodes ++ (nodeBytes s k ++ rest) in
+    let size = length nodes in
+    let waits : waitingAt all size ≡ waitingIn s k = number-one all (size + 9) ∙ getD-append-add nodes (nodeBytes s k ++ rest) 9 0 in
+    ap (λ (l : List ℕ). partAt l (suc k)) (append-assoc nodes (nodeBytes s k) rest)
+    ∙ ap (λ (p : ℕ). nextPart all p) (parts-of s k (nodeBytes s k ++ rest))
+    ∙ ap (λ (w : ℕ). size + 10 + 4 * w) waits
+    ∙ omega (arith, length-append nodes (nodeBytes s k), length-node s k)

@@ -1,0 +1,98 @@
+// A job that is run, and the lines of its run.
+ghost use Prim.Native.Nat.{_+_, _*_, _≤_};
+ghost use lib.ListN.{length};
+ghost use Rattle.model.specs.Refusal.{decodeJob};
+ghost use Rattle.model.specs.Result.{sizesOf};
+ghost use Rattle.handlers.specs.Loading.{IsAccepted};
+ghost use Rattle.writing.specs.Writing.{Writes};
+ghost use Rattle.turns.specs.Endings.{answerOf};
+ghost use Rattle.run.specs.Answers.{buffers, resultFor, Delivers};
+ghost use Rattle.printing.specs.Printing.{partAt, runLines, nodesIn, variablesIn, resultLines};
+use crate::put_refusal;
+use crate::put_run;
+use command::bytes;
+use declared::count_of;
+use job::decode;
+use run::answer::Answer;
+use turns::ending::Ending;
+use run::run_monitored;
+use run::run_unmonitored;
+use tables::cells::CELLS;
+
+// A run that is printed: the place behind its lines, and its answer.
+pub struct Printed {
+    pub next: usize,
+    pub answer: Answer,
+}
+
+// The run of a job, monitored (01's "watched") or not ("bare").
+fn run_as(
+    job: &[u8],
+    trace: &mut [u8],
+    picture: &mut [u8],
+    work: &mut [u8],
+    monitored: bool,
+) -> Answer
+    ensures { λ r. ⌜ Delivers (resultFor monitored (now (job .entry)) (sizesOf (buffers (now (trace .entry)) (now (picture .entry)) (now (work .entry))))) (buffers (now (trace .entry)) (now (picture .entry)) (now (work .entry))) (buffers (now (trace .exit)) (now (picture .exit)) (now (work .exit))) r ⌝ }
+{
+    if monitored {
+        return run_monitored(job, trace, picture, work);
+    }
+    run_unmonitored(job, trace, picture, work)
+}
+
+// Puts the lines of the run of an accepted job, which says how many nodes and variables the snapshot shows.
+fn put_ended(
+    text: &mut [u8],
+    at: usize,
+    ending: Ending,
+    job: &[u8],
+    trace: &[u8],
+    picture: &[u8],
+) -> usize
+    requires { ⌜ IsAccepted (decodeJob (now job)) ⌝ }
+    requires { ⌜ 7 * (ending .turns) ≤ length (now trace) ⌝ }
+    requires { ⌜ partAt (now picture) (nodesIn (now job)) + 4 * variablesIn (now job) ≤ length (now picture) ⌝ }
+    requires { ⌜ at + length (runLines (answerOf ending) (now trace) (now picture) (nodesIn (now job)) (variablesIn (now job))) ≤ length (now text) ⌝ }
+    ensures { λ r. ⌜ Writes (runLines (answerOf ending) (now (trace .entry)) (now (picture .entry)) (nodesIn (now (job .entry))) (variablesIn (now (job .entry)))) (now (text .entry)) at (now (text .exit)) r ⌝ }
+{
+    let mut t = [0u32; CELLS];
+    decode(job, &mut t);
+    let nodes = count_of(&t, bytes::NODE) as usize;
+    let variables = count_of(&t, bytes::VAR) as usize;
+    put_run(text, at, ending, trace, picture, nodes, variables)
+}
+
+// Runs a job and puts the lines of its run, at most 131,072 bytes.
+pub fn run_to_text(
+    text: &mut [u8],
+    at: usize,
+    job: &[u8],
+    trace: &mut [u8],
+    picture: &mut [u8],
+    work: &mut [u8],
+    monitored: bool,
+) -> Printed
+    requires { ⌜ at + 131072 ≤ length (now text) ⌝ }
+    ensures { λ r. ⌜ r .next ≤ at + 131072 ⌝ }
+    ensures { λ r. ⌜ Writes (resultLines (now (job .entry)) (resultFor monitored (now (job .entry)) (sizesOf (buffers (now (trace .entry)) (now (picture .entry)) (now (work .entry)))))) (now (text .entry)) at (now (text .exit)) (r .next) ⌝ }
+    ensures { λ r. ⌜ Delivers (resultFor monitored (now (job .entry)) (sizesOf (buffers (now (trace .entry)) (now (picture .entry)) (now (work .entry))))) (buffers (now (trace .entry)) (now (picture .entry)) (now (work .entry))) (buffers (now (trace .exit)) (now (picture .exit)) (now (work .exit))) (r .answer) ⌝ }
+{
+    let answer = run_as(job, trace, picture, work, monitored);
+    match answer {
+        Answer::Refused(refusal) => {
+            let next = put_refusal(text, at, refusal);
+            Printed {
+                next: next,
+                answer: answer,
+            }
+        }
+        Answer::Ended(ending) => {
+            let next = put_ended(text, at, ending, job, trace, picture);
+            Printed {
+                next: next,
+                answer: answer,
+            }
+        }
+    }
+}
