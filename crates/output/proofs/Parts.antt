@@ -53,7 +53,7 @@ module _ (s : State) (bounded : Bounded (s .waiting)) (counts : length (s .waiti
       let long = length-messages (s .queue) (n * 16) (getD (s .waiting) n 0) (omega (arith, bounded n)) in
       let short : length (partBytes (registersOf s n) (getD (s .waiting) n 0) (s .queue) (n * 16)) ≤ 74 = omega (arith, long, bounded n) in
       let e : nodesBytes (view s) (n + 1) ≡ nodesBytes (view s) n ++ partBytes (registersOf s n) (getD (s .waiting) n 0) (s .queue) (n * 16) =
-        ap (nodesBytes (view s)) (add-one n) ∙ nodes-next (view s) n ∙ ap (λ (l : List ℕ). nodesBytes (view s) n ++ l) (part-node n) in
+      ap (nodesBytes (view s)) (add-one n) ∙ nodes-next (view s) n ∙ ap (λ (l : List ℕ). nodesBytes (view s) n ++ l) (part-node n) in
       record {
         writes = rw e (writes-on _ _ before 0 picture at after next (omega (arith, w .place, w .writes .place)) (w .writes) p);
         place = omega (arith, p .place, w .place);

@@ -1,5 +1,6 @@
 // Entries in document 01's numbers.
 ghost use mathlib.Core.Path.{_≡_};
+ghost use Rattle.model.specs.Turn.{entry};
 ghost use Rattle.entries.specs.Entries.{numbersOf};
 ghost use Rattle.output.specs.Output.{entryOf};
 use entries::Entry;
@@ -13,6 +14,18 @@ pub struct Numbers {
     pub value: u32,
 }
 
+// These numbers together.
+fn numbered(node: u32, kind: u32, number: u32, value: u32) -> Numbers
+    ensures { λ r. ⌜ entryOf r ≡ entry node kind number value ⌝ }
+{
+    Numbers {
+        node: node,
+        kind: kind,
+        number: number,
+        value: value,
+    }
+}
+
 // The numbers of an entry.
 pub fn numbers_of(entry: Entry) -> Numbers
     ensures { λ r. ⌜ entryOf r ≡ numbersOf entry ⌝ }
@@ -21,12 +34,12 @@ pub fn numbers_of(entry: Entry) -> Numbers
     let node = n.0;
     let event = entry.event;
     match event {
-        Event::Other => Numbers { node: node, kind: 0, number: 0, value: 0 },
-        Event::Begin(message) => Numbers { node: node, kind: 1, number: 0, value: message },
-        Event::Finish => Numbers { node: node, kind: 2, number: 0, value: 0 },
-        Event::Read(x, value) => Numbers { node: node, kind: 3, number: x.0, value: value },
-        Event::Write(x, value) => Numbers { node: node, kind: 4, number: x.0, value: value },
-        Event::Call(f, argument) => Numbers { node: node, kind: 5, number: f.0, value: argument },
-        Event::Send(port, value) => Numbers { node: node, kind: 6, number: port, value: value },
+        Event::Other => numbered(node, 0, 0, 0),
+        Event::Begin(message) => numbered(node, 1, 0, message),
+        Event::Finish => numbered(node, 2, 0, 0),
+        Event::Read(x, value) => numbered(node, 3, x.0, value),
+        Event::Write(x, value) => numbered(node, 4, x.0, value),
+        Event::Call(f, argument) => numbered(node, 5, f.0, argument),
+        Event::Send(port, value) => numbered(node, 6, port, value),
     }
 }

@@ -14,7 +14,14 @@ use writing::put_word;
 use writing::put_words;
 
 // Writes the part of one node: position, accumulator, message, how many messages wait, and these, from their first slot on.
-fn put_node(picture: &mut [u8], at: usize, x: Registers, waiting: u8, queue: &[u32], first: usize) -> usize
+fn put_node(
+    picture: &mut [u8],
+    at: usize,
+    x: Registers,
+    waiting: u8,
+    queue: &[u32],
+    first: usize,
+) -> usize
     requires { ⌜ (at + 74 ≤ length (now picture)) × (x .position < 256) ⌝ }
     requires { ⌜ (waiting ≤ 16) × (first + 16 ≤ length (now queue)) ⌝ }
     ensures { λ r. ⌜ Writes (partBytes x waiting (now (queue .entry)) first) (now (picture .entry)) at (now (picture .exit)) r ⌝ }

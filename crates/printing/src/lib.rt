@@ -12,9 +12,9 @@ ghost use Rattle.printing.specs.Printing.{partAt, endLine, runLines, ref
 use command::read::Refusal;
 pub use fields::put;
 use fields::put_line;
-use turns::ending::Ending;
 use snapshot::put_snapshot;
 use trace::put_entries;
+use turns::ending::Ending;
 
 // Puts the line of a refusal: `refused`, number, place.
 pub fn put_refusal(text: &mut [u8], at: usize, refusal: Refusal) -> usize

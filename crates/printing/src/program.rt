@@ -14,10 +14,10 @@ use command::bytes;
 use declared::count_of;
 use job::decode;
 use run::answer::Answer;
-use turns::ending::Ending;
 use run::run_monitored;
 use run::run_unmonitored;
 use tables::cells::CELLS;
+use turns::ending::Ending;
 
 // A run that is printed: the place behind its lines, and its answer.
 pub struct Printed {

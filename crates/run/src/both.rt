@@ -24,7 +24,12 @@ pub fn run_both(
     ensures { λ r. ⌜ Compares (now (job .entry)) (call (buffers (now (trace .entry)) (now (picture .entry)) (now (work .entry))) (buffers (now (trace .exit)) (now (picture .exit)) (now (work .exit))) (toldBy (r .monitored))) (call (buffers (now («unmonitored_trace» .entry)) (now («unmonitored_picture» .entry)) (now («unmonitored_work» .entry))) (buffers (now («unmonitored_trace» .exit)) (now («unmonitored_picture» .exit)) (now («unmonitored_work» .exit))) (toldBy (r .unmonitored))) ⌝ }
 {
     let monitored = run_monitored(job, trace, picture, work);
-    let unmonitored = run_unmonitored(job, unmonitored_trace, unmonitored_picture, unmonitored_work);
+    let unmonitored = run_unmonitored(
+        job,
+        unmonitored_trace,
+        unmonitored_picture,
+        unmonitored_work,
+    );
     Both {
         monitored: monitored,
         unmonitored: unmonitored,

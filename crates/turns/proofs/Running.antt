@@ -216,9 +216,9 @@ module _ (monitored : Bool) (job t w : List ℕ) (ready : Ready job t w) where
         never = λ h. none;
         going = λ h. u;
         ended = λ h x told.
-          over u (record { state = s; ending = x }) 0 (entry 0 0 0 0)
-          (u .same ∙ behind-ended rule (turnsOf past) (u .done) k (view s) (omega (arith, prepares .turns)))
-          refl (u .bounded) (told (view s) ∙ ap (λ (y : Stop). answerAt k y (view s)) none);
+            over u (record { state = s; ending = x }) 0 (entry 0 0 0 0)
+            (u .same ∙ behind-ended rule (turnsOf past) (u .done) k (view s) (omega (arith, prepares .turns)))
+            refl (u .bounded) (told (view s) ∙ ap (λ (y : Stop). answerAt k y (view s)) none);
       }
 
 -- the run is over at a stop

@@ -18,6 +18,7 @@ use tables::cells::clear;
 
 // The lengths that the snapshot buffer (01's "picture buffer") and the work buffer must have.
 pub const SNAPSHOT: usize = 2624;
+
 pub const WORK: usize = 16384;
 
 // The tests 10 to 12: a job of this length and so many turns, with buffers of these lengths.
@@ -25,19 +26,34 @@ fn check_buffers(size: usize, turns: u32, trace: usize, snapshot: usize, work: u
     ensures { λ r. ⌜ ((job : List ℕ) (past : List Command) → length job ≡ size → countOf TURN past ≡ turns → verdictOf r ≡ shortBuffer job (sizes trace snapshot work) past) ⌝ }
 {
     if trace < 7 * (turns as usize) {
-        return Verdict::Refused(Refusal { number: 10, place: size });
+        return Verdict::Refused(Refusal {
+            number: 10,
+            place: size,
+        });
     }
     if snapshot < SNAPSHOT {
-        return Verdict::Refused(Refusal { number: 11, place: size });
+        return Verdict::Refused(Refusal {
+            number: 11,
+            place: size,
+        });
     }
     if work < WORK {
-        return Verdict::Refused(Refusal { number: 12, place: size });
+        return Verdict::Refused(Refusal {
+            number: 12,
+            place: size,
+        });
     }
     Verdict::Accepted
 }
 
 // The verdict on a job of any length with buffers of any lengths, whatever the tables held before: an accepted job leaves its tables, a refused one blank ones.
-pub fn judge(job: &[u8], t: &mut [u32; CELLS], trace: usize, snapshot: usize, work: usize) -> Verdict
+pub fn judge(
+    job: &[u8],
+    t: &mut [u32; CELLS],
+    trace: usize,
+    snapshot: usize,
+    work: usize,
+) -> Verdict
     ensures { λ r. ⌜ Decides (decodeFor (now (job .entry)) (sizes trace snapshot work)) (now (t .exit)) r ⌝ }
 {
     let decoded = decode(job, t);
