@@ -1,7 +1,8 @@
 pub mod Decimals
-pub mod Putting
-pub mod Texts
-pub mod Parts
 pub mod Fronts
-pub mod Short
 pub mod Outcomes
+pub mod Parts
+pub mod Putting
+pub mod Short
+pub mod Texts
+pub mod Worked

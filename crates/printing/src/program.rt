@@ -14,8 +14,7 @@ use command::bytes;
 use declared::count_of;
 use job::decode;
 use run::answer::Answer;
-use run::run_monitored;
-use run::run_unmonitored;
+use run::run;
 use tables::cells::CELLS;
 use turns::ending::Ending;
 
@@ -23,22 +22,6 @@ use turns::ending::Ending;
 pub struct Printed {
     pub next: usize,
     pub answer: Answer,
-}
-
-// The run of a job, monitored (01's "watched") or not ("bare").
-fn run_as(
-    job: &[u8],
-    trace: &mut [u8],
-    picture: &mut [u8],
-    work: &mut [u8],
-    monitored: bool,
-) -> Answer
-    ensures { λ r. ⌜ Delivers (resultFor monitored (now (job .entry)) (sizesOf (buffers (now (trace .entry)) (now (picture .entry)) (now (work .entry))))) (buffers (now (trace .entry)) (now (picture .entry)) (now (work .entry))) (buffers (now (trace .exit)) (now (picture .exit)) (now (work .exit))) r ⌝ }
-{
-    if monitored {
-        return run_monitored(job, trace, picture, work);
-    }
-    run_unmonitored(job, trace, picture, work)
 }
 
 // Puts the lines of the run of an accepted job, which says how many nodes and variables the snapshot shows.
@@ -78,7 +61,7 @@ pub fn run_to_text(
     ensures { λ r. ⌜ Writes (resultLines (now (job .entry)) (resultFor monitored (now (job .entry)) (sizesOf (buffers (now (trace .entry)) (now (picture .entry)) (now (work .entry)))))) (now (text .entry)) at (now (text .exit)) (r .next) ⌝ }
     ensures { λ r. ⌜ Delivers (resultFor monitored (now (job .entry)) (sizesOf (buffers (now (trace .entry)) (now (picture .entry)) (now (work .entry))))) (buffers (now (trace .entry)) (now (picture .entry)) (now (work .entry))) (buffers (now (trace .exit)) (now (picture .exit)) (now (work .exit))) (r .answer) ⌝ }
 {
-    let answer = run_as(job, trace, picture, work, monitored);
+    let answer = run(job, trace, picture, work, monitored);
     match answer {
         Answer::Refused(refusal) => {
             let next = put_refusal(text, at, refusal);

@@ -10,8 +10,8 @@ use Rattle.printing.proofs.Short.{refused-short}
 use Rattle.printing.proofs.program.run_to_text.Statement.{statement}
 use Rattle.printing.proofs.program.run_to_text.Tie as tie
 
-run-as-requires : tie.Need-run-as-requires
-run-as-requires c κs = search needs
+run-requires : tie.Need-run-requires
+run-requires c κs = search needs
 
 enum-known-answer : tie.Need-enum-known-answer
 enum-known-answer c = search needs
@@ -25,7 +25,7 @@ enum-known-answer-2 c = search needs
 put-ended-requires : tie.Need-put-ended-requires
 put-ended-requires c κs =
     let z = c .before .before .before .before .before .before .before .before .before .before .before .before .before .before .before .before .before .before .before .before .before .args in
-    let e = ended-as (z .monitored) (now (z .job)) (buffers (now (z .trace)) (now (z .picture)) (now (z .work))) _ _ _ (c .before .before .before .before .before .before .before .before .before .before .before .before .run-as .ensures) (c .before .before .before .before .answer2 .given .1) in
+    let e = ended-as (z .monitored) (now (z .job)) (buffers (now (z .trace)) (now (z .picture)) (now (z .work))) _ _ _ (c .before .before .before .before .before .before .before .before .before .before .before .before .run .ensures) (c .before .before .before .before .answer2 .given .1) in
     (is-accepted _ _ _ _ _ e, (trace-inside _ _ _ _ _ e, (picture-inside _ _ _ _ _ e, omega (arith, c .before .before .before .before .before .before .before .before .before .before .before .before .before .before .before .before .before .before .before .before .before .pre, lines-short _ _ _ _ _ e (λ i. omega (arith, c .before .before .before .before .before .before .before .before .before .before .slice-known5 .given i)) (λ i. omega (arith, c .before .before .before .before .before .before .before .before .slice-known6 .given i))))))
 
 same-length : tie.Need-same-length
@@ -43,8 +43,8 @@ same-length-4 c = search needs
 returns : tie.Need-returns
 returns c =
     let z = c .before .before .before .before .before .before .before .before .before .before .before .before .before .before .before .before .before .before .before .before .before .before .args in
-    let same = ap (resultLines (now (z .job))) (refused-result _ _ _ _ _ (c .before .before .before .before .before .before .before .before .before .before .before .before .before .run-as .ensures) (c .before .before .before .before .before .answer .given .1)) in
-    (omega (arith, c .before .before .put-refusal .ensures .place, refused-short (c .before .before .before .before .before .answer .given .0 .0 .number) (c .before .before .before .before .before .answer .given .0 .0 .place)), (rw same (c .before .before .put-refusal .ensures), rw (c .before .before .before .before .before .answer .given .1) at (c .before .before .before .before .before .before .before .before .before .before .before .before .before .run-as .ensures)))
+    let same = ap (resultLines (now (z .job))) (refused-result _ _ _ _ _ (c .before .before .before .before .before .before .before .before .before .before .before .before .before .run .ensures) (c .before .before .before .before .before .answer .given .1)) in
+    (omega (arith, c .before .before .put-refusal .ensures .place, refused-short (c .before .before .before .before .before .answer .given .0 .0 .number) (c .before .before .before .before .before .answer .given .0 .0 .place)), (rw same (c .before .before .put-refusal .ensures), rw (c .before .before .before .before .before .answer .given .1) at (c .before .before .before .before .before .before .before .before .before .before .before .before .before .run .ensures)))
 
 same-length-5 : tie.Need-same-length-5
 same-length-5 c = search needs
@@ -61,14 +61,14 @@ same-length-8 c = search needs
 returns-2 : tie.Need-returns-2
 returns-2 c =
     let z = c .before .before .before .before .before .before .before .before .before .before .before .before .before .before .before .before .before .before .before .before .before .before .before .before .args in
-    let e = ended-as (z .monitored) (now (z .job)) (buffers (now (z .trace)) (now (z .picture)) (now (z .work))) _ _ _ (c .before .before .before .before .before .before .before .before .before .before .before .before .before .before .before .run-as .ensures) (c .before .before .before .before .before .before .before .answer2 .given .1) in
-    (omega (arith, c .before .before .put-ended .ensures .place, lines-short _ _ _ _ _ e (λ i. omega (arith, c .before .before .before .before .before .before .before .before .before .before .before .before .before .slice-known5 .given i)) (λ i. omega (arith, c .before .before .before .before .before .before .before .before .before .before .before .slice-known6 .given i))), (rw (lines-same _ _ _ _ _ e) at (c .before .before .put-ended .ensures), rw (c .before .before .before .before .before .before .before .answer2 .given .1) at (c .before .before .before .before .before .before .before .before .before .before .before .before .before .before .before .run-as .ensures)))
+    let e = ended-as (z .monitored) (now (z .job)) (buffers (now (z .trace)) (now (z .picture)) (now (z .work))) _ _ _ (c .before .before .before .before .before .before .before .before .before .before .before .before .before .before .before .run .ensures) (c .before .before .before .before .before .before .before .answer2 .given .1) in
+    (omega (arith, c .before .before .put-ended .ensures .place, lines-short _ _ _ _ _ e (λ i. omega (arith, c .before .before .before .before .before .before .before .before .before .before .before .before .before .slice-known5 .given i)) (λ i. omega (arith, c .before .before .before .before .before .before .before .before .before .before .before .slice-known6 .given i))), (rw (lines-same _ _ _ _ _ e) at (c .before .before .put-ended .ensures), rw (c .before .before .before .before .before .before .before .answer2 .given .1) at (c .before .before .before .before .before .before .before .before .before .before .before .before .before .before .before .run .ensures)))
 
 pub run-to-text-spec : {M : Type 1} → statement M
 run-to-text-spec =
     tie.close
     (tie.spec
-    run-as-requires
+    run-requires
     enum-known-answer
     put-refusal-requires
     enum-known-answer-2
