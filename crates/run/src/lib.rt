@@ -43,7 +43,13 @@ fn run_accepted(
 }
 
 // The run of any job with any buffers, monitored or not.
-pub fn run(job: &[u8], trace: &mut [u8], picture: &mut [u8], work: &mut [u8], monitored: bool) -> Answer
+pub fn run(
+    job: &[u8],
+    trace: &mut [u8],
+    picture: &mut [u8],
+    work: &mut [u8],
+    monitored: bool,
+) -> Answer
     ensures { λ r. ⌜ Delivers (resultFor monitored (now (job .entry)) (sizesOf (buffers (now (trace .entry)) (now (picture .entry)) (now (work .entry))))) (buffers (now (trace .entry)) (now (picture .entry)) (now (work .entry))) (buffers (now (trace .exit)) (now (picture .exit)) (now (work .exit))) r ⌝ }
 {
     let mut t = [0u32; CELLS];
