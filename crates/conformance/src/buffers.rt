@@ -3,7 +3,7 @@ use crate::input::wide;
 use command::bytes;
 use declared::count_of;
 use job::decode;
-use run::answer::Answer;
+use delivery::answer::Answer;
 use std::num::wrapping_add_u8;
 use tables::cells::CELLS;
 ghost use Prim.Native.Nat.{_≤_};

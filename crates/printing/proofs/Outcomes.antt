@@ -27,10 +27,10 @@ use Rattle.job.specs.Decoding.{Decides}
 use Rattle.turns.specs.declared.ending.Ending.{Ending}
 use Rattle.turns.specs.Endings.{answerOf}
 use Rattle.turns.specs.Runs.{runOf}
-use Rattle.run.specs.declared.answer.Answer.{Answer}
-use Rattle.run.specs.declared.answer.Answer.the-variants as a
-use Rattle.run.specs.Answers.{resultFor, Delivers}
-use Rattle.run.proofs.Delivering.{and-then-accepted, result-ran, result-refused}
+use Rattle.delivery.specs.declared.answer.Answer.{Answer}
+use Rattle.delivery.specs.declared.answer.Answer.the-variants as a
+use Rattle.delivery.specs.Answers.{resultFor, Delivers}
+use Rattle.delivery.proofs.Delivering.{and-then-accepted, result-ran, result-refused}
 use Rattle.printing.specs.Printing.{partAt, runLines, nodesIn, variablesIn, resultLines}
 use Rattle.printing.proofs.Fronts.{parts-end, run-front, parts-of}
 use Rattle.printing.proofs.Short.{run-short}

@@ -6,15 +6,15 @@ ghost use Rattle.model.specs.Result.{sizesOf};
 ghost use Rattle.handlers.specs.Loading.{IsAccepted};
 ghost use Rattle.writing.specs.Writing.{Writes};
 ghost use Rattle.turns.specs.Endings.{answerOf};
-ghost use Rattle.run.specs.Answers.{buffers, resultFor, Delivers};
+ghost use Rattle.delivery.specs.Answers.{buffers, resultFor, Delivers};
 ghost use Rattle.printing.specs.Printing.{partAt, runLines, nodesIn, variablesIn, resultLines};
 use crate::put_refusal;
 use crate::put_run;
 use command::bytes;
 use declared::count_of;
 use job::decode;
-use run::answer::Answer;
-use run::run;
+use delivery::answer::Answer;
+use delivery::run;
 use tables::cells::CELLS;
 use turns::ending::Ending;
 

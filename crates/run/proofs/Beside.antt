@@ -16,7 +16,7 @@ use Rattle.model.specs.Conclusion.{Refuses, unmonitoredOf}
 use Rattle.model.specs.Transparency.{AllPermitted, FirstForbidden, stoppedAt}
 use Rattle.model.proofs.Conclusion.{demand1}
 use Rattle.model.proofs.Transparency.{demand3}
-use Rattle.run.specs.Answers.{Told, refusal, answer, toldIn, Call, call, Gives, Monitored, Unmonitored}
+use Rattle.delivery.specs.Answers.{Told, refusal, answer, toldIn, Call, call, Gives, Monitored, Unmonitored}
 use Rattle.run.specs.Beside.{BesideHolds, ExportsBeside, Compares}
 
 -- only a refused job tells a refusal

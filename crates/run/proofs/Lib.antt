@@ -1,2 +1,2 @@
-pub mod Delivering
+pub mod Exporting
 pub mod Beside

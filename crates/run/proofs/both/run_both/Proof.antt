@@ -1,7 +1,7 @@
 -- `run::both::run_both` meets its contract.
 use denote.Ref.{now}
 use borrow.Author.Needs.{needs}
-use Rattle.run.specs.Answers.{buffers, call}
+use Rattle.delivery.specs.Answers.{buffers, call}
 use Rattle.run.proofs.Beside.{compares}
 use Rattle.run.proofs.both.run_both.Statement.{statement}
 use Rattle.run.proofs.both.run_both.Tie as tie

@@ -2,10 +2,10 @@
 use denote.Ref.{now}
 use borrow.Author.Needs.{needs}
 use Rattle.job.proofs.Judged.{is-accepted, is-refused}
-use Rattle.run.specs.Answers.{buffers}
-use Rattle.run.proofs.Delivering.{delivers-refused, delivers-ran}
-use Rattle.run.proofs.run.Statement.{statement}
-use Rattle.run.proofs.run.Tie as tie
+use Rattle.delivery.specs.Answers.{buffers}
+use Rattle.delivery.proofs.Delivering.{delivers-refused, delivers-ran}
+use Rattle.delivery.proofs.run.Statement.{statement}
+use Rattle.delivery.proofs.run.Tie as tie
 
 judge-requires : tie.Need-judge-requires
 judge-requires c κs = search needs

@@ -10,8 +10,8 @@ use Rattle.model.specs.Result.{report, Buffers, sizesOf}
 use Rattle.tables.specs.Stands.{Stands}
 use Rattle.turns.specs.declared.ending.Ending.{Ending}
 use Rattle.turns.specs.Runs.{runOf}
-use Rattle.run.specs.declared.answer.Answer.the-variants as a
-use Rattle.run.specs.Answers.{Delivers}
+use Rattle.delivery.specs.declared.answer.Answer.the-variants as a
+use Rattle.delivery.specs.Answers.{Delivers}
 
 -- the job is accepted with buffers of these lengths, and the tables stand for its commands
 pub record AcceptedWith (job t : List ℕ) (b : Sizes) : Type 0 where

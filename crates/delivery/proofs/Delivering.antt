@@ -30,10 +30,9 @@ use Rattle.output.specs.Output.{shownBytes}
 use Rattle.turns.specs.declared.ending.Ending.{Ending}
 use Rattle.turns.specs.declared.Ran.{Ran}
 use Rattle.turns.specs.Runs.{runOf, Ready, RunsAs}
-use Rattle.run.specs.declared.answer.Answer.{Answer}
-use Rattle.run.specs.declared.answer.Answer.the-variants as a
-use Rattle.run.specs.Accepted.{AcceptedWith, DeliversRun}
-use Rattle.run.specs.Answers.{answer, toldBy, numbersIn, resultFor, buffers, Delivers, Exports}
+use Rattle.delivery.specs.declared.answer.Answer.the-variants as a
+use Rattle.delivery.specs.Accepted.{AcceptedWith, DeliversRun}
+use Rattle.delivery.specs.Answers.{answer, resultFor, buffers, Delivers}
 
 -- accepted behind a further test: accepted before it, and the test finds nothing
 pub and-then-accepted : (test : List Command → Option Refusal) (d : Decoded) (past : List Command) → andThen test d ≡ accepted past → (d ≡ accepted past) × (test past ≡ none)
@@ -145,9 +144,3 @@ module _ (m : Bool) (job : List ℕ) (before : Buffers) where
 
   pub delivers-ran : (after : Buffers) (x : Ending) (past : List Command) → decodeFor job (sizesOf before) ≡ accepted past → DeliversRun m job before after x → Delivers (resultFor m job (sizesOf before)) before after (a.Ended x)
   delivers-ran after x past e h = subst (λ (r : Result). Delivers r before after (a.Ended x)) (sym (result-ran m job (sizesOf before) past e)) (h past e)
-
--- the same, as eight numbers
-pub exports-numbers :
-    (result : Result) (before after : Buffers) (x : Answer) (numbers : List ℕ) → Delivers result before after x → numbers ≡ numbersIn (toldBy x)
-    → Exports result before after numbers
-exports-numbers result before after x numbers d e = record { told = e ∙ ap numbersIn (d .told); left = d .left }

@@ -8,8 +8,8 @@ use Rattle.model.specs.Refusal.{Refusal, Sizes}
 use Rattle.model.specs.Result.{Result, refused, ran, monitored, unmonitored, Buffers, sizesOf, traceAfter, snapshotAfter, workAfter}
 use Rattle.command.specs.Reading.{refusalOf}
 use Rattle.turns.specs.Endings.{answerOf}
-use Rattle.run.specs.declared.answer.Answer.{Answer}
-use Rattle.run.specs.declared.answer.Answer.the-variants as a
+use Rattle.delivery.specs.declared.answer.Answer.{Answer}
+use Rattle.delivery.specs.declared.answer.Answer.the-variants as a
 
 -- what is told: number and place of a refusal, or stop, completed turns and attempted entry
 pub data Told : Type 0 where
@@ -66,13 +66,3 @@ Monitored job c = Gives (monitored job (sizesOf (c .before))) c
 
 abbrev pub Unmonitored : List ℕ → Call → Type 0
 Unmonitored job c = Gives (unmonitored job (sizesOf (c .before))) c
-
--- what is told, as eight numbers: number and place of the refusal, stop, completed turns, and the attempted entry; 0 where there is none
-abbrev pub numbersIn : Told → List ℕ
-numbersIn (refusal r) = r .number ∷ r .place ∷ 0 ∷ 0 ∷ 0 ∷ 0 ∷ 0 ∷ 0 ∷ []
-numbersIn (answer x) = 0 ∷ 0 ∷ x .stop ∷ x .turns ∷ x .attempted .node ∷ x .attempted .kind ∷ x .attempted .number ∷ x .attempted .value ∷ []
-
--- the eight numbers and the three buffers afterwards are those of a result
-pub record Exports (result : Result) (before after : Buffers) (numbers : List ℕ) : Type 0 where
-  pub told : numbers ≡ numbersIn (toldIn result)
-  pub left : BuffersAfter result before after

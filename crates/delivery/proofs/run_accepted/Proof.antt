@@ -2,10 +2,10 @@
 use native.Mathlib.Omega.{arith}
 use denote.Ref.{now}
 use borrow.Author.Needs.{needs}
-use Rattle.run.specs.Answers.{buffers}
-use Rattle.run.proofs.Delivering.{job-decoded, may-load, trace-fits, snapshot-fits, work-fits, nodes-fit, variables-fit, is-ready, hands-over}
-use Rattle.run.proofs.run_accepted.Statement.{statement}
-use Rattle.run.proofs.run_accepted.Tie as tie
+use Rattle.delivery.specs.Answers.{buffers}
+use Rattle.delivery.proofs.Delivering.{job-decoded, may-load, trace-fits, snapshot-fits, work-fits, nodes-fit, variables-fit, is-ready, hands-over}
+use Rattle.delivery.proofs.run_accepted.Statement.{statement}
+use Rattle.delivery.proofs.run_accepted.Tie as tie
 
 load-requires : tie.Need-load-requires
 load-requires c κs = may-load _ _ _ (c .before .before .before .before .before .pre)

@@ -1,0 +1,62 @@
+// The run of any job with any buffers, monitored (01's "watched") or unmonitored ("bare").
+pub mod answer;
+
+ghost use Rattle.model.specs.Result.{sizesOf};
+ghost use Rattle.delivery.specs.Answers.{resultFor, buffers, Delivers};
+ghost use Rattle.delivery.specs.Accepted.{AcceptedWith, DeliversRun};
+use answer::Answer;
+use command::bytes;
+use declared::count_of;
+use handlers::load::load;
+use job::Verdict;
+use output::snapshot::put_snapshot;
+use tables::cells::CELLS;
+use turns::ending::Ending;
+use turns::run_turns;
+use verdicts::WORK;
+use verdicts::judge;
+use writing::put_zeros;
+
+// The run of an accepted job: how it ended; its trace and its snapshot (01's "picture") at the front of their buffers, zeros at that of the work buffer.
+fn run_accepted(
+    job: &[u8],
+    t: &[u32; CELLS],
+    trace: &mut [u8],
+    picture: &mut [u8],
+    work: &mut [u8],
+    monitored: bool,
+) -> Ending
+    requires { ⌜ AcceptedWith (now job) (now t) (sizesOf (buffers (now trace) (now picture) (now work))) ⌝ }
+    ensures { λ r. ⌜ DeliversRun monitored (now (job .entry)) (buffers (now (trace .entry)) (now (picture .entry)) (now (work .entry))) (buffers (now (trace .exit)) (now (picture .exit)) (now (work .exit))) r ⌝ }
+{
+    load(job, work);
+    let ran = run_turns(job, t, work, trace, monitored);
+    let state = ran.state;
+    let ending = ran.ending;
+    let nodes = count_of(t, bytes::NODE) as usize;
+    let variables = count_of(t, bytes::VAR) as usize;
+    put_snapshot(picture, state, nodes, variables);
+    put_zeros(work, WORK);
+    ending
+}
+
+// The run of any job with any buffers, monitored or not.
+pub fn run(
+    job: &[u8],
+    trace: &mut [u8],
+    picture: &mut [u8],
+    work: &mut [u8],
+    monitored: bool,
+) -> Answer
+    ensures { λ r. ⌜ Delivers (resultFor monitored (now (job .entry)) (sizesOf (buffers (now (trace .entry)) (now (picture .entry)) (now (work .entry))))) (buffers (now (trace .entry)) (now (picture .entry)) (now (work .entry))) (buffers (now (trace .exit)) (now (picture .exit)) (now (work .exit))) r ⌝ }
+{
+    let mut t = [0u32; CELLS];
+    let verdict = judge(job, &mut t, trace.len(), picture.len(), work.len());
+    match verdict {
+        Verdict::Refused(r) => Answer::Refused(r),
+        Verdict::Accepted => {
+            let ending = run_accepted(job, &t, trace, picture, work, monitored);
+            Answer::Ended(ending)
+        }
+    }
+}
