@@ -2,7 +2,7 @@
 use libc::STDERR_FILENO;
 use libc::STDIN_FILENO;
 use libc::STDOUT_FILENO;
-use printing::program::run_to_text;
+use printing::run_to_text;
 
 // The bytes that are read at most: one more than a job may have, so that a longer one is refused for its length.
 const JOB: usize = 16385;

@@ -5,13 +5,14 @@ use mathlib.Core.List.{List, [], _∷_, _++_, append-assoc}
 use native.Mathlib.Omega.{arith}
 use lib.ListN.{length, getD, length-append, List·getD-append}
 use lib.Seq.{getD-append-add}
+use Rattle.text.specs.Text.{firstOf}
+use Rattle.lines.specs.Lines.{entryLine, messagesAt, waitingAt, nextPart, partAt, nodeLine, variableLine, nodeLines, snapshotLines, runLines}
+use Rattle.lines.proofs.Parts.{part-inside, partLine}
 use Rattle.model.specs.Command.{numberAt}
 use Rattle.model.specs.Output.{Answer, nodeBytes, nodesBytes}
 use Rattle.model.specs.State.{State, waitingAt as waitingIn}
 use Rattle.model.proofs.Reading.{number-one}
 use Rattle.model.proofs.Bounds.{length-node}
-use Rattle.printing.specs.Printing.{firstOf, entryLine, messagesAt, waitingAt, nextPart, partAt, nodeLine, variableLine, nodeLines, snapshotLines, runLines}
-use Rattle.printing.proofs.Parts.{part-inside, partLine}
 
 -- texts that are the same one by one
 same-first : (f g : ℕ → List ℕ) (n : ℕ) → ((k : ℕ) → k < n → f k ≡ g k) → firstOf f n ≡ firstOf g n

@@ -1,8 +1,4 @@
-pub mod Decimals
 pub mod Fronts
-pub mod Outcomes
-pub mod Parts
-pub mod Putting
 pub mod Short
-pub mod Texts
+pub mod Outcomes
 pub mod Worked

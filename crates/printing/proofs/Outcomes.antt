@@ -5,6 +5,11 @@ use mathlib.Core.Bool.{Bool, true, false}
 use mathlib.Core.List.{List, _++_}
 use native.Mathlib.Omega.{arith}
 use lib.ListN.{length, drop, length-append, length-map}
+use Rattle.delivery.specs.declared.answer.Answer.{Answer}
+use Rattle.delivery.specs.declared.answer.Answer.the-variants as a
+use Rattle.delivery.specs.Answers.{resultFor, Delivers}
+use Rattle.lines.specs.Lines.{partAt, runLines}
+use Rattle.delivery.proofs.Delivering.{and-then-accepted, result-ran, result-refused}
 use Rattle.model.specs.Table.{NODE, VAR}
 use Rattle.model.specs.Command.{Command}
 use Rattle.model.specs.Declared.{countOf, turnsOf}
@@ -27,11 +32,7 @@ use Rattle.job.specs.Decoding.{Decides}
 use Rattle.turns.specs.declared.ending.Ending.{Ending}
 use Rattle.turns.specs.Endings.{answerOf}
 use Rattle.turns.specs.Runs.{runOf}
-use Rattle.delivery.specs.declared.answer.Answer.{Answer}
-use Rattle.delivery.specs.declared.answer.Answer.the-variants as a
-use Rattle.delivery.specs.Answers.{resultFor, Delivers}
-use Rattle.delivery.proofs.Delivering.{and-then-accepted, result-ran, result-refused}
-use Rattle.printing.specs.Printing.{partAt, runLines, nodesIn, variablesIn, resultLines}
+use Rattle.printing.specs.Printing.{nodesIn, variablesIn, resultLines}
 use Rattle.printing.proofs.Fronts.{parts-end, run-front, parts-of}
 use Rattle.printing.proofs.Short.{run-short}
 

@@ -5,14 +5,15 @@ use mathlib.Core.List.{List, [], _∷_, _++_}
 use native.Mathlib.Nat.{mul-suc}
 use native.Mathlib.Omega.{arith}
 use lib.ListN.{length, length-append}
+use Rattle.text.specs.Text.{decimal, field, fields, line, firstOf}
+use Rattle.lines.specs.Lines.{endWord, nodeWord, varWord, refusedWord, entryLine, endLine, messagesAt, waitingAt, partAt, nodeLine, variableLine, nodeLines, snapshotLines, runLines, refusedLine}
+use Rattle.text.proofs.Decimals.{decimal-short, decimal-20}
+use Rattle.lines.proofs.Parts.{partLine}
+use Rattle.lines.proofs.Texts.{messageField, messages-each}
 use Rattle.model.specs.Command.{numberAt}
 use Rattle.model.specs.Output.{Answer}
 use Rattle.model.specs.Valid.{Bytes}
 use Rattle.model.proofs.Reading.{number-one, number-four}
-use Rattle.printing.specs.Printing.{decimal, field, fields, line, endWord, nodeWord, varWord, refusedWord, firstOf, entryLine, endLine, messagesAt, waitingAt, partAt, nodeLine, variableLine, nodeLines, snapshotLines, runLines, refusedLine}
-use Rattle.printing.proofs.Decimals.{decimal-short, decimal-20}
-use Rattle.printing.proofs.Parts.{partLine}
-use Rattle.printing.proofs.Texts.{messageField, messages-each}
 
 -- a field of a number below 10 ^ k, and of any number
 field-short : (k n : ℕ) → 1 ≤ k → n < 10 ^ k → length (field n) ≤ k + 1

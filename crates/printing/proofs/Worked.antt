@@ -1,5 +1,7 @@
 -- The definitions agree with K1, by computation.
 use mathlib.Core.Path.{refl}
+use Rattle.text.specs.Text.{digitsWithin, decimal, field, fields, firstOf}
+use Rattle.lines.specs.Lines.{entryLine, endLine, messagesAt, partAt, nodeLine, variableLine, snapshotLines, runLines}
 use Rattle.model.specs.Table.{operandsIn, operandsOf, isAmong, largestIn, largestOf}
 use Rattle.model.specs.Command.{numberAt, readCommand}
 use Rattle.model.specs.Declared.{countOf, countAmong, occurs, declared, openBody, bodyLength, handlerOf, startsOf, startedIn, turnsOf}
@@ -12,7 +14,6 @@ use Rattle.model.specs.Output.{traceBytes, numbersBytes, nodesBytes, variablesB
 use Rattle.model.specs.Refusal.{anyOf, groupFalls, violation, decodeFrom, decode, refuseFirst, decodeJob, decodeFor}
 use Rattle.model.specs.Result.{report, monitored}
 use Rattle.model.specs.Examples.{enough, times, k1, k1Read, low}
-use Rattle.printing.specs.Printing.{digitsWithin, decimal, field, fields, firstOf, entryLine, endLine, messagesAt, partAt, nodeLine, variableLine, snapshotLines, runLines}
 use Rattle.printing.specs.Example.{k1Lines, K1Prints}
 
 pub k1-prints : K1Prints

@@ -1,64 +1,82 @@
-// The lines that a run prints, put into a text.
-mod fields;
-pub mod program;
-mod snapshot;
-mod trace;
-
+// A job that is run, and the lines of its run.
 ghost use Prim.Native.Nat.{_+_, _*_, _≤_};
 ghost use lib.ListN.{length};
+ghost use Rattle.model.specs.Refusal.{decodeJob};
+ghost use Rattle.model.specs.Result.{sizesOf};
+ghost use Rattle.handlers.specs.Loading.{IsAccepted};
 ghost use Rattle.writing.specs.Writing.{Writes};
 ghost use Rattle.turns.specs.Endings.{answerOf};
-ghost use Rattle.printing.specs.Printing.{partAt, endLine, runLines, refusedLine};
-use command::read::Refusal;
-pub use fields::put;
-use fields::put_line;
-use snapshot::put_snapshot;
-use trace::put_entries;
+ghost use Rattle.delivery.specs.Answers.{buffers, resultFor, Delivers};
+ghost use Rattle.lines.specs.Lines.{partAt, runLines};
+ghost use Rattle.printing.specs.Printing.{nodesIn, variablesIn, resultLines};
+use command::bytes;
+use declared::count_of;
+use delivery::answer::Answer;
+use delivery::run;
+use job::decode;
+use lines::put_refusal;
+use lines::put_run;
+use tables::cells::CELLS;
 use turns::ending::Ending;
 
-// Puts the line of a refusal: `refused`, number, place.
-pub fn put_refusal(text: &mut [u8], at: usize, refusal: Refusal) -> usize
-    requires { ⌜ at + length (refusedLine (refusal .number) (refusal .place)) ≤ length (now text) ⌝ }
-    ensures { λ r. ⌜ Writes (refusedLine (refusal .number) (refusal .place)) (now (text .entry)) at (now (text .exit)) r ⌝ }
-{
-    let numbers = [refusal.number as u64, refusal.place as u64];
-    put_line(text, at, b"refused", &numbers)
+// A run that is printed: the place behind its lines, and its answer.
+pub struct Printed {
+    pub next: usize,
+    pub answer: Answer,
 }
 
-// Puts the line of an answer: `end`, stop, turns, attempted entry.
-fn put_end(text: &mut [u8], at: usize, ending: Ending) -> usize
-    requires { ⌜ at + length (endLine (answerOf ending)) ≤ length (now text) ⌝ }
-    ensures { λ r. ⌜ Writes (endLine (answerOf ending)) (now (text .entry)) at (now (text .exit)) r ⌝ }
-{
-    let x = ending.attempted;
-    let numbers = [
-        ending.stop as u64,
-        ending.turns as u64,
-        x.node as u64,
-        x.kind as u64,
-        x.number as u64,
-        x.value as u64,
-    ];
-    put_line(text, at, b"end", &numbers)
-}
-
-// Puts the lines of a run that left this trace and this snapshot (01's "picture"): entries, answer, nodes, variables.
-pub fn put_run(
+// Puts the lines of the run of an accepted job, which says how many nodes and variables the snapshot shows.
+fn put_ended(
     text: &mut [u8],
     at: usize,
     ending: Ending,
+    job: &[u8],
     trace: &[u8],
     picture: &[u8],
-    nodes: usize,
-    variables: usize,
 ) -> usize
+    requires { ⌜ IsAccepted (decodeJob (now job)) ⌝ }
     requires { ⌜ 7 * (ending .turns) ≤ length (now trace) ⌝ }
-    requires { ⌜ partAt (now picture) nodes + 4 * variables ≤ length (now picture) ⌝ }
-    requires { ⌜ at + length (runLines (answerOf ending) (now trace) (now picture) nodes variables) ≤ length (now text) ⌝ }
-    ensures { λ r. ⌜ Writes (runLines (answerOf ending) (now (trace .entry)) (now (picture .entry)) nodes variables) (now (text .entry)) at (now (text .exit)) r ⌝ }
+    requires { ⌜ partAt (now picture) (nodesIn (now job)) + 4 * variablesIn (now job) ≤ length (now picture) ⌝ }
+    requires { ⌜ at + length (runLines (answerOf ending) (now trace) (now picture) (nodesIn (now job)) (variablesIn (now job))) ≤ length (now text) ⌝ }
+    ensures { λ r. ⌜ Writes (runLines (answerOf ending) (now (trace .entry)) (now (picture .entry)) (nodesIn (now (job .entry))) (variablesIn (now (job .entry)))) (now (text .entry)) at (now (text .exit)) r ⌝ }
 {
-    let turns = ending.turns as usize;
-    let end = put_entries(text, at, trace, turns);
-    let first = put_end(text, end, ending);
-    put_snapshot(text, first, picture, nodes, variables)
+    let mut t = [0u32; CELLS];
+    decode(job, &mut t);
+    let nodes = count_of(&t, bytes::NODE) as usize;
+    let variables = count_of(&t, bytes::VAR) as usize;
+    put_run(text, at, ending, trace, picture, nodes, variables)
+}
+
+// Runs a job and puts the lines of its run, at most 131,072 bytes.
+pub fn run_to_text(
+    text: &mut [u8],
+    at: usize,
+    job: &[u8],
+    trace: &mut [u8],
+    picture: &mut [u8],
+    work: &mut [u8],
+    monitored: bool,
+) -> Printed
+    requires { ⌜ at + 131072 ≤ length (now text) ⌝ }
+    ensures { λ r. ⌜ r .next ≤ at + 131072 ⌝ }
+    ensures { λ r. ⌜ Writes (resultLines (now (job .entry)) (resultFor monitored (now (job .entry)) (sizesOf (buffers (now (trace .entry)) (now (picture .entry)) (now (work .entry)))))) (now (text .entry)) at (now (text .exit)) (r .next) ⌝ }
+    ensures { λ r. ⌜ Delivers (resultFor monitored (now (job .entry)) (sizesOf (buffers (now (trace .entry)) (now (picture .entry)) (now (work .entry))))) (buffers (now (trace .entry)) (now (picture .entry)) (now (work .entry))) (buffers (now (trace .exit)) (now (picture .exit)) (now (work .exit))) (r .answer) ⌝ }
+{
+    let answer = run(job, trace, picture, work, monitored);
+    match answer {
+        Answer::Refused(refusal) => {
+            let next = put_refusal(text, at, refusal);
+            Printed {
+                next: next,
+                answer: answer,
+            }
+        }
+        Answer::Ended(ending) => {
+            let next = put_ended(text, at, ending, job, trace, picture);
+            Printed {
+                next: next,
+                answer: answer,
+            }
+        }
+    }
 }

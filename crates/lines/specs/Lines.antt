@@ -1,0 +1,75 @@
+-- The lines that a run prints ("Jobs worked by hand"), by the bytes that it left.
+use Prim.Native.Nat.{ℕ, zero, suc, _+_, _*_}
+use mathlib.Core.List.{List, [], _∷_, _++_}
+use Rattle.text.specs.Text.{decimal, line, firstOf}
+use Rattle.model.specs.Command.{numberAt}
+use Rattle.model.specs.Output.{Answer}
+
+-- the words `end`, `node`, `var` and `refused`
+abbrev pub endWord : List ℕ
+endWord = 101 ∷ 110 ∷ 100 ∷ []
+
+abbrev pub nodeWord : List ℕ
+nodeWord = 110 ∷ 111 ∷ 100 ∷ 101 ∷ []
+
+abbrev pub varWord : List ℕ
+varWord = 118 ∷ 97 ∷ 114 ∷ []
+
+abbrev pub refusedWord : List ℕ
+refusedWord = 114 ∷ 101 ∷ 102 ∷ 117 ∷ 115 ∷ 101 ∷ 100 ∷ []
+
+-- entry k of the trace, 7 bytes an entry: node, kind, number, value
+unfoldable pub entryLine : List ℕ → ℕ → List ℕ
+entryLine trace k =
+    line (decimal (numberAt trace (7 * k) 1))
+    (numberAt trace (7 * k + 1) 1 ∷ numberAt trace (7 * k + 2) 1 ∷ numberAt trace (7 * k + 3) 4 ∷ [])
+
+-- `end`, stop, turns, attempted entry
+unfoldable pub endLine : Answer → List ℕ
+endLine x =
+    line endWord
+    (x .stop ∷ x .turns ∷ x .attempted .node ∷ x .attempted .kind ∷ x .attempted .number ∷ x .attempted .value ∷ [])
+
+-- so many messages from a place of the snapshot ("picture") on
+unfoldable pub messagesAt : List ℕ → ℕ → ℕ → List ℕ
+messagesAt picture place count = firstOf (λ i. numberAt picture (place + 4 * i) 4 ∷ []) count
+
+-- how many messages wait at the node whose part begins at a place of the snapshot, and where the next part begins
+abbrev pub waitingAt : List ℕ → ℕ → ℕ
+waitingAt picture place = numberAt picture (place + 9) 1
+
+abbrev pub nextPart : List ℕ → ℕ → ℕ
+nextPart picture place = place + 10 + 4 * waitingAt picture place
+
+-- where the part of node n begins
+unfoldable pub partAt : List ℕ → ℕ → ℕ
+partAt picture zero = 0
+partAt picture (suc n) = nextPart picture (partAt picture n)
+
+-- the node whose part begins at a place: `node`, number, position, accumulator ("hand"), message, waiting count, then the waiting messages
+unfoldable pub nodeLine : List ℕ → ℕ → ℕ → List ℕ
+nodeLine picture place n =
+    line nodeWord
+    (n ∷ numberAt picture place 1 ∷ numberAt picture (place + 1) 4 ∷ numberAt picture (place + 5) 4 ∷ waitingAt picture place
+    ∷ messagesAt picture (place + 10) (waitingAt picture place))
+
+-- variable x of those from a place of the snapshot on: `var`, number, value
+unfoldable pub variableLine : List ℕ → ℕ → ℕ → List ℕ
+variableLine picture place x = line varWord (x ∷ numberAt picture (place + 4 * x) 4 ∷ [])
+
+-- the snapshot: its nodes, then its variables
+abbrev pub nodeLines : List ℕ → ℕ → List ℕ
+nodeLines picture nodes = firstOf (λ n. nodeLine picture (partAt picture n) n) nodes
+
+unfoldable pub snapshotLines : List ℕ → ℕ → ℕ → List ℕ
+snapshotLines picture nodes variables =
+    nodeLines picture nodes ++ firstOf (variableLine picture (partAt picture nodes)) variables
+
+-- a run: its entries, its answer, its snapshot
+unfoldable pub runLines : Answer → List ℕ → List ℕ → ℕ → ℕ → List ℕ
+runLines x trace picture nodes variables =
+    firstOf (entryLine trace) (x .turns) ++ (endLine x ++ snapshotLines picture nodes variables)
+
+-- a refusal: `refused`, number, place
+unfoldable pub refusedLine : ℕ → ℕ → List ℕ
+refusedLine number place = line refusedWord (number ∷ place ∷ [])

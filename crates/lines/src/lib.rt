@@ -1,0 +1,61 @@
+// The lines that a run prints, put into a text.
+mod snapshot;
+mod trace;
+
+ghost use Prim.Native.Nat.{_+_, _*_, _≤_};
+ghost use lib.ListN.{length};
+ghost use Rattle.writing.specs.Writing.{Writes};
+ghost use Rattle.turns.specs.Endings.{answerOf};
+ghost use Rattle.lines.specs.Lines.{partAt, endLine, runLines, refusedLine};
+use command::read::Refusal;
+use snapshot::put_snapshot;
+use text::put_line;
+use trace::put_entries;
+use turns::ending::Ending;
+
+// Puts the line of a refusal: `refused`, number, place.
+pub fn put_refusal(text: &mut [u8], at: usize, refusal: Refusal) -> usize
+    requires { ⌜ at + length (refusedLine (refusal .number) (refusal .place)) ≤ length (now text) ⌝ }
+    ensures { λ r. ⌜ Writes (refusedLine (refusal .number) (refusal .place)) (now (text .entry)) at (now (text .exit)) r ⌝ }
+{
+    let numbers = [refusal.number as u64, refusal.place as u64];
+    put_line(text, at, b"refused", &numbers)
+}
+
+// Puts the line of an answer: `end`, stop, turns, attempted entry.
+fn put_end(text: &mut [u8], at: usize, ending: Ending) -> usize
+    requires { ⌜ at + length (endLine (answerOf ending)) ≤ length (now text) ⌝ }
+    ensures { λ r. ⌜ Writes (endLine (answerOf ending)) (now (text .entry)) at (now (text .exit)) r ⌝ }
+{
+    let x = ending.attempted;
+    let numbers = [
+        ending.stop as u64,
+        ending.turns as u64,
+        x.node as u64,
+        x.kind as u64,
+        x.number as u64,
+        x.value as u64,
+    ];
+    put_line(text, at, b"end", &numbers)
+}
+
+// Puts the lines of a run that left this trace and this snapshot (01's "picture"): entries, answer, nodes, variables.
+pub fn put_run(
+    text: &mut [u8],
+    at: usize,
+    ending: Ending,
+    trace: &[u8],
+    picture: &[u8],
+    nodes: usize,
+    variables: usize,
+) -> usize
+    requires { ⌜ 7 * (ending .turns) ≤ length (now trace) ⌝ }
+    requires { ⌜ partAt (now picture) nodes + 4 * variables ≤ length (now picture) ⌝ }
+    requires { ⌜ at + length (runLines (answerOf ending) (now trace) (now picture) nodes variables) ≤ length (now text) ⌝ }
+    ensures { λ r. ⌜ Writes (runLines (answerOf ending) (now (trace .entry)) (now (picture .entry)) nodes variables) (now (text .entry)) at (now (text .exit)) r ⌝ }
+{
+    let turns = ending.turns as usize;
+    let end = put_entries(text, at, trace, turns);
+    let first = put_end(text, end, ending);
+    put_snapshot(text, first, picture, nodes, variables)
+}

@@ -1,0 +1,107 @@
+// The lines of a snapshot (01's "end picture"): its nodes, then its variables.
+ghost use mathlib.Core.Path.{_≡_};
+ghost use Prim.Native.Nat.{_+_, _*_, _≤_};
+ghost use lib.ListN.{length};
+ghost use Rattle.writing.specs.Writing.{Writes};
+ghost use Rattle.text.specs.Text.{fields, firstOf};
+ghost use Rattle.lines.specs.Lines.{messagesAt, nextPart, partAt, nodeLine, variableLine, snapshotLines};
+use command::read::operand;
+use text::put;
+use text::put_field;
+use text::put_fields;
+use text::put_line;
+use writing::put_byte;
+
+// Puts the messages that stand from a place of the snapshot on.
+fn put_messages(text: &mut [u8], at: usize, picture: &[u8], place: usize, count: usize) -> usize
+    requires { ⌜ place + 4 * count ≤ length (now picture) ⌝ }
+    requires { ⌜ at + length (fields (messagesAt (now picture) place count)) ≤ length (now text) ⌝ }
+    ensures { λ r. ⌜ Writes (fields (messagesAt (now (picture .entry)) place count)) (now (text .entry)) at (now (text .exit)) r ⌝ }
+{
+    let mut next = at;
+    let mut i: usize = 0;
+    while i < count {
+        let message = operand(picture, place + 4 * i, 4);
+        next = put_field(text, next, message as u64);
+        i += 1;
+    }
+    next
+}
+
+// Puts the line of node n, whose part begins at a place of the snapshot.
+fn put_node(text: &mut [u8], at: usize, picture: &[u8], place: usize, n: usize) -> usize
+    requires { ⌜ nextPart (now picture) place ≤ length (now picture) ⌝ }
+    requires { ⌜ at + length (nodeLine (now picture) place n) ≤ length (now text) ⌝ }
+    ensures { λ r. ⌜ Writes (nodeLine (now (picture .entry)) place n) (now (text .entry)) at (now (text .exit)) r ⌝ }
+{
+    let position = operand(picture, place, 1);
+    let accumulator = operand(picture, place + 1, 4);
+    let message = operand(picture, place + 5, 4);
+    let waiting = operand(picture, place + 9, 1);
+    let numbers = [
+        n as u64,
+        position as u64,
+        accumulator as u64,
+        message as u64,
+        waiting as u64,
+    ];
+    let first = put(text, at, b"node");
+    let messages = put_fields(text, first, &numbers);
+    let end = put_messages(text, messages, picture, place + 10, waiting as usize);
+    put_byte(text, end, 10)
+}
+
+// Puts the lines of the variables that stand from a place of the snapshot on.
+fn put_variables(
+    text: &mut [u8],
+    at: usize,
+    picture: &[u8],
+    place: usize,
+    variables: usize,
+) -> usize
+    requires { ⌜ place + 4 * variables ≤ length (now picture) ⌝ }
+    requires { ⌜ at + length (firstOf (variableLine (now picture) place) variables) ≤ length (now text) ⌝ }
+    ensures { λ r. ⌜ Writes (firstOf (variableLine (now (picture .entry)) place) variables) (now (text .entry)) at (now (text .exit)) r ⌝ }
+{
+    let mut next = at;
+    let mut x: usize = 0;
+    while x < variables {
+        let value = operand(picture, place + 4 * x, 4);
+        let numbers = [x as u64, value as u64];
+        next = put_line(text, next, b"var", &numbers);
+        x += 1;
+    }
+    next
+}
+
+// Where the part behind that at a place begins.
+fn next_part(picture: &[u8], place: usize) -> usize
+    requires { ⌜ nextPart (now picture) place ≤ length (now picture) ⌝ }
+    ensures { λ r. ⌜ r ≡ nextPart (now (picture .entry)) place ⌝ }
+{
+    let waiting = operand(picture, place + 9, 1);
+    place + 10 + 4 * (waiting as usize)
+}
+
+// Puts the lines of a snapshot. The place of each node's part is carried along from part to part.
+pub fn put_snapshot(
+    text: &mut [u8],
+    at: usize,
+    picture: &[u8],
+    nodes: usize,
+    variables: usize,
+) -> usize
+    requires { ⌜ partAt (now picture) nodes + 4 * variables ≤ length (now picture) ⌝ }
+    requires { ⌜ at + length (snapshotLines (now picture) nodes variables) ≤ length (now text) ⌝ }
+    ensures { λ r. ⌜ Writes (snapshotLines (now (picture .entry)) nodes variables) (now (text .entry)) at (now (text .exit)) r ⌝ }
+{
+    let mut next = at;
+    let mut place: usize = 0;
+    let mut n: usize = 0;
+    while n < nodes {
+        next = put_node(text, next, picture, place, n);
+        place = next_part(picture, place);
+        n += 1;
+    }
+    put_variables(text, next, picture, place, variables)
+}

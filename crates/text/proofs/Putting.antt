@@ -1,0 +1,119 @@
+-- Texts that are put one behind the other.
+use Prim.Native.Nat.{ℕ, zero, suc, _+_, _-_, _≤_, _<_}
+use mathlib.Core.Path.{_≡_, refl, sym, ap, _∙_}
+use mathlib.Core.List.{List, [], _∷_, _++_, append-assoc, append-nil}
+use native.Mathlib.Numerals.{add-one}
+use native.Mathlib.Omega.{arith}
+use lib.ListN.{length, getD, length-append}
+use Rattle.writing.specs.Writing.{Writes}
+use Rattle.writing.proofs.Placing.{writes-on, writes-nothing, length-writes}
+use Rattle.text.specs.Text.{field, fields, firstOf}
+
+-- one text more, and room for it
+first-next : (f : ℕ → List ℕ) (k : ℕ) → firstOf f (k + 1) ≡ firstOf f k ++ f k
+unfolding firstOf
+first-next f k = ap (firstOf f) (add-one k)
+
+grows : (f : ℕ → List ℕ) (k d n : ℕ) → n ≡ d + k → length (firstOf f k) ≤ length (firstOf f n)
+unfolding firstOf
+grows f k zero n e = let same : n ≡ k = omega arith in omega (arith, ap (λ (i : ℕ). length (firstOf f i)) same)
+grows f k (suc d) zero e = absurd (omega arith)
+grows f k (suc d) (suc n) e = omega (arith, grows f k d n (omega arith), length-append (firstOf f n) (f n))
+
+pub first-fits : (f : ℕ → List ℕ) (k n : ℕ) → k < n → length (firstOf f k) + length (f k) ≤ length (firstOf f n)
+first-fits f k n h =
+    omega (arith, grows f (k + 1) (n - (k + 1)) n (omega arith), length-append (firstOf f k) (f k), ap length (first-next f k))
+
+-- the first k texts are put: what a loop over them keeps
+pub record Put (f : ℕ → List ℕ) (before : List ℕ) (at k : ℕ) (buffer : List ℕ) (next : ℕ) : Type 0 where
+  pub writes : Writes (firstOf f k) before at buffer next
+  pub size : length buffer ≡ length before
+
+pub none-put : (f : ℕ → List ℕ) (before : List ℕ) (at : ℕ) → Put f before at 0 before at
+unfolding firstOf
+none-put f before at = record { writes = writes-nothing before at; size = refl }
+
+module _ (f : ℕ → List ℕ) (before : List ℕ) (at n : ℕ) (fits : at + length (firstOf f n) ≤ length before) (k : ℕ) (inside : k < n) (buffer : List ℕ) (next : ℕ) (w : Put f before at k buffer next) where
+  pub room : next + length (f k) ≤ length buffer
+  room = omega (arith, first-fits f k n inside, w .writes .place, w .size)
+
+  pub one-put : (after : List ℕ) (last : ℕ) → Writes (f k) buffer next after last → Put f before at (k + 1) after last
+  one-put after last p =
+      let more = first-fits f k n inside in
+      let both = writes-on (firstOf f k) (f k) before at buffer next after last (omega arith) (w .writes) p in
+      record {
+        writes = rw first-next both;
+        size = length-writes (firstOf f k ++ f k) before at after last (omega (arith, length-append (firstOf f k) (f k))) both;
+      }
+
+-- all are put
+pub all-put :
+    (f : ℕ → List ℕ) (before : List ℕ) (at n k : ℕ) (buffer : List ℕ) (next : ℕ) → k ≤ n → n ≤ k
+    → Put f before at k buffer next → Writes (firstOf f n) before at buffer next
+all-put f before at n k buffer next low high w = let same : k ≡ n = omega arith in rw same at (w .writes)
+
+-- from the front: the first text, then the others
+first-shift : (f : ℕ → List ℕ) (k : ℕ) → firstOf f (suc k) ≡ f 0 ++ firstOf (λ i. f (suc i)) k
+unfolding firstOf
+first-shift f zero = sym (append-nil (f 0))
+first-shift f (suc k) = ap (λ (l : List ℕ). l ++ f (suc k)) (first-shift f k) ∙ append-assoc (f 0) (firstOf (λ i. f (suc i)) k) (f (suc k))
+
+-- bytes one by one, and numbers one by one
+pub bytes-each : (bytes : List ℕ) → firstOf (λ i. getD bytes i 0 ∷ []) (length bytes) ≡ bytes
+unfolding firstOf
+bytes-each [] = refl
+bytes-each (b ∷ bytes) = first-shift (λ i. getD (b ∷ bytes) i 0 ∷ []) (length bytes) ∙ ap (λ (l : List ℕ). b ∷ l) (bytes-each bytes)
+
+pub fields-each : (numbers : List ℕ) → firstOf (λ i. field (getD numbers i 0)) (length numbers) ≡ fields numbers
+unfolding firstOf fields
+fields-each [] = refl
+fields-each (n ∷ ns) = first-shift (λ i. field (getD (n ∷ ns) i 0)) (length ns) ∙ ap (λ (l : List ℕ). field n ++ l) (fields-each ns)
+
+-- fields behind fields
+pub fields-append : (xs ys : List ℕ) → fields (xs ++ ys) ≡ fields xs ++ fields ys
+unfolding fields
+fields-append [] ys = refl
+fields-append (x ∷ xs) ys = ap (λ (l : List ℕ). field x ++ l) (fields-append xs ys) ∙ sym (append-assoc (field x) (fields xs) (fields ys))
+
+pub fields-first : (number : ℕ → ℕ) (k : ℕ) → fields (firstOf (λ i. number i ∷ []) k) ≡ firstOf (λ i. field (number i)) k
+unfolding firstOf fields
+fields-first number zero = refl
+fields-first number (suc k) =
+    fields-append (firstOf (λ i. number i ∷ []) k) (number k ∷ [])
+    ∙ ap (λ (l : List ℕ). l ++ (field (number k) ++ [])) (fields-first number k)
+    ∙ ap (λ (l : List ℕ). firstOf (λ i. field (number i)) k ++ l) (append-nil (field (number k)))
+
+-- a text behind another: room for each, and both
+module _ (xs ys before : List ℕ) (at : ℕ) (fits : at + length (xs ++ ys) ≤ length before) where
+  sizes : at + length xs + length ys ≤ length before
+  sizes = omega (arith, length-append xs ys)
+
+  pub front-room : at + length xs ≤ length before
+  front-room = omega (arith, sizes)
+
+  module _ (between : List ℕ) (next : ℕ) (p : Writes xs before at between next) where
+    pub back-room : next + length ys ≤ length between
+    back-room = omega (arith, sizes, p .place, length-writes xs before at between next (omega (arith, sizes)) p)
+
+    pub two-put : (after : List ℕ) (last : ℕ) → Writes ys between next after last → Writes (xs ++ ys) before at after last
+    two-put after last q = writes-on xs ys before at between next after last sizes p q
+
+-- three texts, likewise
+module _ (xs ys zs before : List ℕ) (at : ℕ) (fits : at + length (xs ++ (ys ++ zs)) ≤ length before) where
+  pub room-first : at + length xs ≤ length before
+  room-first = front-room xs (ys ++ zs) before at fits
+
+  module _ (second : List ℕ) (two : ℕ) (p : Writes xs before at second two) where
+    rest : two + length (ys ++ zs) ≤ length second
+    rest = back-room xs (ys ++ zs) before at fits second two p
+
+    pub room-second : two + length ys ≤ length second
+    room-second = front-room ys zs second two rest
+
+    module _ (third : List ℕ) (three : ℕ) (q : Writes ys second two third three) where
+      pub room-third : three + length zs ≤ length third
+      room-third = back-room ys zs second two rest third three q
+
+      pub three-put : (after : List ℕ) (last : ℕ) → Writes zs third three after last → Writes (xs ++ (ys ++ zs)) before at after last
+      three-put after last r =
+          two-put xs (ys ++ zs) before at fits second two p after last (two-put ys zs second two rest third three q after last r)
