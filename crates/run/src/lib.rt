@@ -1,5 +1,4 @@
 // The entry points: the run of a job, monitored (01's "watched") or unmonitored ("bare"). Any bytes and any buffers are allowed.
-pub mod both;
 mod exports;
 
 ghost use Rattle.delivery.specs.Answers.{toldBy, buffers, call, Monitored, Unmonitored};

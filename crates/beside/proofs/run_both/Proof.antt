@@ -1,10 +1,10 @@
--- `run::both::run_both` meets its contract.
+-- `beside::run_both` meets its contract.
 use denote.Ref.{now}
 use borrow.Author.Needs.{needs}
 use Rattle.delivery.specs.Answers.{buffers, call}
-use Rattle.run.proofs.Beside.{compares}
-use Rattle.run.proofs.both.run_both.Statement.{statement}
-use Rattle.run.proofs.both.run_both.Tie as tie
+use Rattle.beside.proofs.Claims.{compares}
+use Rattle.beside.proofs.run_both.Statement.{statement}
+use Rattle.beside.proofs.run_both.Tie as tie
 
 run-monitored-requires : tie.Need-run-monitored-requires
 run-monitored-requires c κs = search needs

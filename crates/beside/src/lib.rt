@@ -1,9 +1,9 @@
 // Both runs of a job beside each other (01's "Watched beside bare"), each with buffers of its own.
 ghost use Rattle.delivery.specs.Answers.{toldBy, buffers, call};
-ghost use Rattle.run.specs.Beside.{Compares};
-use crate::run_monitored;
-use crate::run_unmonitored;
+ghost use Rattle.beside.specs.Claims.{Compares};
 use delivery::answer::Answer;
+use run::run_monitored;
+use run::run_unmonitored;
 
 // The two answers. If both runs accept the job, they part exactly if the monitored one ends with stop 1, and then behind as many turns as it has completed.
 pub struct Both {

@@ -17,7 +17,7 @@ use Rattle.model.specs.Transparency.{AllPermitted, FirstForbidden, stoppedAt}
 use Rattle.model.proofs.Conclusion.{demand1}
 use Rattle.model.proofs.Transparency.{demand3}
 use Rattle.delivery.specs.Answers.{Told, refusal, answer, toldIn, Call, call, Gives, Monitored, Unmonitored}
-use Rattle.run.specs.Beside.{BesideHolds, ExportsBeside, Compares}
+use Rattle.beside.specs.Claims.{BesideHolds, ExportsBeside, Compares}
 
 -- only a refused job tells a refusal
 told-refused : (result : Result) (r : Refusal) → toldIn result ≡ refusal r → result ≡ refused r
