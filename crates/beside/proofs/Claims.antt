@@ -1,22 +1,20 @@
 -- Demand 3 of the code, from what the entry points promise and the model's demands 1 and 3.
 use Prim.Native.Nat.{ℕ}
 use mathlib.Core.Path.{_≡_, refl, sym, ap, subst, _∙_}
-use mathlib.Core.Bool.{Bool, true, false}
 use mathlib.Core.List.{List}
-use mathlib.Core.Logic.{_↔_, _⊎_, inl, inr}
+use mathlib.Core.Logic.{_↔_, _⊎_, inl, inr, Iff·symm, Iff·trans}
 use native.Mathlib.Omega.{arith}
+use Rattle.delivery.specs.Answers.{Told, refusal, answer, toldIn, Call, call, Gives, Monitored, Unmonitored}
 use Rattle.model.specs.Command.{Command}
 use Rattle.model.specs.Program.{Program, programOf}
 use Rattle.model.specs.Turn.{Entry}
 use Rattle.model.specs.Run.{Run}
-use Rattle.model.specs.Output.{Answer as Meant}
-use Rattle.model.specs.Refusal.{Refusal, Sizes}
+use Rattle.model.specs.Refusal.{Refusal}
 use Rattle.model.specs.Result.{Result, refused, ran, report, monitored, unmonitored, sizesOf}
-use Rattle.model.specs.Conclusion.{Refuses, unmonitoredOf}
+use Rattle.model.specs.Conclusion.{unmonitoredOf}
 use Rattle.model.specs.Transparency.{AllPermitted, FirstForbidden, stoppedAt}
 use Rattle.model.proofs.Conclusion.{demand1}
 use Rattle.model.proofs.Transparency.{demand3}
-use Rattle.delivery.specs.Answers.{Told, refusal, answer, toldIn, Call, call, Gives, Monitored, Unmonitored}
 use Rattle.beside.specs.Claims.{BesideHolds, ExportsBeside, Compares}
 
 -- only a refused job tells a refusal
@@ -27,10 +25,6 @@ told-refused (ran x trace snapshot) r e = let w : _≡_ {A = ℕ} 0 1 = cc in ab
 -- a call that gives a result gives a refusal exactly if that is the result
 gives-refused : (result : Result) (c : Call) → Gives result c → (r : Refusal) → Gives (refused r) c ↔ (result ≡ refused r)
 gives-refused result c g r = (λ h. told-refused result r (sym (g .told) ∙ h .told), λ e. subst (λ (x : Result). Gives x c) e g)
-
--- one equivalence behind another
-then : {A B C : Type 0} → (A ↔ B) → (B ↔ C) → A ↔ C
-then f g = (λ a. g .0 (f .0 a), λ c. f .1 (g .1 c))
 
 -- stop and turns that are told
 abbrev stopIn : Told → ℕ
@@ -68,9 +62,9 @@ beside job m u gm gu =
     let refusesM : (r : Refusal) → Gives (refused r) m ↔ (monitored job (sizesOf (m .before)) ≡ refused r) = gives-refused (monitored job (sizesOf (m .before))) m gm in
     let refusesU : (r : Refusal) → Gives (refused r) u ↔ (unmonitored job (sizesOf (u .before)) ≡ refused r) = gives-refused (unmonitored job (sizesOf (u .before))) u gu in
     record {
-      monitoredRefuses = λ r. then (refusesM r) (one .monitoredRefuses r);
-      unmonitoredRefuses = λ r. then (refusesU r) (other .unmonitoredRefuses r);
-      refuseAlike = λ same r. then (then (refusesM r) (both .refuseAlike same r)) (refusesU r .1, refusesU r .0);
+      monitoredRefuses = λ r. Iff·trans (refusesM r) (one .monitoredRefuses r);
+      unmonitoredRefuses = λ r. Iff·trans (refusesU r) (other .unmonitoredRefuses r);
+      refuseAlike = λ same r. Iff·trans (Iff·trans (refusesM r) (both .refuseAlike same r)) (Iff·symm (refusesU r));
       bothRun = λ past a b.
           let run = both .bothRun past a b in
           let identical : AllPermitted (programOf past) (unmonitoredOf past) → Gives (report (programOf past) (unmonitoredOf past)) m = λ all. subst (λ (x : Result). Gives x m) (run .monitoredReports ∙ run .comparison .identical all) gm in

@@ -2,7 +2,7 @@
 use Prim.Native.Nat.{ℕ}
 use mathlib.Core.Path.{_≡_}
 use mathlib.Core.Bool.{Bool, true, false}
-use mathlib.Core.List.{List, [], _∷_}
+use mathlib.Core.List.{List}
 use Rattle.model.specs.Output.{Answer as Meant}
 use Rattle.model.specs.Refusal.{Refusal, Sizes}
 use Rattle.model.specs.Result.{Result, refused, ran, monitored, unmonitored, Buffers, sizesOf, traceAfter, snapshotAfter, workAfter}

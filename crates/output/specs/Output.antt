@@ -10,8 +10,8 @@ use Rattle.engine.specs.declared.State.{State as Held}
 use Rattle.output.specs.declared.numbers.Numbers.{Numbers}
 
 -- the entry with these numbers
-abbrev pub entryOf : Numbers → Entry
-entryOf x = entry (x .node) (x .kind) (x .number) (x .value)
+abbrev pub entryWith : Numbers → Entry
+entryWith x = entry (x .node) (x .kind) (x .number) (x .value)
 
 -- node, kind and number of an entry are bytes
 abbrev pub Narrow : Entry → Type 0

@@ -2,7 +2,7 @@
 ghost use mathlib.Core.Path.{_≡_};
 ghost use Rattle.model.specs.Turn.{entry};
 ghost use Rattle.entries.specs.Entries.{numbersOf};
-ghost use Rattle.output.specs.Output.{entryOf};
+ghost use Rattle.output.specs.Output.{entryWith};
 use entries::Entry;
 use entries::Event;
 
@@ -16,7 +16,7 @@ pub struct Numbers {
 
 // These numbers together.
 fn numbered(node: u32, kind: u32, number: u32, value: u32) -> Numbers
-    ensures { λ r. ⌜ entryOf r ≡ entry node kind number value ⌝ }
+    ensures { λ r. ⌜ entryWith r ≡ entry node kind number value ⌝ }
 {
     Numbers {
         node: node,
@@ -28,7 +28,7 @@ fn numbered(node: u32, kind: u32, number: u32, value: u32) -> Numbers
 
 // The numbers of an entry.
 pub fn numbers_of(entry: Entry) -> Numbers
-    ensures { λ r. ⌜ entryOf r ≡ numbersOf entry ⌝ }
+    ensures { λ r. ⌜ entryWith r ≡ numbersOf entry ⌝ }
 {
     let n = entry.node;
     let node = n.0;

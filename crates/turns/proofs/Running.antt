@@ -6,7 +6,7 @@ use mathlib.Core.List.{List, [], _∷_, _++_}
 use native.Mathlib.Omega.{arith}
 use types.Run.{OneOf}
 use denote.Enum.Declared.{tagOf}
-use lib.ListN.{length, getD, drop, length-append}
+use lib.ListN.{length, getD, drop, length-append, length-map}
 use Rattle.model.specs.Table.{TURN}
 use Rattle.model.specs.Command.{Command}
 use Rattle.model.specs.Declared.{turnsOf}
@@ -65,11 +65,6 @@ pub record Reached (monitored : Bool) (past : List Command) (before : List ℕ) 
   pub never : k < last → stop ≡ v.Never
   pub going : k < last → Underway monitored past before s trace at k
   pub ended : last ≤ k → (x : Ending) → ((after : Meant) → answerOf x ≡ answerAt k stop after) → RunsAs (runOf monitored past) before trace (record { state = s; ending = x })
-
--- as many entries as steps
-length-entries : (steps : List Step) → length (entriesOf steps) ≡ length steps
-length-entries [] = refl
-length-entries (x ∷ steps) = omega (arith, length-entries steps)
 
 -- the outcomes that are stops
 abbrev pub stops : List ℕ
@@ -181,7 +176,7 @@ module _ (monitored : Bool) (job t w : List ℕ) (ready : Ready job t w) where
           let e : rule (view s) (getD (turnsOf past) k 0) ≡ completed (numbersOf x) (view (turned .state)) = ap (rule (view s)) (sym named) ∙ sym completes in
           let bytes : traceBytes (entriesOf (u .done ++ (step ∷ []))) ≡ traceBytes (entriesOf (u .done)) ++ entryBytes (numbersOf x) = ap traceBytes (entries-snoc (u .done) step) ∙ trace-snoc (entriesOf (u .done)) (numbersOf x) in
           let long = length-trace (entriesOf (u .done)) in
-          let many = length-entries (u .done) in
+          let many = length-map (u .done) (λ (x : Step). x .made) in
           record {
             done = u .done ++ (step ∷ []);
             count = length-append (u .done) (step ∷ []) ∙ omega (arith, u .count);

@@ -4,14 +4,14 @@ use Rattle.model.specs.State.{State}
 use Rattle.model.specs.Turn.{entry, Turned, completed, stopped}
 use Rattle.model.specs.Output.{Answer}
 use Rattle.entries.specs.Entries.{turnedBy}
-use Rattle.output.specs.Output.{entryOf}
+use Rattle.output.specs.Output.{entryWith}
 use Rattle.turns.specs.declared.ending.Ending.{Ending}
 use Rattle.turns.specs.declared.ending.Stop.{Stop}
 use Rattle.turns.specs.declared.ending.Stop.the-variants as s
 
 -- stop, completed turns and attempted entry
 abbrev pub answerOf : Ending → Answer
-answerOf x = record { stop = x .stop; turns = x .turns; attempted = entryOf (x .attempted) }
+answerOf x = record { stop = x .stop; turns = x .turns; attempted = entryWith (x .attempted) }
 
 -- the answer of a run that is over behind so many completed turns, as the next one comes to this; none is over at a turn that is completed
 abbrev pub answerBy : ℕ → Turned → Answer

@@ -8,7 +8,7 @@ use borrow.Author.Needs.{needs}
 use Rattle.model.specs.Table.{TURN}
 use Rattle.model.specs.Command.{Command}
 use Rattle.tables.specs.Tables.{countIn}
-use Rattle.output.specs.Output.{entryOf, Narrow}
+use Rattle.output.specs.Output.{entryWith, Narrow}
 use Rattle.turns.specs.Runs.{Ready, runOf, RunsAs}
 use Rattle.turns.proofs.Running.{Reached, underway-none, node-inside, turns-few, made-narrow, underway-next, underway-stopped, reached, halted}
 use Rattle.turns.proofs.run_turns.Statement.{statement}
@@ -82,7 +82,7 @@ loop-again c =
     let r = l .inv ready in
     let more : l .k < countIn (now (a .t)) TURN = omega (arith, h, r .all h, c .before .before .before .before .before .before .before .before .before .before .before .before .before .before .count-of .ensures) in
     reached (a .monitored) (now (a .job)) (now (a .t)) (now (a .work)) ready _ _ _ _ _ _ (l .last) (r .all h) (c .before .before .before .before .before .before .before .before .before .before .before .before .before .before .count-of .ensures) (omega (arith, h, r .all h))
-    (underway-next (a .monitored) (now (a .job)) (now (a .t)) (now (a .work)) ready _ (l .s) (l .trace) (l .at) (l .k) (r .going h) more _ (c .before .before .before .before .before .before .before .before .before .before .turn-at .ensures) (c .before .before .before .before .before .before .before .before .before .turn .result) (c .before .before .before .before .before .before .before .before .before .turn .ensures) _ (c .before .before .before .before .before .before .outcome .given .1) (entryOf (c .before .before .before .numbers-of .result)) e _ _ (c .before .before .before .before .before .before .before .before .before .before .before .before .before .before .before .before .before .before .before .pre .1) (search needs) (c .before .before .put-entry .ensures)) _ (r .never h)
+    (underway-next (a .monitored) (now (a .job)) (now (a .t)) (now (a .work)) ready _ (l .s) (l .trace) (l .at) (l .k) (r .going h) more _ (c .before .before .before .before .before .before .before .before .before .before .turn-at .ensures) (c .before .before .before .before .before .before .before .before .before .turn .result) (c .before .before .before .before .before .before .before .before .before .turn .ensures) _ (c .before .before .before .before .before .before .outcome .given .1) (entryWith (c .before .before .before .numbers-of .result)) e _ _ (c .before .before .before .before .before .before .before .before .before .before .before .before .before .before .before .before .before .before .before .pre .1) (search needs) (c .before .before .put-entry .ensures)) _ (r .never h)
 
 loop-less-2 : tie.Need-loop-less-2 Inv-loop μ-loop
 loop-less-2 c = omega (arith, c .before .before .before .before .loop-test .taken)

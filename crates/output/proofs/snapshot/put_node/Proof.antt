@@ -1,9 +1,9 @@
 -- `output::snapshot::put_node` meets its contract.
+use native.Mathlib.Nat.{mod-eq-of-lt}
 use native.Mathlib.Omega.{arith}
 use denote.Ref.{now}
 use borrow.Author.Needs.{needs}
 use Rattle.writing.proofs.Placing.{writes-on}
-use Rattle.output.proofs.Entries.{byte-same}
 use Rattle.output.proofs.Parts.{length-messages}
 use Rattle.output.proofs.snapshot.put_node.Statement.{statement}
 use Rattle.output.proofs.snapshot.put_node.Tie as tie
@@ -33,7 +33,7 @@ returns : tie.Need-returns
 returns c =
     let z = c .before .before .before .before .before .before .before .before .before .before .before .before .before .before .before .before .before .before .before .before .before .before .before in
     let h = z .pre .0 .0 in
-    let e = byte-same (z .args .x .position) (z .pre .0 .1) in
+    let e = mod-eq-of-lt (z .pre .0 .1) in
     let long = length-messages (now (z .args .queue)) (z .args .first) (z .args .waiting) (omega (arith, z .pre .1)) in
     rw (← e)
     (writes-on _ _ _ _ _ _ _ _ (omega (arith, h, long, z .pre .1 .0))

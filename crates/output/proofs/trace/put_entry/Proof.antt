@@ -2,7 +2,7 @@
 use native.Mathlib.Omega.{arith}
 use borrow.Author.Needs.{needs}
 use Rattle.writing.proofs.Placing.{writes-on}
-use Rattle.output.specs.Output.{entryOf}
+use Rattle.output.specs.Output.{entryWith}
 use Rattle.output.proofs.Entries.{entry-bytes}
 use Rattle.output.proofs.trace.put_entry.Statement.{statement}
 use Rattle.output.proofs.trace.put_entry.Tie as tie
@@ -34,7 +34,7 @@ same-length c = search needs
 returns : tie.Need-returns
 returns c =
     let h = c .before .before .before .before .before .before .before .before .before .before .before .before .before .before .before .before .before .before .before .before .pre .0 in
-    let e = entry-bytes (entryOf (c .before .before .before .before .before .before .before .before .before .before .before .before .before .before .before .before .before .before .before .before .args .x)) (c .before .before .before .before .before .before .before .before .before .before .before .before .before .before .before .before .before .before .before .before .pre .1) in
+    let e = entry-bytes (entryWith (c .before .before .before .before .before .before .before .before .before .before .before .before .before .before .before .before .before .before .before .before .args .x)) (c .before .before .before .before .before .before .before .before .before .before .before .before .before .before .before .before .before .before .before .before .pre .1) in
     rw (← e)
     (writes-on _ _ _ _ _ _ _ _ (omega (arith, h))
     (writes-on _ _ _ _ _ _ _ _ (omega (arith, h))
