@@ -11,45 +11,45 @@ use tables::cells::entry;
 use tables::cells::marked;
 
 // Whether a port is wired to a target.
-pub fn is_wired(t: &[u32], n: NodeNum, port: u32, target: NodeNum) -> bool
-    ensures { λ r. ⌜ r ≡ wiredIn (now (t .entry)) (n .0) port (target .0) ⌝ }
+pub fn is_wired(tables: &[u32], n: NodeNum, port: u32, target: NodeNum) -> bool
+    ensures { λ r. ⌜ r ≡ wiredIn (now (tables .entry)) (n .0) port (target .0) ⌝ }
 {
     let row = (n.0 as usize) * 4 + (port as usize);
-    let wire = marked(t, cells::WIRES, row, target.0 as usize);
+    let wire = marked(tables, cells::WIRES, row, target.0 as usize);
     (port < 4) & wire
 }
 
 // Whether a node may read a variable.
-pub fn may_read(t: &[u32], n: NodeNum, x: VarNum) -> bool
-    ensures { λ r. ⌜ r ≡ readIn (now (t .entry)) (n .0) (x .0) ⌝ }
+pub fn may_read(tables: &[u32], n: NodeNum, x: VarNum) -> bool
+    ensures { λ r. ⌜ r ≡ readIn (now (tables .entry)) (n .0) (x .0) ⌝ }
 {
-    marked(t, cells::READS, n.0 as usize, x.0 as usize)
+    marked(tables, cells::READS, n.0 as usize, x.0 as usize)
 }
 
 // Whether a node may write a variable.
-pub fn may_write(t: &[u32], n: NodeNum, x: VarNum) -> bool
-    ensures { λ r. ⌜ r ≡ writeIn (now (t .entry)) (n .0) (x .0) ⌝ }
+pub fn may_write(tables: &[u32], n: NodeNum, x: VarNum) -> bool
+    ensures { λ r. ⌜ r ≡ writeIn (now (tables .entry)) (n .0) (x .0) ⌝ }
 {
-    marked(t, cells::WRITES, n.0 as usize, x.0 as usize)
+    marked(tables, cells::WRITES, n.0 as usize, x.0 as usize)
 }
 
 // Whether a node may call a function with all arguments.
-pub fn may_call_any(t: &[u32], n: NodeNum, f: FunNum) -> bool
-    ensures { λ r. ⌜ r ≡ anyIn (now (t .entry)) (n .0) (f .0) ⌝ }
+pub fn may_call_any(tables: &[u32], n: NodeNum, f: FunNum) -> bool
+    ensures { λ r. ⌜ r ≡ anyIn (now (tables .entry)) (n .0) (f .0) ⌝ }
 {
-    marked(t, cells::CALLS, n.0 as usize, f.0 as usize)
+    marked(tables, cells::CALLS, n.0 as usize, f.0 as usize)
 }
 
 // Whether one of the first ARG commands, so many of them, is this one.
-fn is_listed(t: &[u32], count: u32, n: NodeNum, f: FunNum, argument: u32) -> bool
-    ensures { λ r. ⌜ r ≡ listedIn (now (t .entry)) count (n .0) (f .0) argument ⌝ }
+fn is_listed(tables: &[u32], count: u32, n: NodeNum, f: FunNum, argument: u32) -> bool
+    ensures { λ r. ⌜ r ≡ listedIn (now (tables .entry)) count (n .0) (f .0) argument ⌝ }
 {
     let mut i = count as usize;
     while 0 < i {
         i -= 1;
-        let node = entry(t, cells::ARG_NODE, i);
-        let function = entry(t, cells::ARG_FUNCTION, i);
-        let value = entry(t, cells::ARG_VALUE, i);
+        let node = entry(tables, cells::ARG_NODE, i);
+        let function = entry(tables, cells::ARG_FUNCTION, i);
+        let value = entry(tables, cells::ARG_VALUE, i);
         if (node == n.0) & ((function == f.0) & (value == argument)) {
             return true;
         }
@@ -58,19 +58,19 @@ fn is_listed(t: &[u32], count: u32, n: NodeNum, f: FunNum, argument: u32) -> boo
 }
 
 // Whether an ARG command permits the call with this argument.
-pub fn may_call_with(t: &[u32], n: NodeNum, f: FunNum, argument: u32) -> bool
-    ensures { λ r. ⌜ r ≡ listedIn (now (t .entry)) (countIn (now (t .entry)) 0x31) (n .0) (f .0) argument ⌝ }
+pub fn may_call_with(tables: &[u32], n: NodeNum, f: FunNum, argument: u32) -> bool
+    ensures { λ r. ⌜ r ≡ listedIn (now (tables .entry)) (countIn (now (tables .entry)) 0x31) (n .0) (f .0) argument ⌝ }
 {
-    let count = count_of(t, bytes::ARG);
-    is_listed(t, count, n, f, argument)
+    let count = count_of(tables, bytes::ARG);
+    is_listed(tables, count, n, f, argument)
 }
 
 // Whether a node may call a function with this argument.
-pub fn may_call(t: &[u32], n: NodeNum, f: FunNum, argument: u32) -> bool
-    ensures { λ r. ⌜ r ≡ callIn (now (t .entry)) (n .0) (f .0) argument ⌝ }
+pub fn may_call(tables: &[u32], n: NodeNum, f: FunNum, argument: u32) -> bool
+    ensures { λ r. ⌜ r ≡ callIn (now (tables .entry)) (n .0) (f .0) argument ⌝ }
 {
-    if may_call_any(t, n, f) {
+    if may_call_any(tables, n, f) {
         return true;
     }
-    may_call_with(t, n, f, argument)
+    may_call_with(tables, n, f, argument)
 }

@@ -16,7 +16,7 @@ use Rattle.command.specs.declared.read.Refusal.{Refusal}
 use Rattle.command.specs.declared.read.Parsed.{Parsed}
 use Rattle.command.specs.declared.read.Parsed.the-variants.{Whole, Refused}
 use Rattle.command.specs.Rows.{rowAt, Says, RowOf, Finds}
-use Rattle.command.specs.Reading.{commandOf, refusalOf, refusalAt, Known, Reads, IsWidth}
+use Rattle.command.specs.Reading.{commandOf, refusalOf, refusalAt, Known, ParsesAs, IsWidth}
 use Rattle.command.proofs.Shaped.{width-is}
 
 -- a byte that is found, and one that is not
@@ -62,8 +62,8 @@ pub is-width₃ : {m : Row} {r : Shape} → Says m r → IsWidth (r .4)
 is-width₃ {m} {r} shape = width-is (operandAt (m .operands) 2) (r .4) (shape .width₃)
 
 -- what was read, by the code's answer
-pub reads-whole : (job : List ℕ) (place : ℕ) (p : Parsed) (c : Code) (next : ℕ) → Reads job place p → p ≡ Whole c next → (readCommand job place ≡ whole (commandOf c) next) × Known c
+pub reads-whole : (job : List ℕ) (place : ℕ) (p : Parsed) (c : Code) (next : ℕ) → ParsesAs job place p → p ≡ Whole c next → (readCommand job place ≡ whole (commandOf c) next) × Known c
 reads-whole job place p c next r e = rw e at r
 
-pub reads-refused : (job : List ℕ) (place : ℕ) (p : Parsed) (q : Refusal) → Reads job place p → p ≡ Refused q → refusalAt place (readCommand job place) ≡ some (refusalOf q)
+pub reads-refused : (job : List ℕ) (place : ℕ) (p : Parsed) (q : Refusal) → ParsesAs job place p → p ≡ Refused q → refusalAt place (readCommand job place) ≡ some (refusalOf q)
 reads-refused job place p q r e = rw e at r

@@ -33,9 +33,9 @@ pub record Known (c : Command) : Type 0 where
   pub group : c .group ≡ groupOf (c .byte)
 
 -- what the code answers is what the model reads: a whole command, with its row and group, or a refusal
-abbrev pub Reads : List ℕ → ℕ → Parsed → Type 0
-Reads job place (Whole c next) = (readCommand job place ≡ whole (commandOf c) next) × Known c
-Reads job place (Refused r) = refusalAt place (readCommand job place) ≡ some (refusalOf r)
+abbrev pub ParsesAs : List ℕ → ℕ → Parsed → Type 0
+ParsesAs job place (Whole c next) = (readCommand job place ≡ whole (commandOf c) next) × Known c
+ParsesAs job place (Refused r) = refusalAt place (readCommand job place) ≡ some (refusalOf r)
 
 -- the widths of operands
 abbrev pub IsWidth : ℕ → Type 0

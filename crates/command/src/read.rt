@@ -6,7 +6,7 @@ ghost use lib.Dec.{eqb};
 ghost use lib.ListN.{length};
 ghost use Rattle.model.specs.Table.{BODY};
 ghost use Rattle.model.specs.Command.{numberAt};
-ghost use Rattle.command.specs.Reading.{Reads, IsWidth};
+ghost use Rattle.command.specs.Reading.{ParsesAs, IsWidth};
 use crate::bytes;
 use crate::numbers::NodeNum;
 use crate::table::Lookup;
@@ -64,7 +64,7 @@ pub fn operand(job: &[u8], at: usize, width: u8) -> u32
 // The command at a place: 2 if the byte there is none, 3 if its operands run past the end.
 pub fn read_command(job: &[u8], at: usize) -> Parsed
     requires { ⌜ at < length (now job) ⌝ }
-    ensures { λ r. ⌜ Reads (now (job .entry)) at r ⌝ }
+    ensures { λ r. ⌜ ParsesAs (now (job .entry)) at r ⌝ }
 {
     let byte = job[at];
     let found = look_up(byte);

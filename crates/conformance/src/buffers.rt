@@ -27,9 +27,9 @@ fn fill(buffer: &mut [u8], seed: u8) {
 }
 
 // Fills the three buffers.
-pub fn fill_all(trace: &mut [u8], picture: &mut [u8], work: &mut [u8], seed: u8) {
+pub fn fill_all(trace: &mut [u8], snapshot: &mut [u8], work: &mut [u8], seed: u8) {
     fill(trace, seed);
-    fill(picture, seed);
+    fill(snapshot, seed);
     fill(work, seed);
 }
 
@@ -58,50 +58,57 @@ fn is_cleared(work: &[u8]) -> bool {
 }
 
 // The bytes of a snapshot (01's "picture") of so many nodes and variables: 10 for each node with 4 for each message that waits, 4 for each variable.
-fn size_of(picture: &[u8], nodes: u32, variables: u32) -> usize
-    requires { ⌜ length (now picture) ≤ 2700 ⌝ }
+fn size_of(snapshot: &[u8], nodes: u32, variables: u32) -> usize
+    requires { ⌜ length (now snapshot) ≤ 2700 ⌝ }
 {
     let mut place: usize = 0;
     let mut n: u32 = 0;
     while n < nodes {
-        if picture.len() < place + 10 {
-            return picture.len();
+        if snapshot.len() < place + 10 {
+            return snapshot.len();
         }
-        place = place + 10 + 4 * wide(picture[place + 9]);
+        place = place + 10 + 4 * wide(snapshot[place + 9]);
         n += 1;
     }
     place + 4 * (variables as usize)
 }
 
 // The bytes of the snapshot of an accepted job.
-fn snapshot_size(job: &[u8], picture: &[u8]) -> usize
-    requires { ⌜ length (now picture) ≤ 2700 ⌝ }
+fn snapshot_size(job: &[u8], snapshot: &[u8]) -> usize
+    requires { ⌜ length (now snapshot) ≤ 2700 ⌝ }
 {
-    let mut t = [0u32; CELLS];
-    decode(job, &mut t);
-    let nodes = count(&t, bytes::NODE);
-    let variables = count(&t, bytes::VAR);
-    size_of(picture, nodes, variables)
+    let mut tables = [0u32; CELLS];
+    decode(job, &mut tables);
+    let nodes = count(&tables, bytes::NODE);
+    let variables = count(&tables, bytes::VAR);
+    size_of(snapshot, nodes, variables)
 }
 
 // How many commands of an accepted job have this byte.
-fn count(t: &[u32; CELLS], byte: u8) -> u32 {
-    count_of(t, byte)
+fn count(tables: &[u32; CELLS], byte: u8) -> u32 {
+    count_of(tables, byte)
 }
 
 // Whether a run kept what it has to keep: a refusal all three buffers; a run what lies behind its entries, its snapshot and the cleared bytes, and those are 0.
-pub fn kept(answer: Answer, job: &[u8], trace: &[u8], picture: &[u8], work: &[u8], seed: u8) -> bool
-    requires { ⌜ length (now picture) ≤ 2700 ⌝ }
+pub fn kept(
+    answer: Answer,
+    job: &[u8],
+    trace: &[u8],
+    snapshot: &[u8],
+    work: &[u8],
+    seed: u8,
+) -> bool
+    requires { ⌜ length (now snapshot) ≤ 2700 ⌝ }
 {
     match answer {
         Answer::Refused(_) => is_kept(trace, 0, seed)
-            && is_kept(picture, 0, seed)
+            && is_kept(snapshot, 0, seed)
             && is_kept(work, 0, seed),
         Answer::Ended(ending) => {
             let entries = 7 * (ending.turns as usize);
-            let shown = snapshot_size(job, picture);
+            let shown = snapshot_size(job, snapshot);
             let behind = is_kept(trace, entries, seed)
-                && is_kept(picture, shown, seed)
+                && is_kept(snapshot, shown, seed)
                 && is_kept(work, CLEARED, seed);
             behind && is_cleared(work)
         }

@@ -10,7 +10,7 @@ pub struct Head {
     pub seed: u8,
     pub job: usize,
     pub trace: usize,
-    pub picture: usize,
+    pub snapshot: usize,
     pub work: usize,
 }
 
@@ -25,7 +25,7 @@ pub const JOB: usize = 16400;
 
 pub const TRACE: usize = 28800;
 
-pub const PICTURE: usize = 2700;
+pub const SNAPSHOT: usize = 2700;
 
 pub const WORK: usize = 16500;
 
@@ -52,7 +52,7 @@ fn read_head() -> Record {
         seed: head[1],
         job: pair(head[2], head[3]),
         trace: pair(head[4], head[5]),
-        picture: pair(head[6], head[7]),
+        snapshot: pair(head[6], head[7]),
         work: pair(head[8], head[9]),
     })
 }
@@ -67,7 +67,7 @@ fn is_short(head: Head) -> bool
     if TRACE < head.trace {
         return false;
     }
-    if PICTURE < head.picture {
+    if SNAPSHOT < head.snapshot {
         return false;
     }
     if WORK < head.work {

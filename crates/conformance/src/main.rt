@@ -7,8 +7,8 @@ use buffers::fill_all;
 use buffers::kept;
 use input::Head;
 use input::JOB;
-use input::PICTURE;
 use input::Record;
+use input::SNAPSHOT;
 use input::TRACE;
 use input::WORK;
 use input::read_run;
@@ -40,21 +40,21 @@ fn conform(
     head: Head,
     job: &[u8],
     trace: &mut [u8],
-    picture: &mut [u8],
+    snapshot: &mut [u8],
     work: &mut [u8],
     text: &mut [u8],
     at: usize,
 ) -> usize
-    requires { ⌜ length (now picture) ≤ 2700 ⌝ }
+    requires { ⌜ length (now snapshot) ≤ 2700 ⌝ }
     requires { ⌜ at + 131080 ≤ length (now text) ⌝ }
     ensures { λ r. ⌜ r ≤ at + 131080 ⌝ }
 {
     let seed = head.seed;
-    fill_all(trace, picture, work, seed);
-    let printed = run_to_text(text, at, job, trace, picture, work, head.monitored);
+    fill_all(trace, snapshot, work, seed);
+    let printed = run_to_text(text, at, job, trace, snapshot, work, head.monitored);
     let next = printed.next;
     let answer = printed.answer;
-    let keeps = kept(answer, job, trace, picture, work, seed);
+    let keeps = kept(answer, job, trace, snapshot, work, seed);
     put_verdict(text, next, keeps)
 }
 
@@ -78,7 +78,7 @@ fn conform_all(text: &mut [u8]) -> usize
 {
     let mut job = [0u8; JOB];
     let mut trace = [0u8; TRACE];
-    let mut picture = [0u8; PICTURE];
+    let mut snapshot = [0u8; SNAPSHOT];
     let mut work = [0u8; WORK];
     let mut at: usize = 0;
     let mut left = u64::MAX;
@@ -89,13 +89,13 @@ fn conform_all(text: &mut [u8]) -> usize
         };
         let size = head.job;
         let entries = head.trace;
-        let shown = head.picture;
+        let shown = head.snapshot;
         let loaded = head.work;
         let end = conform(
             head,
             &job[..size],
             &mut trace[..entries],
-            &mut picture[..shown],
+            &mut snapshot[..shown],
             &mut work[..loaded],
             text,
             at,

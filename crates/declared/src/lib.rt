@@ -1,7 +1,7 @@
 // What the tables say of flows, nodes, variables and functions, each under its own kind of number.
 ghost use mathlib.Core.Path.{_≡_};
 ghost use Rattle.model.specs.Declared.{isSeen};
-ghost use Rattle.tables.specs.Tables.{countIn, groupIn, openIn, flowIn, startIn, answerIn, sharedIn, seesIn, lengthIn, bodyIn, startedAt, firstsIn};
+ghost use Rattle.tables.specs.Tables.{countIn, groupIn, openIn, flowIn, startIn, funAnswerIn, sharedIn, seesIn, lengthIn, bodyIn, startedAt, firstsIn};
 ghost use Rattle.declared.specs.Asked.{messagesOf};
 use command::numbers::FlowNum;
 use command::numbers::FunNum;
@@ -12,52 +12,52 @@ use tables::cells::entry;
 use tables::cells::flagged;
 
 // How many commands have this byte.
-pub fn count_of(t: &[u32], byte: u8) -> u32
-    ensures { λ r. ⌜ r ≡ countIn (now (t .entry)) byte ⌝ }
+pub fn count_of(tables: &[u32], byte: u8) -> u32
+    ensures { λ r. ⌜ r ≡ countIn (now (tables .entry)) byte ⌝ }
 {
-    entry(t, cells::COUNTS, byte as usize)
+    entry(tables, cells::COUNTS, byte as usize)
 }
 
 // The highest group so far.
-pub fn group(t: &[u32]) -> u32
-    ensures { λ r. ⌜ r ≡ groupIn (now (t .entry)) ⌝ }
+pub fn group(tables: &[u32]) -> u32
+    ensures { λ r. ⌜ r ≡ groupIn (now (tables .entry)) ⌝ }
 {
-    entry(t, cells::PROGRESS, 0)
+    entry(tables, cells::PROGRESS, 0)
 }
 
 // The node whose handler was opened last.
-pub fn open_node(t: &[u32]) -> NodeNum
-    ensures { λ r. ⌜ r .0 ≡ openIn (now (t .entry)) ⌝ }
+pub fn open_node(tables: &[u32]) -> NodeNum
+    ensures { λ r. ⌜ r .0 ≡ openIn (now (tables .entry)) ⌝ }
 {
-    NodeNum(entry(t, cells::PROGRESS, 1))
+    NodeNum(entry(tables, cells::PROGRESS, 1))
 }
 
 // The flow of a node.
-pub fn flow_of(t: &[u32], n: NodeNum) -> FlowNum
-    ensures { λ r. ⌜ r .0 ≡ flowIn (now (t .entry)) (n .0) ⌝ }
+pub fn flow_of(tables: &[u32], n: NodeNum) -> FlowNum
+    ensures { λ r. ⌜ r .0 ≡ flowIn (now (tables .entry)) (n .0) ⌝ }
 {
-    FlowNum(entry(t, cells::FLOW, n.0 as usize))
+    FlowNum(entry(tables, cells::FLOW, n.0 as usize))
 }
 
 // The start of a variable.
-pub fn start_of(t: &[u32], x: VarNum) -> u32
-    ensures { λ r. ⌜ r ≡ startIn (now (t .entry)) (x .0) ⌝ }
+pub fn start_of(tables: &[u32], x: VarNum) -> u32
+    ensures { λ r. ⌜ r ≡ startIn (now (tables .entry)) (x .0) ⌝ }
 {
-    entry(t, cells::INITIAL, x.0 as usize)
+    entry(tables, cells::INITIAL, x.0 as usize)
 }
 
 // The answer of a function to every argument.
-pub fn answer_of(t: &[u32], f: FunNum) -> u32
-    ensures { λ r. ⌜ r ≡ answerIn (now (t .entry)) (f .0) ⌝ }
+pub fn answer_of(tables: &[u32], f: FunNum) -> u32
+    ensures { λ r. ⌜ r ≡ funAnswerIn (now (tables .entry)) (f .0) ⌝ }
 {
-    entry(t, cells::ANSWER, f.0 as usize)
+    entry(tables, cells::ANSWER, f.0 as usize)
 }
 
 // Whether a variable is shared.
-pub fn is_shared(t: &[u32], x: VarNum) -> bool
-    ensures { λ r. ⌜ r ≡ sharedIn (now (t .entry)) (x .0) ⌝ }
+pub fn is_shared(tables: &[u32], x: VarNum) -> bool
+    ensures { λ r. ⌜ r ≡ sharedIn (now (tables .entry)) (x .0) ⌝ }
 {
-    let scope = entry(t, cells::SCOPE, x.0 as usize);
+    let scope = entry(tables, cells::SCOPE, x.0 as usize);
     scope != 0
 }
 
@@ -73,35 +73,35 @@ fn is_seen(scope: u32, owner: u32, n: NodeNum, f: FlowNum) -> bool
 }
 
 // Whether a node sees a variable.
-pub fn sees(t: &[u32], n: NodeNum, x: VarNum) -> bool
-    ensures { λ r. ⌜ r ≡ seesIn (now (t .entry)) (n .0) (x .0) ⌝ }
+pub fn sees(tables: &[u32], n: NodeNum, x: VarNum) -> bool
+    ensures { λ r. ⌜ r ≡ seesIn (now (tables .entry)) (n .0) (x .0) ⌝ }
 {
     let i = x.0 as usize;
-    let scope = entry(t, cells::SCOPE, i);
-    let owner = entry(t, cells::OWNER, i);
-    let flow = flow_of(t, n);
+    let scope = entry(tables, cells::SCOPE, i);
+    let owner = entry(tables, cells::OWNER, i);
+    let flow = flow_of(tables, n);
     is_seen(scope, owner, n, flow)
 }
 
 // How many commands the handler of a node has.
-pub fn length_of(t: &[u32], n: NodeNum) -> u32
-    ensures { λ r. ⌜ r ≡ lengthIn (now (t .entry)) (n .0) ⌝ }
+pub fn length_of(tables: &[u32], n: NodeNum) -> u32
+    ensures { λ r. ⌜ r ≡ lengthIn (now (tables .entry)) (n .0) ⌝ }
 {
-    entry(t, cells::LENGTH, n.0 as usize)
+    entry(tables, cells::LENGTH, n.0 as usize)
 }
 
 // Whether a node has a BODY.
-pub fn has_body(t: &[u32], n: NodeNum) -> bool
-    ensures { λ r. ⌜ r ≡ bodyIn (now (t .entry)) (n .0) ⌝ }
+pub fn has_body(tables: &[u32], n: NodeNum) -> bool
+    ensures { λ r. ⌜ r ≡ bodyIn (now (tables .entry)) (n .0) ⌝ }
 {
-    flagged(t, cells::BODY, n.0 as usize)
+    flagged(tables, cells::BODY, n.0 as usize)
 }
 
 // Whether some node of a flow has a START.
-pub fn has_start(t: &[u32], f: FlowNum) -> bool
-    ensures { λ r. ⌜ r ≡ startedAt (now (t .entry)) (f .0) ⌝ }
+pub fn has_start(tables: &[u32], f: FlowNum) -> bool
+    ensures { λ r. ⌜ r ≡ startedAt (now (tables .entry)) (f .0) ⌝ }
 {
-    flagged(t, cells::STARTED, f.0 as usize)
+    flagged(tables, cells::STARTED, f.0 as usize)
 }
 
 // What waits at a node at the start: a first message, or nothing.
@@ -111,12 +111,12 @@ pub enum First {
 }
 
 // The first message of a node.
-pub fn first_of(t: &[u32], n: NodeNum) -> First
-    ensures { λ r. ⌜ messagesOf r ≡ firstsIn (now (t .entry)) (n .0) ⌝ }
+pub fn first_message(tables: &[u32], n: NodeNum) -> First
+    ensures { λ r. ⌜ messagesOf r ≡ firstsIn (now (tables .entry)) (n .0) ⌝ }
 {
     let i = n.0 as usize;
-    if flagged(t, cells::FIRST, i) {
-        return First::Message(entry(t, cells::MESSAGE, i));
+    if flagged(tables, cells::FIRST, i) {
+        return First::Message(entry(tables, cells::MESSAGE, i));
     }
     First::Nothing
 }

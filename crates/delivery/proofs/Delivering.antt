@@ -26,10 +26,10 @@ use Rattle.tables.specs.Tables.{countIn}
 use Rattle.engine.specs.Engine.{view}
 use Rattle.writing.specs.Writing.{Writes}
 use Rattle.writing.proofs.Placing.{placed-front}
-use Rattle.output.specs.Output.{shownBytes}
+use Rattle.output.specs.Written.{shownBytes}
 use Rattle.turns.specs.declared.ending.Ending.{Ending}
 use Rattle.turns.specs.declared.Ran.{Ran}
-use Rattle.turns.specs.Runs.{runOf, Ready, RunsAs}
+use Rattle.turns.specs.Runs.{runOf, Loaded, RunsAs}
 use Rattle.delivery.specs.declared.answer.Answer.the-variants as a
 use Rattle.delivery.specs.Accepted.{AcceptedWith, DeliversRun}
 use Rattle.delivery.specs.Answers.{answer, resultFor, buffers, Delivers}
@@ -91,7 +91,7 @@ module _ (job t : List ℕ) (b : Sizes) (f : AcceptedWith job t b) where
   pub variables-fit : countIn t VAR ≤ 64
   variables-fit = omega (arith, f .stands .counts VAR (omega arith), limits past (valid .commands) .variables)
 
-  pub is-ready : Bytes job → (w after : List ℕ) → workSize ≤ length w → after ≡ loaded w (commandsOf (decodeJob job)) → Ready job t after
+  pub is-ready : Bytes job → (w after : List ℕ) → workSize ≤ length w → after ≡ loaded w (commandsOf (decodeJob job)) → Loaded job t after
   is-ready bytes w after long e =
       record { bytes = bytes; past = past; decoded = both .0; stands = f .stands; before = w; long = long; holds = e ∙ loads w }
 
@@ -107,16 +107,16 @@ module _ (job t : List ℕ) (b : Sizes) (f : AcceptedWith job t b) where
 module _ (job t : List ℕ) (before : Buffers) (f : AcceptedWith job t (sizesOf before)) (m : Bool) where
   pub hands-over :
       (trace : List ℕ) (x : Ran) → ((past : List Command) → decodeJob job ≡ accepted past → RunsAs (runOf m past) (before .trace) trace x)
-      → (picture : List ℕ) (next : ℕ) → Writes (shownBytes (view (x .state)) (countIn t NODE) (countIn t VAR)) (before .snapshot) 0 picture next
+      → (snapshot : List ℕ) (next : ℕ) → Writes (shownBytes (view (x .state)) (countIn t NODE) (countIn t VAR)) (before .snapshot) 0 snapshot next
       → (work : List ℕ) (last : ℕ) → Writes (replicate workSize 0) (loaded (before .work) (commandsOf (decodeJob job))) 0 work last
-      → DeliversRun m job before (buffers trace picture work) (x .ending)
+      → DeliversRun m job before (buffers trace snapshot work) (x .ending)
   unfolding report
-  hands-over trace x runs picture next shows work last zeros past e =
+  hands-over trace x runs snapshot next shows work last zeros past e =
       let d = f .decoded in
       let same : f .past ≡ past = cc in
       let r : RunsAs (runOf m (f .past)) (before .trace) trace x = runs (f .past) (both job t (sizesOf before) f .0) in
       let shown = ap (λ (s : State). shownBytes s (countIn t NODE) (countIn t VAR)) (r .state) ∙ shown-snapshot job t (sizesOf before) f (runOf m (f .past) .final) in
-      let given : Delivers (report (programOf (f .past)) (runOf m (f .past))) before (buffers trace picture work) (a.Ended (x .ending)) = record {
+      let given : Delivers (report (programOf (f .past)) (runOf m (f .past))) before (buffers trace snapshot work) (a.Ended (x .ending)) = record {
         told = ap answer (r .answer);
         left = record {
           trace = r .trace;
@@ -124,7 +124,7 @@ module _ (job t : List ℕ) (before : Buffers) (f : AcceptedWith job t (sizesOf 
           work = zeros .buffer ∙ placed-front _ (replicate workSize 0) ∙ ap (written (replicate workSize 0)) (loads job t (sizesOf before) f (before .work)) ∙ zeros-over job t (sizesOf before) f (before .work);
         };
       } in
-      subst (λ (p : List Command). Delivers (report (programOf p) (runOf m p)) before (buffers trace picture work) (a.Ended (x .ending))) same given
+      subst (λ (p : List Command). Delivers (report (programOf p) (runOf m p)) before (buffers trace snapshot work) (a.Ended (x .ending))) same given
 
 -- the model's result of a job that is accepted, and of one that is refused
 pub result-ran : (m : Bool) (job : List ℕ) (b : Sizes) (past : List Command) → decodeFor job b ≡ accepted past → resultFor m job b ≡ report (programOf past) (runOf m past)

@@ -20,22 +20,22 @@ use writing::put_zeros;
 // The run of an accepted job: how it ended; its trace and its snapshot (01's "picture") at the front of their buffers, zeros at that of the work buffer.
 fn run_accepted(
     job: &[u8],
-    t: &[u32; CELLS],
+    tables: &[u32; CELLS],
     trace: &mut [u8],
-    picture: &mut [u8],
+    snapshot: &mut [u8],
     work: &mut [u8],
     monitored: bool,
 ) -> Ending
-    requires { ⌜ AcceptedWith (now job) (now t) (sizesOf (buffers (now trace) (now picture) (now work))) ⌝ }
-    ensures { λ r. ⌜ DeliversRun monitored (now (job .entry)) (buffers (now (trace .entry)) (now (picture .entry)) (now (work .entry))) (buffers (now (trace .exit)) (now (picture .exit)) (now (work .exit))) r ⌝ }
+    requires { ⌜ AcceptedWith (now job) (now tables) (sizesOf (buffers (now trace) (now snapshot) (now work))) ⌝ }
+    ensures { λ r. ⌜ DeliversRun monitored (now (job .entry)) (buffers (now (trace .entry)) (now (snapshot .entry)) (now (work .entry))) (buffers (now (trace .exit)) (now (snapshot .exit)) (now (work .exit))) r ⌝ }
 {
     load(job, work);
-    let ran = run_turns(job, t, work, trace, monitored);
+    let ran = run_turns(job, tables, work, trace, monitored);
     let state = ran.state;
     let ending = ran.ending;
-    let nodes = count_of(t, bytes::NODE) as usize;
-    let variables = count_of(t, bytes::VAR) as usize;
-    put_snapshot(picture, state, nodes, variables);
+    let nodes = count_of(tables, bytes::NODE) as usize;
+    let variables = count_of(tables, bytes::VAR) as usize;
+    put_snapshot(snapshot, state, nodes, variables);
     put_zeros(work, WORK);
     ending
 }
@@ -44,18 +44,18 @@ fn run_accepted(
 pub fn run(
     job: &[u8],
     trace: &mut [u8],
-    picture: &mut [u8],
+    snapshot: &mut [u8],
     work: &mut [u8],
     monitored: bool,
 ) -> Answer
-    ensures { λ r. ⌜ Delivers (resultFor monitored (now (job .entry)) (sizesOf (buffers (now (trace .entry)) (now (picture .entry)) (now (work .entry))))) (buffers (now (trace .entry)) (now (picture .entry)) (now (work .entry))) (buffers (now (trace .exit)) (now (picture .exit)) (now (work .exit))) r ⌝ }
+    ensures { λ r. ⌜ Delivers (resultFor monitored (now (job .entry)) (sizesOf (buffers (now (trace .entry)) (now (snapshot .entry)) (now (work .entry))))) (buffers (now (trace .entry)) (now (snapshot .entry)) (now (work .entry))) (buffers (now (trace .exit)) (now (snapshot .exit)) (now (work .exit))) r ⌝ }
 {
-    let mut t = [0u32; CELLS];
-    let verdict = judge(job, &mut t, trace.len(), picture.len(), work.len());
+    let mut tables = [0u32; CELLS];
+    let verdict = judge(job, &mut tables, trace.len(), snapshot.len(), work.len());
     match verdict {
         Verdict::Refused(r) => Answer::Refused(r),
         Verdict::Accepted => {
-            let ending = run_accepted(job, &t, trace, picture, work, monitored);
+            let ending = run_accepted(job, &tables, trace, snapshot, work, monitored);
             Answer::Ended(ending)
         }
     }

@@ -11,7 +11,7 @@ use Rattle.model.specs.State.{State, positionAt, accumulatorAt, messageAt, wait
 use Rattle.model.specs.Turn.{delivered, blocked, performed}
 use Rattle.command.specs.declared.instruction.Instruction.{Instruction}
 use Rattle.command.specs.Instructions.{instructionOf}
-use Rattle.job.specs.Program.{programIn}
+use Rattle.job.specs.Prepared.{programIn}
 use Rattle.queues.specs.Queues.{full, withoutOldest}
 use Rattle.effects.specs.declared.Registers.{Registers}
 use Rattle.effects.specs.declared.Change.{Change}

@@ -44,9 +44,14 @@ fn continue_at(own: Registers, position: u32, accumulator: u32, change: Change) 
 }
 
 // The effect of a handler command.
-pub fn effect_of(t: &[u32], instruction: Instruction, own: Registers, variable: &[u32]) -> Effect
+pub fn effect_of(
+    tables: &[u32],
+    instruction: Instruction,
+    own: Registers,
+    variable: &[u32],
+) -> Effect
     requires { ⌜ own .position < 4294967295 ⌝ }
-    ensures { λ r. ⌜ Performs (now (t .entry)) instruction own (now (variable .entry)) r ⌝ }
+    ensures { λ r. ⌜ Performs (now (tables .entry)) instruction own (now (variable .entry)) r ⌝ }
 {
     let next = own.position + 1;
     let a = own.accumulator;
@@ -78,7 +83,7 @@ pub fn effect_of(t: &[u32], instruction: Instruction, own: Registers, variable: 
         }
         Instruction::Jump(target) => continue_at(own, target, a, Change::Nothing),
         Instruction::Send(port) => continue_at(own, next, a, Change::Send(port)),
-        Instruction::Call(f) => continue_at(own, next, answer_of(t, f), Change::Nothing),
+        Instruction::Call(f) => continue_at(own, next, answer_of(tables, f), Change::Nothing),
         Instruction::Skip => continue_at(own, next, a, Change::Nothing),
     }
 }

@@ -9,9 +9,9 @@ use lib.Seq.{set-getD}
 use Rattle.model.specs.State.{State as Meant, accumulatorAt, waitingAt}
 use Rattle.command.specs.declared.numbers.NodeNum.{NodeNum}
 use Rattle.tables.specs.Tables.{wiredIn}
-use Rattle.job.specs.Program.{programIn}
+use Rattle.job.specs.Prepared.{programIn}
 use Rattle.entries.specs.Entries.{Comes, ruleOf}
-use Rattle.queues.specs.Queues.{countAt, Bounded}
+use Rattle.queues.specs.Queues.{countAt, BoundedCounts}
 use Rattle.queues.proofs.Queues.{count-at, oldest-is}
 use Rattle.effects.specs.declared.Registers.{Registers}
 use Rattle.effects.specs.Effects.{registersAt, variablesAfter, carried, Possible, isNothing}
@@ -21,7 +21,7 @@ use Rattle.memory.specs.Changes.{Changes}
 use Rattle.engine.specs.declared.State.{State}
 use Rattle.engine.specs.Engine.{view, Turns}
 
-module _ (t w : List ℕ) (s : State) (n : NodeNum) (monitored : Bool) (bounded : Bounded (s .waiting)) (counts : length (s .waiting) ≡ 32) (places : length (s .queue) ≡ 512) where
+module _ (t w : List ℕ) (s : State) (n : NodeNum) (monitored : Bool) (bounded : BoundedCounts (s .waiting)) (counts : length (s .waiting) ≡ 32) (places : length (s .queue) ≡ 512) where
   -- as many messages wait in the model's state as the counts say
   waiting-at : (k : ℕ) → waitingAt (view s) k ≡ getD (s .waiting) k 0
   waiting-at k = count-at (s .waiting) (s .queue) bounded (omega (arith, counts, places)) k

@@ -13,7 +13,7 @@ use Rattle.model.specs.Refusal.{accepted, decodeJob, workSize}
 use Rattle.model.specs.Valid.{Bytes}
 use Rattle.tables.specs.Stands.{Stands}
 use Rattle.handlers.specs.Loading.{loaded}
-use Rattle.job.specs.Program.{turnIn}
+use Rattle.job.specs.Prepared.{turnIn}
 use Rattle.entries.specs.Entries.{Comes, ruleOf}
 use Rattle.engine.specs.declared.State.{State}
 use Rattle.engine.specs.declared.Turned.{Turned}

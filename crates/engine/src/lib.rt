@@ -1,6 +1,6 @@
 // The engine: the state of a run, its start, and one turn.
 ghost use Prim.Native.Nat.{_<_};
-ghost use Rattle.queues.specs.Queues.{Bounded};
+ghost use Rattle.queues.specs.Queues.{BoundedCounts};
 ghost use Rattle.engine.specs.Engine.{Starts, Turns};
 use command::numbers::NodeNum;
 use effects::Registers;
@@ -30,8 +30,8 @@ pub struct Turned {
 }
 
 // Every node is idle, its accumulator and message 0; the queues hold the START values, the variables their starts.
-pub fn start(t: &[u32]) -> State
-    ensures { λ r. ⌜ Starts (now (t .entry)) r ⌝ }
+pub fn start(tables: &[u32]) -> State
+    ensures { λ r. ⌜ Starts (now (tables .entry)) r ⌝ }
 {
     let mut s = State {
         position: [IDLE; 32],
@@ -42,18 +42,18 @@ pub fn start(t: &[u32]) -> State
         variable: [0; 64],
     };
     let mut waiting = s.waiting;
-    fill_queues(&mut s.queue, &mut waiting, t);
+    fill_queues(&mut s.queue, &mut waiting, tables);
     s.waiting = waiting;
-    fill_variables(&mut s.variable, t);
+    fill_variables(&mut s.variable, tables);
     s
 }
 
 impl State {
     // One turn of a node, by the program in tables and work buffer: planned first, and then carried out.
-    pub fn turn(mut self, t: &[u32], work: &[u8], n: NodeNum, monitored: bool) -> Turned
-        requires { ⌜ Bounded (self .waiting) ⌝ }
+    pub fn turn(mut self, tables: &[u32], work: &[u8], n: NodeNum, monitored: bool) -> Turned
+        requires { ⌜ BoundedCounts (self .waiting) ⌝ }
         requires { ⌜ n .0 < 32 ⌝ }
-        ensures { λ r. ⌜ Turns (now (t .entry)) (now (work .entry)) (n .0) monitored self r ⌝ }
+        ensures { λ r. ⌜ Turns (now (tables .entry)) (now (work .entry)) (n .0) monitored self r ⌝ }
     {
         let i = n.0 as usize;
         let position = self.position[i];
@@ -66,7 +66,7 @@ impl State {
             message: message,
         };
         let plan = plan_turn(
-            t,
+            tables,
             work,
             n,
             monitored,
@@ -79,7 +79,14 @@ impl State {
         let change = plan.change;
         let outcome = plan.outcome;
         let mut waiting = self.waiting;
-        change_queues(&mut self.queue, &mut waiting, t, n, change, accumulator);
+        change_queues(
+            &mut self.queue,
+            &mut waiting,
+            tables,
+            n,
+            change,
+            accumulator,
+        );
         self.waiting = waiting;
         change_variable(&mut self.variable, change, accumulator);
         self.position[i] = next.position;

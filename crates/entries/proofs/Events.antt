@@ -16,7 +16,7 @@ use Rattle.command.specs.declared.instruction.Instruction.the-variants as i
 use Rattle.command.specs.Instructions.{instructionOf}
 use Rattle.command.proofs.instruction.Instruction.{the-type as command}
 use Rattle.tables.specs.Tables.{sharedIn}
-use Rattle.job.specs.Program.{programIn}
+use Rattle.job.specs.Prepared.{programIn}
 use Rattle.entries.specs.declared.Event.{Event}
 use Rattle.entries.specs.declared.Event.the-variants as e
 use Rattle.entries.specs.Entries.{entryFor}

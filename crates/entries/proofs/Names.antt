@@ -7,9 +7,9 @@ use Rattle.model.specs.Declared.{instruction}
 use Rattle.model.specs.Program.{sharedIn as isShared}
 use Rattle.model.specs.Turn.{instructionAt}
 use Rattle.model.proofs.Lists.{length-tabulate, getD-tabulate}
-use Rattle.tables.specs.Tables.{sharedIn, wiredIn, answerIn, readIn, writeIn, callIn, lengthIn}
+use Rattle.tables.specs.Tables.{sharedIn, wiredIn, funAnswerIn, readIn, writeIn, callIn, lengthIn}
 use Rattle.handlers.specs.Loading.{fetchedIn}
-use Rattle.job.specs.Program.{programIn}
+use Rattle.job.specs.Prepared.{programIn}
 
 module _ (t w : List ℕ) where
   pub shared-by : (x : ℕ) → isShared (programIn t w) x ≡ sharedIn t x
@@ -20,7 +20,7 @@ module _ (t w : List ℕ) where
   unfolding programIn
   wired-by n port target = refl
 
-  pub answer-by : (f argument : ℕ) → programIn t w .answer f argument ≡ answerIn t f
+  pub answer-by : (f argument : ℕ) → programIn t w .answer f argument ≡ funAnswerIn t f
   unfolding programIn
   answer-by f argument = refl
 

@@ -9,7 +9,7 @@ use Rattle.model.specs.Turn.{Entry as Meant, entry, entryOf, Turned, completed,
 use Rattle.model.specs.Permission.{permitted, redacted, monitoredTurn}
 use Rattle.command.specs.declared.instruction.Instruction.{Instruction}
 use Rattle.command.specs.Instructions.{instructionOf}
-use Rattle.job.specs.Program.{programIn}
+use Rattle.job.specs.Prepared.{programIn}
 use Rattle.entries.specs.declared.Event.{Event}
 use Rattle.entries.specs.declared.Event.the-variants as e
 use Rattle.entries.specs.declared.Entry.{Entry}

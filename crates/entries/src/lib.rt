@@ -47,10 +47,10 @@ pub fn variable_at(variable: &[u32], x: VarNum) -> u32
 }
 
 // The event of reading a variable: a shared one's shows.
-fn read_of(t: &[u32], x: VarNum, variable: &[u32]) -> Event
-    ensures { λ r. ⌜ r ≡ cond (sharedIn (now (t .entry)) (x .0)) (Event.Read x (getD (now (variable .entry)) (x .0) 0)) Event.Other ⌝ }
+fn read_of(tables: &[u32], x: VarNum, variable: &[u32]) -> Event
+    ensures { λ r. ⌜ r ≡ cond (sharedIn (now (tables .entry)) (x .0)) (Event.Read x (getD (now (variable .entry)) (x .0) 0)) Event.Other ⌝ }
 {
-    if is_shared(t, x) {
+    if is_shared(tables, x) {
         let value = variable_at(variable, x);
         Event::Read(x, value)
     } else {
@@ -59,10 +59,10 @@ fn read_of(t: &[u32], x: VarNum, variable: &[u32]) -> Event
 }
 
 // The event of writing a variable: a shared one's shows.
-fn write_of(t: &[u32], x: VarNum, value: u32) -> Event
-    ensures { λ r. ⌜ r ≡ cond (sharedIn (now (t .entry)) (x .0)) (Event.Write x value) Event.Other ⌝ }
+fn write_of(tables: &[u32], x: VarNum, value: u32) -> Event
+    ensures { λ r. ⌜ r ≡ cond (sharedIn (now (tables .entry)) (x .0)) (Event.Write x value) Event.Other ⌝ }
 {
-    if is_shared(t, x) {
+    if is_shared(tables, x) {
         Event::Write(x, value)
     } else {
         Event::Other
@@ -70,13 +70,18 @@ fn write_of(t: &[u32], x: VarNum, value: u32) -> Event
 }
 
 // The event that a handler command leaves, by the accumulator and the variables before it.
-pub fn event_of(t: &[u32], instruction: Instruction, accumulator: u32, variable: &[u32]) -> Event
-    ensures { λ r. ⌜ LeavesEvent (now (t .entry)) instruction accumulator (now (variable .entry)) r ⌝ }
+pub fn event_of(
+    tables: &[u32],
+    instruction: Instruction,
+    accumulator: u32,
+    variable: &[u32],
+) -> Event
+    ensures { λ r. ⌜ LeavesEvent (now (tables .entry)) instruction accumulator (now (variable .entry)) r ⌝ }
 {
     match instruction {
-        Instruction::Get(x) => read_of(t, x, variable),
-        Instruction::Put(x) => write_of(t, x, accumulator),
-        Instruction::Plus(x) => read_of(t, x, variable),
+        Instruction::Get(x) => read_of(tables, x, variable),
+        Instruction::Put(x) => write_of(tables, x, accumulator),
+        Instruction::Plus(x) => read_of(tables, x, variable),
         Instruction::Send(port) => Event::Send(port, accumulator),
         Instruction::Call(f) => Event::Call(f, accumulator),
         _ => Event::Other,
@@ -84,13 +89,13 @@ pub fn event_of(t: &[u32], instruction: Instruction, accumulator: u32, variable:
 }
 
 // Whether the lists permit a node's event.
-pub fn is_permitted(t: &[u32], n: NodeNum, event: Event) -> bool
-    ensures { λ r. ⌜ Judges (now (t .entry)) (n .0) event r ⌝ }
+pub fn is_permitted(tables: &[u32], n: NodeNum, event: Event) -> bool
+    ensures { λ r. ⌜ Judges (now (tables .entry)) (n .0) event r ⌝ }
 {
     match event {
-        Event::Read(x, _) => may_read(t, n, x),
-        Event::Write(x, _) => may_write(t, n, x),
-        Event::Call(f, argument) => may_call(t, n, f, argument),
+        Event::Read(x, _) => may_read(tables, n, x),
+        Event::Write(x, _) => may_write(tables, n, x),
+        Event::Call(f, argument) => may_call(tables, n, f, argument),
         _ => true,
     }
 }

@@ -10,7 +10,7 @@ const JOB: usize = 16385;
 // The bytes of the trace, snapshot (01's "picture") and work buffers: 7 for each of 4,096 turns, and what every run asks for.
 const TRACE: usize = 28672;
 
-const PICTURE: usize = 2624;
+const SNAPSHOT: usize = 2624;
 
 const WORK: usize = 16384;
 
@@ -50,7 +50,7 @@ fn asked() -> Order {
 fn print(monitored: bool) {
     let mut job = [0u8; JOB];
     let mut trace = [0u8; TRACE];
-    let mut picture = [0u8; PICTURE];
+    let mut snapshot = [0u8; SNAPSHOT];
     let mut work = [0u8; WORK];
     let mut text = [0u8; TEXT];
     let size = io::read_full(STDIN_FILENO, &mut job);
@@ -59,7 +59,7 @@ fn print(monitored: bool) {
         0,
         &job[..size],
         &mut trace,
-        &mut picture,
+        &mut snapshot,
         &mut work,
         monitored,
     );

@@ -16,10 +16,10 @@ use Rattle.command.specs.Reading.{commandOf, refusalOf, refusalAt}
 use Rattle.tables.specs.Cells.{blank}
 use Rattle.tables.specs.Stands.{Stands}
 use Rattle.tables.proofs.Blank.{stands-blank}
-use Rattle.job.specs.declared.walk.Step.{Step}
-use Rattle.job.specs.declared.walk.Step.the-variants as s
+use Rattle.job.specs.declared.walk.Continuation.{Continuation}
+use Rattle.job.specs.declared.walk.Continuation.the-variants as s
 use Rattle.job.specs.declared.Verdict.the-variants as v
-use Rattle.job.specs.Decoding.{Onward, Steps, Verdicts}
+use Rattle.job.specs.Decoding.{Onward, Continues, Verdicts}
 use Rattle.job.proofs.Judged.{accepts, refuses}
 
 module _ (job : List ℕ) (place : ℕ) (inside : place < length job) (past : List Command) where
@@ -57,10 +57,10 @@ module _ (job : List ℕ) (place : ℕ) (inside : place < length job) (past : Li
         }
 
 -- a step, by the code's answer
-pub steps-next : (job : List ℕ) (place : ℕ) (past : List Command) (t : List ℕ) (r : Step) (next : ℕ) → Steps job place past t r → r ≡ s.Next next → Onward job place past t next
+pub steps-next : (job : List ℕ) (place : ℕ) (past : List Command) (t : List ℕ) (r : Continuation) (next : ℕ) → Continues job place past t r → r ≡ s.Next next → Onward job place past t next
 steps-next job place past t r next h e = rw e at h
 
-pub steps-stop : (job : List ℕ) (place : ℕ) (past : List Command) (t : List ℕ) (r : Step) (q : Refusal) → Steps job place past t r → r ≡ s.Refused q → (fuel : ℕ) → decodeFrom (suc fuel) job place past ≡ rejected (refusalOf q)
+pub steps-stop : (job : List ℕ) (place : ℕ) (past : List Command) (t : List ℕ) (r : Continuation) (q : Refusal) → Continues job place past t r → r ≡ s.Refused q → (fuel : ℕ) → decodeFrom (suc fuel) job place past ≡ rejected (refusalOf q)
 steps-stop job place past t r q h e = rw e at h
 
 -- what the loop keeps

@@ -22,7 +22,7 @@ use Rattle.tables.specs.Stands.{Stands}
 use Rattle.handlers.specs.Loading.{fetchedIn, loaded}
 use Rattle.handlers.proofs.Slots.{length-loaded, beyond-loaded}
 use Rattle.handlers.proofs.Fetched.{fetched-loaded}
-use Rattle.job.specs.Program.{programIn, PreparedHolds}
+use Rattle.job.specs.Prepared.{programIn, PreparedHolds}
 use Rattle.job.proofs.Schedule.{turn-at}
 
 module _ (t w : List ℕ) (past : List Command) (s : Stands t past) (size : 16384 ≤ length w) (v : Valid past) (fit : CommandsFit past) where

@@ -10,8 +10,8 @@ use Rattle.model.specs.Valid.{Valid}
 use Rattle.command.specs.Reading.{refusalOf}
 use Rattle.tables.specs.Cells.{blank}
 use Rattle.tables.specs.Stands.{Stands}
-use Rattle.job.specs.declared.walk.Step.{Step}
-use Rattle.job.specs.declared.walk.Step.the-variants as s
+use Rattle.job.specs.declared.walk.Continuation.{Continuation}
+use Rattle.job.specs.declared.walk.Continuation.the-variants as s
 use Rattle.job.specs.declared.Verdict.{Verdict}
 use Rattle.job.specs.declared.Verdict.the-variants as v
 
@@ -35,9 +35,9 @@ pub record Onward (job : List ℕ) (place : ℕ) (past : List Command) (t : List
   pub same : (fuel : ℕ) → decodeFrom (suc fuel) job place past ≡ decodeFrom fuel job next (command ∷ past)
 
 -- a step from a place: one command further, or the refusal of the job
-abbrev pub Steps : List ℕ → ℕ → List Command → List ℕ → Step → Type 0
-Steps job place past t (s.Next next) = Onward job place past t next
-Steps job place past t (s.Refused r) = (fuel : ℕ) → decodeFrom (suc fuel) job place past ≡ rejected (refusalOf r)
+abbrev pub Continues : List ℕ → ℕ → List Command → List ℕ → Continuation → Type 0
+Continues job place past t (s.Next next) = Onward job place past t next
+Continues job place past t (s.Refused r) = (fuel : ℕ) → decodeFrom (suc fuel) job place past ≡ rejected (refusalOf r)
 
 -- the verdict is the model's, and the tables stand for the commands of an accepted job
 pub record Verdicts (d : Decoded) (t : List ℕ) (r : Verdict) : Type 0 where

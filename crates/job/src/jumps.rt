@@ -26,8 +26,8 @@ fn is_far(c: Command, len: u32) -> bool
 }
 
 // 9: refused at the first jump whose target exceeds its handler's command count.
-pub(crate) fn check_jumps(job: &[u8], t: &[u32]) -> Verdict
-    ensures { λ r. ⌜ ((all : List Past) → decode (now (job .entry)) ≡ accepted all → Stands (now (t .entry)) all → verdictOf r ≡ farJump all) ⌝ }
+pub(crate) fn check_jumps(job: &[u8], tables: &[u32]) -> Verdict
+    ensures { λ r. ⌜ ((all : List Past) → decode (now (job .entry)) ≡ accepted all → Stands (now (tables .entry)) all → verdictOf r ≡ farJump all) ⌝ }
 {
     let mut at = 0;
     let mut opened = NodeNum(0);
@@ -38,7 +38,7 @@ pub(crate) fn check_jumps(job: &[u8], t: &[u32]) -> Verdict
                 return Verdict::Refused(r);
             }
             Parsed::Whole(c, next) => {
-                let len = length_of(t, opened);
+                let len = length_of(tables, opened);
                 if is_far(c, len) {
                     return Verdict::Refused(Refusal {
                         number: 9,

@@ -21,25 +21,25 @@ pub enum Verdict {
 }
 
 // The tests 1 to 9: the verdict, and the tables of an accepted job.
-fn judge(job: &[u8], t: &mut [u32]) -> Verdict
-    requires { ⌜ length (now t) ≡ cellCount ⌝ }
-    ensures { λ r. ⌜ Verdicts (decodeJob (now (job .entry))) (now (t .exit)) r ⌝ }
+fn judge_commands(job: &[u8], tables: &mut [u32]) -> Verdict
+    requires { ⌜ length (now tables) ≡ cellCount ⌝ }
+    ensures { λ r. ⌜ Verdicts (decodeJob (now (job .entry))) (now (tables .exit)) r ⌝ }
 {
-    let walked = walk(job, t);
+    let walked = walk(job, tables);
     match walked {
         Verdict::Refused(r) => Verdict::Refused(r),
-        Verdict::Accepted => check_jumps(job, t),
+        Verdict::Accepted => check_jumps(job, tables),
     }
 }
 
 // The verdict on a job of any length, whatever the tables held before: an accepted job leaves its tables, a refused one blank ones.
-pub fn decode(job: &[u8], t: &mut [u32; CELLS]) -> Verdict
-    ensures { λ r. ⌜ Decides (decodeJob (now (job .entry))) (now (t .exit)) r ⌝ }
+pub fn decode(job: &[u8], tables: &mut [u32; CELLS]) -> Verdict
+    ensures { λ r. ⌜ Decides (decodeJob (now (job .entry))) (now (tables .exit)) r ⌝ }
 {
-    let judged = judge(job, t);
+    let judged = judge_commands(job, tables);
     match judged {
         Verdict::Refused(r) => {
-            clear(t);
+            clear(tables);
             Verdict::Refused(r)
         }
         Verdict::Accepted => Verdict::Accepted,

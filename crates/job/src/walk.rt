@@ -9,7 +9,7 @@ ghost use Rattle.model.specs.Valid.{Valid};
 ghost use Rattle.command.specs.Reading.{commandOf, Known};
 ghost use Rattle.tables.specs.Stands.{Stands};
 ghost use Rattle.tables.specs.Cells.{cellCount};
-ghost use Rattle.job.specs.Decoding.{Steps, Verdicts};
+ghost use Rattle.job.specs.Decoding.{Continues, Verdicts};
 use crate::Verdict;
 use command::read::Command;
 use command::read::Parsed;
@@ -20,43 +20,43 @@ use tables::cells::clear;
 use violations::violation_of;
 
 // A step: to the place of the next command, or the refusal of the job.
-pub(crate) enum Step {
+pub(crate) enum Continuation {
     Next(usize),
     Refused(Refusal),
 }
 
 // Admits the command that was read at a place: it is refused there, or noted.
-fn admit(job: &[u8], at: usize, c: Command, next: usize, t: &mut [u32]) -> Step
+fn admit(job: &[u8], at: usize, c: Command, next: usize, tables: &mut [u32]) -> Continuation
     requires { ⌜ (at < length (now job)) × (length (now job) ≤ 16384) ⌝ }
     requires { ⌜ (readCommand (now job) at ≡ whole (commandOf c) next) × Known c ⌝ }
-    ensures { λ r. ⌜ ((past : List Past) → Stands (now (t .entry)) past → Valid past → length past ≤ at → Steps (now (job .entry)) at past (now (t .exit)) r) ⌝ }
+    ensures { λ r. ⌜ ((past : List Past) → Stands (now (tables .entry)) past → Valid past → length past ≤ at → Continues (now (job .entry)) at past (now (tables .exit)) r) ⌝ }
 {
-    let number = violation_of(t, c);
+    let number = violation_of(tables, c);
     if number != 0 {
-        return Step::Refused(Refusal { number, place: at });
+        return Continuation::Refused(Refusal { number, place: at });
     }
-    note(t, c);
-    Step::Next(next)
+    note(tables, c);
+    Continuation::Next(next)
 }
 
 // One step: the command at a place.
-fn advance(job: &[u8], at: usize, t: &mut [u32]) -> Step
+fn advance(job: &[u8], at: usize, tables: &mut [u32]) -> Continuation
     requires { ⌜ (at < length (now job)) × (length (now job) ≤ 16384) ⌝ }
-    ensures { λ r. ⌜ ((past : List Past) → Stands (now (t .entry)) past → Valid past → length past ≤ at → Steps (now (job .entry)) at past (now (t .exit)) r) ⌝ }
+    ensures { λ r. ⌜ ((past : List Past) → Stands (now (tables .entry)) past → Valid past → length past ≤ at → Continues (now (job .entry)) at past (now (tables .exit)) r) ⌝ }
 {
     let read = read_command(job, at);
     match read {
-        Parsed::Refused(r) => Step::Refused(r),
-        Parsed::Whole(c, next) => admit(job, at, c, next, t),
+        Parsed::Refused(r) => Continuation::Refused(r),
+        Parsed::Whole(c, next) => admit(job, at, c, next, tables),
     }
 }
 
 // The tests 1 to 8: the verdict, and the tables of an accepted job.
-pub(crate) fn walk(job: &[u8], t: &mut [u32]) -> Verdict
-    requires { ⌜ length (now t) ≡ cellCount ⌝ }
-    ensures { λ r. ⌜ Verdicts (decode (now (job .entry))) (now (t .exit)) r ⌝ }
+pub(crate) fn walk(job: &[u8], tables: &mut [u32]) -> Verdict
+    requires { ⌜ length (now tables) ≡ cellCount ⌝ }
+    ensures { λ r. ⌜ Verdicts (decode (now (job .entry))) (now (tables .exit)) r ⌝ }
 {
-    clear(t);
+    clear(tables);
     if job.len() == 0 {
         return Verdict::Refused(Refusal {
             number: 1,
@@ -71,12 +71,12 @@ pub(crate) fn walk(job: &[u8], t: &mut [u32]) -> Verdict
     }
     let mut at = 0;
     while at < job.len() {
-        let s = advance(job, at, t);
+        let s = advance(job, at, tables);
         match s {
-            Step::Refused(r) => {
+            Continuation::Refused(r) => {
                 return Verdict::Refused(r);
             }
-            Step::Next(next) => {
+            Continuation::Next(next) => {
                 at = next;
             }
         }

@@ -5,89 +5,89 @@ use mathlib.Core.List.{List, _++_}
 use native.Mathlib.Numerals.{add-one}
 use native.Mathlib.Omega.{arith}
 use lib.ListN.{length}
-use Rattle.text.specs.Text.{firstOf}
+use Rattle.text.specs.Text.{joined}
 use Rattle.text.proofs.Putting.{Put, all-put, front-room, back-room, two-put, room-first, room-second, room-third, three-put}
 use Rattle.model.specs.Output.{Answer}
 use Rattle.writing.specs.Writing.{Writes}
 use Rattle.lines.specs.Lines.{entryLine, endLine, nextPart, partAt, nodeLine, variableLine, nodeLines, snapshotLines, runLines}
 
 -- the next part
-pub part-next : (picture : List ℕ) (n place next : ℕ) → place ≡ partAt picture n → next ≡ nextPart picture place → next ≡ partAt picture (n + 1)
+pub part-next : (snapshot : List ℕ) (n place next : ℕ) → place ≡ partAt snapshot n → next ≡ nextPart snapshot place → next ≡ partAt snapshot (n + 1)
 unfolding partAt
-part-next picture n place next e w = w ∙ rw (e, add-one)
+part-next snapshot n place next e w = w ∙ rw (e, add-one)
 
 -- a part and those before it lie inside the snapshot
-parts-grow : (picture : List ℕ) (k d n : ℕ) → n ≡ d + k → partAt picture k ≤ partAt picture n
+parts-grow : (snapshot : List ℕ) (k d n : ℕ) → n ≡ d + k → partAt snapshot k ≤ partAt snapshot n
 unfolding partAt
-parts-grow picture k zero n e = let same : n ≡ k = omega arith in omega (arith, ap (partAt picture) same)
-parts-grow picture k (suc d) zero e = absurd (omega arith)
-parts-grow picture k (suc d) (suc n) e = omega (arith, parts-grow picture k d n (omega arith))
+parts-grow snapshot k zero n e = let same : n ≡ k = omega arith in omega (arith, ap (partAt snapshot) same)
+parts-grow snapshot k (suc d) zero e = absurd (omega arith)
+parts-grow snapshot k (suc d) (suc n) e = omega (arith, parts-grow snapshot k d n (omega arith))
 
 pub part-inside :
-    (picture : List ℕ) (nodes variables n place : ℕ) → partAt picture nodes + 4 * variables ≤ length picture → n < nodes → place ≡ partAt picture n
-    → nextPart picture place ≤ length picture
-part-inside picture nodes variables n place fits inside e =
-    omega (arith, part-next picture n place (nextPart picture place) e refl, parts-grow picture (n + 1) (nodes - (n + 1)) nodes (omega arith))
+    (snapshot : List ℕ) (nodes variables n place : ℕ) → partAt snapshot nodes + 4 * variables ≤ length snapshot → n < nodes → place ≡ partAt snapshot n
+    → nextPart snapshot place ≤ length snapshot
+part-inside snapshot nodes variables n place fits inside e =
+    omega (arith, part-next snapshot n place (nextPart snapshot place) e refl, parts-grow snapshot (n + 1) (nodes - (n + 1)) nodes (omega arith))
 
 -- the line of node n
 abbrev pub partLine : List ℕ → ℕ → List ℕ
-partLine picture n = nodeLine picture (partAt picture n) n
+partLine snapshot n = nodeLine snapshot (partAt snapshot n) n
 
-module _ (picture : List ℕ) (nodes variables : ℕ) (before : List ℕ) (at : ℕ) (fits : at + length (snapshotLines picture nodes variables) ≤ length before) where
+module _ (snapshot : List ℕ) (nodes variables : ℕ) (before : List ℕ) (at : ℕ) (fits : at + length (snapshotLines snapshot nodes variables) ≤ length before) where
   abbrev lines : List ℕ
-  lines = firstOf (variableLine picture (partAt picture nodes)) variables
+  lines = joined (variableLine snapshot (partAt snapshot nodes)) variables
 
-  parts : at + length (nodeLines picture nodes ++ lines) ≤ length before
+  parts : at + length (nodeLines snapshot nodes ++ lines) ≤ length before
   unfolding snapshotLines
   parts = fits
 
-  pub nodes-room : at + length (firstOf (partLine picture) nodes) ≤ length before
-  nodes-room = front-room (nodeLines picture nodes) lines before at parts
+  pub nodes-room : at + length (joined (partLine snapshot) nodes) ≤ length before
+  nodes-room = front-room (nodeLines snapshot nodes) lines before at parts
 
-  module _ (n place : ℕ) (low : n ≤ nodes) (high : nodes ≤ n) (e : place ≡ partAt picture n) (buffer : List ℕ) (next : ℕ) (w : Put (partLine picture) before at n buffer next) where
-    nodes-put : Writes (nodeLines picture nodes) before at buffer next
-    nodes-put = all-put (partLine picture) before at nodes n buffer next low high w
+  module _ (n place : ℕ) (low : n ≤ nodes) (high : nodes ≤ n) (e : place ≡ partAt snapshot n) (buffer : List ℕ) (next : ℕ) (w : Put (partLine snapshot) before at n buffer next) where
+    nodes-put : Writes (nodeLines snapshot nodes) before at buffer next
+    nodes-put = all-put (partLine snapshot) before at nodes n buffer next low high w
 
-    here : place ≡ partAt picture nodes
+    here : place ≡ partAt snapshot nodes
     here = let same : n ≡ nodes = omega arith in rw same at e
 
-    pub variables-inside : partAt picture nodes + 4 * variables ≤ length picture → place + 4 * variables ≤ length picture
+    pub variables-inside : partAt snapshot nodes + 4 * variables ≤ length snapshot → place + 4 * variables ≤ length snapshot
     variables-inside h = omega (arith, here)
 
-    pub variables-room : next + length (firstOf (variableLine picture place) variables) ≤ length buffer
-    variables-room = rw here (back-room (nodeLines picture nodes) lines before at parts buffer next nodes-put)
+    pub variables-room : next + length (joined (variableLine snapshot place) variables) ≤ length buffer
+    variables-room = rw here (back-room (nodeLines snapshot nodes) lines before at parts buffer next nodes-put)
 
-    pub picture-put :
-        (after : List ℕ) (last : ℕ) → Writes (firstOf (variableLine picture place) variables) buffer next after last
-        → Writes (snapshotLines picture nodes variables) before at after last
+    pub snapshot-put :
+        (after : List ℕ) (last : ℕ) → Writes (joined (variableLine snapshot place) variables) buffer next after last
+        → Writes (snapshotLines snapshot nodes variables) before at after last
     unfolding snapshotLines
-    picture-put after last p = two-put (nodeLines picture nodes) lines before at parts buffer next nodes-put after last (rw here at p)
+    snapshot-put after last p = two-put (nodeLines snapshot nodes) lines before at parts buffer next nodes-put after last (rw here at p)
 
 -- a run: entries, answer, snapshot
-module _ (x : Answer) (trace picture : List ℕ) (nodes variables : ℕ) (before : List ℕ) (at : ℕ) (room : at + length (runLines x trace picture nodes variables) ≤ length before) where
+module _ (x : Answer) (trace snapshot : List ℕ) (nodes variables : ℕ) (before : List ℕ) (at : ℕ) (room : at + length (runLines x trace snapshot nodes variables) ≤ length before) where
   abbrev entries : List ℕ
-  entries = firstOf (entryLine trace) (x .turns)
+  entries = joined (entryLine trace) (x .turns)
 
-  abbrev pictured : List ℕ
-  pictured = snapshotLines picture nodes variables
+  abbrev shown : List ℕ
+  shown = snapshotLines snapshot nodes variables
 
-  fits : at + length (entries ++ (endLine x ++ pictured)) ≤ length before
+  fits : at + length (entries ++ (endLine x ++ shown)) ≤ length before
   unfolding runLines
   fits = room
 
-  pub entries-room : at + length (firstOf (entryLine trace) (x .turns)) ≤ length before
-  entries-room = room-first entries (endLine x) pictured before at fits
+  pub entries-room : at + length (joined (entryLine trace) (x .turns)) ≤ length before
+  entries-room = room-first entries (endLine x) shown before at fits
 
-  module _ (second : List ℕ) (two : ℕ) (p : Writes (firstOf (entryLine trace) (x .turns)) before at second two) where
+  module _ (second : List ℕ) (two : ℕ) (p : Writes (joined (entryLine trace) (x .turns)) before at second two) where
     pub answer-room : two + length (endLine x) ≤ length second
-    answer-room = room-second entries (endLine x) pictured before at fits second two p
+    answer-room = room-second entries (endLine x) shown before at fits second two p
 
     module _ (third : List ℕ) (three : ℕ) (q : Writes (endLine x) second two third three) where
-      pub picture-room : three + length (snapshotLines picture nodes variables) ≤ length third
-      picture-room = room-third entries (endLine x) pictured before at fits second two p third three q
+      pub snapshot-room : three + length (snapshotLines snapshot nodes variables) ≤ length third
+      snapshot-room = room-third entries (endLine x) shown before at fits second two p third three q
 
       pub run-put :
-          (after : List ℕ) (last : ℕ) → Writes (snapshotLines picture nodes variables) third three after last
-          → Writes (runLines x trace picture nodes variables) before at after last
+          (after : List ℕ) (last : ℕ) → Writes (snapshotLines snapshot nodes variables) third three after last
+          → Writes (runLines x trace snapshot nodes variables) before at after last
       unfolding runLines
-      run-put = three-put entries (endLine x) pictured before at fits second two p third three q
+      run-put = three-put entries (endLine x) shown before at fits second two p third three q

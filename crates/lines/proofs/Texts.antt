@@ -4,7 +4,7 @@ use mathlib.Core.Path.{_≡_, sym, ap, _∙_}
 use mathlib.Core.List.{List, [], _∷_, _++_, append-assoc}
 use native.Mathlib.Omega.{arith}
 use lib.ListN.{length}
-use Rattle.text.specs.Text.{decimal, field, fields, line, firstOf}
+use Rattle.text.specs.Text.{decimal, field, fields, line, joined}
 use Rattle.text.proofs.Putting.{fields-append, fields-first, front-room, back-room, two-put, room-first, room-second, room-third, three-put}
 use Rattle.model.specs.Command.{numberAt}
 use Rattle.writing.specs.Writing.{Writes}
@@ -20,29 +20,29 @@ entry-same trace k node kind number value e₁ e₂ e₃ e₄ = rw (e₁, e₂, 
 
 -- the field of message i
 abbrev pub messageField : List ℕ → ℕ → ℕ → List ℕ
-messageField picture place i = field (numberAt picture (place + 4 * i) 4)
+messageField snapshot place i = field (numberAt snapshot (place + 4 * i) 4)
 
-pub messages-each : (picture : List ℕ) (place count : ℕ) → firstOf (messageField picture place) count ≡ fields (messagesAt picture place count)
+pub messages-each : (snapshot : List ℕ) (place count : ℕ) → joined (messageField snapshot place) count ≡ fields (messagesAt snapshot place count)
 unfolding messagesAt
-messages-each picture place count = sym (fields-first (λ i. numberAt picture (place + 4 * i) 4) count)
+messages-each snapshot place count = sym (fields-first (λ i. numberAt snapshot (place + 4 * i) 4) count)
 
 -- a node: its word, five numbers, the messages with the line feed
 module _
-    (picture : List ℕ) (place n position accumulator message waiting : ℕ)
-    (e₁ : position ≡ numberAt picture place 1) (e₂ : accumulator ≡ numberAt picture (place + 1) 4)
-    (e₃ : message ≡ numberAt picture (place + 5) 4) (e₄ : waiting ≡ waitingAt picture place)
-    (before : List ℕ) (at : ℕ) (room : at + length (nodeLine picture place n) ≤ length before)
+    (snapshot : List ℕ) (place n position accumulator message waiting : ℕ)
+    (e₁ : position ≡ numberAt snapshot place 1) (e₂ : accumulator ≡ numberAt snapshot (place + 1) 4)
+    (e₃ : message ≡ numberAt snapshot (place + 5) 4) (e₄ : waiting ≡ waitingAt snapshot place)
+    (before : List ℕ) (at : ℕ) (room : at + length (nodeLine snapshot place n) ≤ length before)
   where
     abbrev five : List ℕ
     five = n ∷ position ∷ accumulator ∷ message ∷ waiting ∷ []
 
     abbrev messages : List ℕ
-    messages = messagesAt picture (place + 10) waiting
+    messages = messagesAt snapshot (place + 10) waiting
 
     abbrev back : List ℕ
     back = fields messages ++ (10 ∷ [])
 
-    same : nodeLine picture place n ≡ nodeWord ++ (fields five ++ back)
+    same : nodeLine snapshot place n ≡ nodeWord ++ (fields five ++ back)
     unfolding nodeLine
     same =
         rw (← e₁, ← e₂, ← e₃, ← e₄)
@@ -70,7 +70,7 @@ module _
           pub end-room : four < length fourth
           end-room = omega (arith, back-room (fields messages) (10 ∷ []) third three rest fourth four r)
 
-          pub node-put : (after : List ℕ) (last : ℕ) → Writes (10 ∷ []) fourth four after last → Writes (nodeLine picture place n) before at after last
+          pub node-put : (after : List ℕ) (last : ℕ) → Writes (10 ∷ []) fourth four after last → Writes (nodeLine snapshot place n) before at after last
           node-put after last w =
               rw same
               (three-put nodeWord (fields five) back before at fits second two p third three q after last
@@ -78,7 +78,7 @@ module _
 
 -- a variable
 pub variable-same :
-    (picture : List ℕ) (place x value : ℕ) → value ≡ numberAt picture (place + 4 * x) 4
-    → variableLine picture place x ≡ line varWord (x ∷ value ∷ [])
+    (snapshot : List ℕ) (place x value : ℕ) → value ≡ numberAt snapshot (place + 4 * x) 4
+    → variableLine snapshot place x ≡ line varWord (x ∷ value ∷ [])
 unfolding variableLine
-variable-same picture place x value e = rw e
+variable-same snapshot place x value e = rw e

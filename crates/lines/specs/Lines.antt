@@ -1,7 +1,7 @@
 -- The lines that a run prints ("Jobs worked by hand"), by the bytes that it left.
 use Prim.Native.Nat.{ℕ, zero, suc, _+_, _*_}
 use mathlib.Core.List.{List, [], _∷_, _++_}
-use Rattle.text.specs.Text.{decimal, line, firstOf}
+use Rattle.text.specs.Text.{decimal, line, joined}
 use Rattle.model.specs.Command.{numberAt}
 use Rattle.model.specs.Output.{Answer}
 
@@ -32,43 +32,43 @@ endLine x =
 
 -- so many messages from a place of the snapshot ("picture") on
 unfoldable pub messagesAt : List ℕ → ℕ → ℕ → List ℕ
-messagesAt picture place count = firstOf (λ i. numberAt picture (place + 4 * i) 4 ∷ []) count
+messagesAt snapshot place count = joined (λ i. numberAt snapshot (place + 4 * i) 4 ∷ []) count
 
 -- how many messages wait at the node whose part begins at a place of the snapshot, and where the next part begins
 abbrev pub waitingAt : List ℕ → ℕ → ℕ
-waitingAt picture place = numberAt picture (place + 9) 1
+waitingAt snapshot place = numberAt snapshot (place + 9) 1
 
 abbrev pub nextPart : List ℕ → ℕ → ℕ
-nextPart picture place = place + 10 + 4 * waitingAt picture place
+nextPart snapshot place = place + 10 + 4 * waitingAt snapshot place
 
 -- where the part of node n begins
 unfoldable pub partAt : List ℕ → ℕ → ℕ
-partAt picture zero = 0
-partAt picture (suc n) = nextPart picture (partAt picture n)
+partAt snapshot zero = 0
+partAt snapshot (suc n) = nextPart snapshot (partAt snapshot n)
 
 -- the node whose part begins at a place: `node`, number, position, accumulator ("hand"), message, waiting count, then the waiting messages
 unfoldable pub nodeLine : List ℕ → ℕ → ℕ → List ℕ
-nodeLine picture place n =
+nodeLine snapshot place n =
     line nodeWord
-    (n ∷ numberAt picture place 1 ∷ numberAt picture (place + 1) 4 ∷ numberAt picture (place + 5) 4 ∷ waitingAt picture place
-    ∷ messagesAt picture (place + 10) (waitingAt picture place))
+    (n ∷ numberAt snapshot place 1 ∷ numberAt snapshot (place + 1) 4 ∷ numberAt snapshot (place + 5) 4 ∷ waitingAt snapshot place
+    ∷ messagesAt snapshot (place + 10) (waitingAt snapshot place))
 
 -- variable x of those from a place of the snapshot on: `var`, number, value
 unfoldable pub variableLine : List ℕ → ℕ → ℕ → List ℕ
-variableLine picture place x = line varWord (x ∷ numberAt picture (place + 4 * x) 4 ∷ [])
+variableLine snapshot place x = line varWord (x ∷ numberAt snapshot (place + 4 * x) 4 ∷ [])
 
 -- the snapshot: its nodes, then its variables
 abbrev pub nodeLines : List ℕ → ℕ → List ℕ
-nodeLines picture nodes = firstOf (λ n. nodeLine picture (partAt picture n) n) nodes
+nodeLines snapshot nodes = joined (λ n. nodeLine snapshot (partAt snapshot n) n) nodes
 
 unfoldable pub snapshotLines : List ℕ → ℕ → ℕ → List ℕ
-snapshotLines picture nodes variables =
-    nodeLines picture nodes ++ firstOf (variableLine picture (partAt picture nodes)) variables
+snapshotLines snapshot nodes variables =
+    nodeLines snapshot nodes ++ joined (variableLine snapshot (partAt snapshot nodes)) variables
 
 -- a run: its entries, its answer, its snapshot
 unfoldable pub runLines : Answer → List ℕ → List ℕ → ℕ → ℕ → List ℕ
-runLines x trace picture nodes variables =
-    firstOf (entryLine trace) (x .turns) ++ (endLine x ++ snapshotLines picture nodes variables)
+runLines x trace snapshot nodes variables =
+    joined (entryLine trace) (x .turns) ++ (endLine x ++ snapshotLines snapshot nodes variables)
 
 -- a refusal: `refused`, number, place
 unfoldable pub refusedLine : ℕ → ℕ → List ℕ

@@ -8,9 +8,9 @@ ghost use Rattle.writing.specs.Writing.{Writes};
 ghost use Rattle.turns.specs.Endings.{answerOf};
 ghost use Rattle.lines.specs.Lines.{partAt, endLine, runLines, refusedLine};
 use command::read::Refusal;
-use snapshot::put_snapshot;
+use snapshot::put_snapshot_lines;
 use text::put_line;
-use trace::put_entries;
+use trace::put_entry_lines;
 use turns::ending::Ending;
 
 // Puts the line of a refusal: `refused`, number, place.
@@ -45,17 +45,17 @@ pub fn put_run(
     at: usize,
     ending: Ending,
     trace: &[u8],
-    picture: &[u8],
+    snapshot: &[u8],
     nodes: usize,
     variables: usize,
 ) -> usize
     requires { ⌜ 7 * (ending .turns) ≤ length (now trace) ⌝ }
-    requires { ⌜ partAt (now picture) nodes + 4 * variables ≤ length (now picture) ⌝ }
-    requires { ⌜ at + length (runLines (answerOf ending) (now trace) (now picture) nodes variables) ≤ length (now text) ⌝ }
-    ensures { λ r. ⌜ Writes (runLines (answerOf ending) (now (trace .entry)) (now (picture .entry)) nodes variables) (now (text .entry)) at (now (text .exit)) r ⌝ }
+    requires { ⌜ partAt (now snapshot) nodes + 4 * variables ≤ length (now snapshot) ⌝ }
+    requires { ⌜ at + length (runLines (answerOf ending) (now trace) (now snapshot) nodes variables) ≤ length (now text) ⌝ }
+    ensures { λ r. ⌜ Writes (runLines (answerOf ending) (now (trace .entry)) (now (snapshot .entry)) nodes variables) (now (text .entry)) at (now (text .exit)) r ⌝ }
 {
     let turns = ending.turns as usize;
-    let end = put_entries(text, at, trace, turns);
+    let end = put_entry_lines(text, at, trace, turns);
     let first = put_end(text, end, ending);
-    put_snapshot(text, first, picture, nodes, variables)
+    put_snapshot_lines(text, first, snapshot, nodes, variables)
 }

@@ -3,7 +3,7 @@ ghost use mathlib.Core.Path.{_≡_};
 ghost use Prim.Native.Nat.{_+_, _*_, _≤_};
 ghost use lib.ListN.{length};
 ghost use Rattle.writing.specs.Writing.{Writes};
-ghost use Rattle.text.specs.Text.{fields, firstOf};
+ghost use Rattle.text.specs.Text.{fields, joined};
 ghost use Rattle.lines.specs.Lines.{messagesAt, nextPart, partAt, nodeLine, variableLine, snapshotLines};
 use command::read::operand;
 use text::put;
@@ -13,15 +13,15 @@ use text::put_line;
 use writing::put_byte;
 
 // Puts the messages that stand from a place of the snapshot on.
-fn put_messages(text: &mut [u8], at: usize, picture: &[u8], place: usize, count: usize) -> usize
-    requires { ⌜ place + 4 * count ≤ length (now picture) ⌝ }
-    requires { ⌜ at + length (fields (messagesAt (now picture) place count)) ≤ length (now text) ⌝ }
-    ensures { λ r. ⌜ Writes (fields (messagesAt (now (picture .entry)) place count)) (now (text .entry)) at (now (text .exit)) r ⌝ }
+fn put_messages(text: &mut [u8], at: usize, snapshot: &[u8], place: usize, count: usize) -> usize
+    requires { ⌜ place + 4 * count ≤ length (now snapshot) ⌝ }
+    requires { ⌜ at + length (fields (messagesAt (now snapshot) place count)) ≤ length (now text) ⌝ }
+    ensures { λ r. ⌜ Writes (fields (messagesAt (now (snapshot .entry)) place count)) (now (text .entry)) at (now (text .exit)) r ⌝ }
 {
     let mut next = at;
     let mut i: usize = 0;
     while i < count {
-        let message = operand(picture, place + 4 * i, 4);
+        let message = operand(snapshot, place + 4 * i, 4);
         next = put_field(text, next, message as u64);
         i += 1;
     }
@@ -29,15 +29,15 @@ fn put_messages(text: &mut [u8], at: usize, picture: &[u8], place: usize, count:
 }
 
 // Puts the line of node n, whose part begins at a place of the snapshot.
-fn put_node(text: &mut [u8], at: usize, picture: &[u8], place: usize, n: usize) -> usize
-    requires { ⌜ nextPart (now picture) place ≤ length (now picture) ⌝ }
-    requires { ⌜ at + length (nodeLine (now picture) place n) ≤ length (now text) ⌝ }
-    ensures { λ r. ⌜ Writes (nodeLine (now (picture .entry)) place n) (now (text .entry)) at (now (text .exit)) r ⌝ }
+fn put_node_line(text: &mut [u8], at: usize, snapshot: &[u8], place: usize, n: usize) -> usize
+    requires { ⌜ nextPart (now snapshot) place ≤ length (now snapshot) ⌝ }
+    requires { ⌜ at + length (nodeLine (now snapshot) place n) ≤ length (now text) ⌝ }
+    ensures { λ r. ⌜ Writes (nodeLine (now (snapshot .entry)) place n) (now (text .entry)) at (now (text .exit)) r ⌝ }
 {
-    let position = operand(picture, place, 1);
-    let accumulator = operand(picture, place + 1, 4);
-    let message = operand(picture, place + 5, 4);
-    let waiting = operand(picture, place + 9, 1);
+    let position = operand(snapshot, place, 1);
+    let accumulator = operand(snapshot, place + 1, 4);
+    let message = operand(snapshot, place + 5, 4);
+    let waiting = operand(snapshot, place + 9, 1);
     let numbers = [
         n as u64,
         position as u64,
@@ -47,26 +47,26 @@ fn put_node(text: &mut [u8], at: usize, picture: &[u8], place: usize, n: usize) 
     ];
     let first = put(text, at, b"node");
     let messages = put_fields(text, first, &numbers);
-    let end = put_messages(text, messages, picture, place + 10, waiting as usize);
+    let end = put_messages(text, messages, snapshot, place + 10, waiting as usize);
     put_byte(text, end, 10)
 }
 
 // Puts the lines of the variables that stand from a place of the snapshot on.
-fn put_variables(
+fn put_variable_lines(
     text: &mut [u8],
     at: usize,
-    picture: &[u8],
+    snapshot: &[u8],
     place: usize,
     variables: usize,
 ) -> usize
-    requires { ⌜ place + 4 * variables ≤ length (now picture) ⌝ }
-    requires { ⌜ at + length (firstOf (variableLine (now picture) place) variables) ≤ length (now text) ⌝ }
-    ensures { λ r. ⌜ Writes (firstOf (variableLine (now (picture .entry)) place) variables) (now (text .entry)) at (now (text .exit)) r ⌝ }
+    requires { ⌜ place + 4 * variables ≤ length (now snapshot) ⌝ }
+    requires { ⌜ at + length (joined (variableLine (now snapshot) place) variables) ≤ length (now text) ⌝ }
+    ensures { λ r. ⌜ Writes (joined (variableLine (now (snapshot .entry)) place) variables) (now (text .entry)) at (now (text .exit)) r ⌝ }
 {
     let mut next = at;
     let mut x: usize = 0;
     while x < variables {
-        let value = operand(picture, place + 4 * x, 4);
+        let value = operand(snapshot, place + 4 * x, 4);
         let numbers = [x as u64, value as u64];
         next = put_line(text, next, b"var", &numbers);
         x += 1;
@@ -75,33 +75,33 @@ fn put_variables(
 }
 
 // Where the part behind that at a place begins.
-fn next_part(picture: &[u8], place: usize) -> usize
-    requires { ⌜ nextPart (now picture) place ≤ length (now picture) ⌝ }
-    ensures { λ r. ⌜ r ≡ nextPart (now (picture .entry)) place ⌝ }
+fn next_part(snapshot: &[u8], place: usize) -> usize
+    requires { ⌜ nextPart (now snapshot) place ≤ length (now snapshot) ⌝ }
+    ensures { λ r. ⌜ r ≡ nextPart (now (snapshot .entry)) place ⌝ }
 {
-    let waiting = operand(picture, place + 9, 1);
+    let waiting = operand(snapshot, place + 9, 1);
     place + 10 + 4 * (waiting as usize)
 }
 
 // Puts the lines of a snapshot. The place of each node's part is carried along from part to part.
-pub fn put_snapshot(
+pub fn put_snapshot_lines(
     text: &mut [u8],
     at: usize,
-    picture: &[u8],
+    snapshot: &[u8],
     nodes: usize,
     variables: usize,
 ) -> usize
-    requires { ⌜ partAt (now picture) nodes + 4 * variables ≤ length (now picture) ⌝ }
-    requires { ⌜ at + length (snapshotLines (now picture) nodes variables) ≤ length (now text) ⌝ }
-    ensures { λ r. ⌜ Writes (snapshotLines (now (picture .entry)) nodes variables) (now (text .entry)) at (now (text .exit)) r ⌝ }
+    requires { ⌜ partAt (now snapshot) nodes + 4 * variables ≤ length (now snapshot) ⌝ }
+    requires { ⌜ at + length (snapshotLines (now snapshot) nodes variables) ≤ length (now text) ⌝ }
+    ensures { λ r. ⌜ Writes (snapshotLines (now (snapshot .entry)) nodes variables) (now (text .entry)) at (now (text .exit)) r ⌝ }
 {
     let mut next = at;
     let mut place: usize = 0;
     let mut n: usize = 0;
     while n < nodes {
-        next = put_node(text, next, picture, place, n);
-        place = next_part(picture, place);
+        next = put_node_line(text, next, snapshot, place, n);
+        place = next_part(snapshot, place);
         n += 1;
     }
-    put_variables(text, next, picture, place, variables)
+    put_variable_lines(text, next, snapshot, place, variables)
 }

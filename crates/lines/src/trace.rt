@@ -2,7 +2,7 @@
 ghost use Prim.Native.Nat.{_+_, _*_, _≤_};
 ghost use lib.ListN.{length};
 ghost use Rattle.writing.specs.Writing.{Writes};
-ghost use Rattle.text.specs.Text.{firstOf};
+ghost use Rattle.text.specs.Text.{joined};
 ghost use Rattle.lines.specs.Lines.{entryLine};
 use command::read::operand;
 use text::put_decimal;
@@ -10,7 +10,7 @@ use text::put_fields;
 use writing::put_byte;
 
 // Puts the line of entry k: node, kind, number, value.
-fn put_entry(text: &mut [u8], at: usize, trace: &[u8], k: usize) -> usize
+fn put_entry_line(text: &mut [u8], at: usize, trace: &[u8], k: usize) -> usize
     requires { ⌜ 7 * k + 7 ≤ length (now trace) ⌝ }
     requires { ⌜ at + length (entryLine (now trace) k) ≤ length (now text) ⌝ }
     ensures { λ r. ⌜ Writes (entryLine (now (trace .entry)) k) (now (text .entry)) at (now (text .exit)) r ⌝ }
@@ -27,15 +27,15 @@ fn put_entry(text: &mut [u8], at: usize, trace: &[u8], k: usize) -> usize
 }
 
 // Puts the lines of the first entries.
-pub fn put_entries(text: &mut [u8], at: usize, trace: &[u8], turns: usize) -> usize
+pub fn put_entry_lines(text: &mut [u8], at: usize, trace: &[u8], turns: usize) -> usize
     requires { ⌜ 7 * turns ≤ length (now trace) ⌝ }
-    requires { ⌜ at + length (firstOf (entryLine (now trace)) turns) ≤ length (now text) ⌝ }
-    ensures { λ r. ⌜ Writes (firstOf (entryLine (now (trace .entry))) turns) (now (text .entry)) at (now (text .exit)) r ⌝ }
+    requires { ⌜ at + length (joined (entryLine (now trace)) turns) ≤ length (now text) ⌝ }
+    ensures { λ r. ⌜ Writes (joined (entryLine (now (trace .entry))) turns) (now (text .entry)) at (now (text .exit)) r ⌝ }
 {
     let mut next = at;
     let mut k: usize = 0;
     while k < turns {
-        next = put_entry(text, next, trace, k);
+        next = put_entry_line(text, next, trace, k);
         k += 1;
     }
     next

@@ -4,7 +4,7 @@ ghost use Prim.Native.Nat.{_<_};
 ghost use lib.ListN.{length};
 ghost use Rattle.tables.specs.Tables.{wiredIn};
 ghost use Rattle.effects.specs.Effects.{variablesAfter, Possible};
-ghost use Rattle.queues.specs.Queues.{countAt, Bounded};
+ghost use Rattle.queues.specs.Queues.{countAt, BoundedCounts};
 ghost use Rattle.memory.specs.Changes.{Changes};
 use command::numbers::NodeNum;
 use effects::Change;
@@ -15,20 +15,20 @@ use queues::take_oldest;
 pub fn change_queues(
     queue: &mut [u32; 512],
     waiting: &mut [u8; 32],
-    t: &[u32],
+    tables: &[u32],
     n: NodeNum,
     change: Change,
     value: u32,
 )
     requires { ⌜ (length (now queue) ≡ 512) × (length (now waiting) ≡ 32) ⌝ }
-    requires { ⌜ Bounded (now waiting) ⌝ }
+    requires { ⌜ BoundedCounts (now waiting) ⌝ }
     requires { ⌜ n .0 < 32 ⌝ }
-    requires { ⌜ Possible (wiredIn (now t) (n .0)) (n .0) (countAt (now waiting)) change ⌝ }
-    ensures { λ _. ⌜ Changes (wiredIn (now (t .entry)) (n .0)) (n .0) value change (now (waiting .entry)) (now (queue .entry)) (now (waiting .exit)) (now (queue .exit)) ⌝ }
+    requires { ⌜ Possible (wiredIn (now tables) (n .0)) (n .0) (countAt (now waiting)) change ⌝ }
+    ensures { λ _. ⌜ Changes (wiredIn (now (tables .entry)) (n .0)) (n .0) value change (now (waiting .entry)) (now (queue .entry)) (now (waiting .exit)) (now (queue .exit)) ⌝ }
 {
     match change {
         Change::Take => take_oldest(queue, waiting, n),
-        Change::Send(port) => deliver(queue, waiting, t, n, port, value),
+        Change::Send(port) => deliver(queue, waiting, tables, n, port, value),
         _ => {}
     }
 }

@@ -11,7 +11,7 @@ use Rattle.model.specs.Run.{runFrom, unmonitoredRun, monitoredRun}
 use Rattle.model.specs.Output.{traceBytes, numbersBytes, nodesBytes, variablesBytes, snapshotBytes}
 use Rattle.model.specs.Refusal.{anyOf, groupFalls, violation, decodeFrom, decode, refuseFirst, decodeJob, decodeFor}
 use Rattle.model.specs.Result.{report, monitored, unmonitored}
-use Rattle.model.specs.Examples.{outcome, enough, monitoredRow, unmonitoredRow, times, k1, k1Read, k7, low, line, nodeLine, idleNode, ends, noEntry, k1First, k1Last, examples, ExamplesHold}
+use Rattle.model.specs.Examples.{outcome, enough, monitoredRow, unmonitoredRow, times, k1, k1Read, k7, low, traced, nodePart, idleNode, ends, noEntry, k1First, k1Last, examples, ExamplesHold}
 use Rattle.model.specs.Readings.{within, nodes, global, turns, orderRows, variable, undeclaredRows, sightRows, declaredRows, turnRows, ReadingsHold}
 
 rows-hold : ExamplesHold × ReadingsHold
@@ -24,7 +24,7 @@ unfolding operandsIn operandsOf isAmong largestIn largestOf
     traceBytes numbersBytes nodesBytes variablesBytes snapshotBytes
     anyOf groupFalls violation decodeFrom decode refuseFirst decodeJob decodeFor
     report monitored unmonitored
-    outcome enough monitoredRow unmonitoredRow times low line nodeLine idleNode ends noEntry
+    outcome enough monitoredRow unmonitoredRow times low traced nodePart idleNode ends noEntry
     k1 k1Read k7 k1First k1Last examples
     within nodes global turns orderRows variable undeclaredRows sightRows declaredRows turnRows
 rows-hold = (refl, refl)

@@ -53,8 +53,8 @@ abbrev pub startOf : List Command → ℕ → ℕ
 startOf = declared (λ c before. c .operands .third) VAR
 
 -- the answer of a function to every argument
-abbrev pub answerOf : List Command → ℕ → ℕ
-answerOf = declared (λ c before. c .operands .first) FUN
+abbrev pub funAnswerOf : List Command → ℕ → ℕ
+funAnswerOf = declared (λ c before. c .operands .first) FUN
 
 -- a variable of this scope is shared: flow and global ones are
 abbrev pub isShared : ℕ → Bool

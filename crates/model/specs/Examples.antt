@@ -73,16 +73,16 @@ unfoldable pub low : ℕ → List ℕ
 low v = v ∷ 0 ∷ 0 ∷ 0 ∷ []
 
 -- the 7 bytes of an entry whose value is below 256
-unfoldable pub line : ℕ → ℕ → ℕ → ℕ → List ℕ
-line n kind number v = n ∷ kind ∷ number ∷ low v
+unfoldable pub traced : ℕ → ℕ → ℕ → ℕ → List ℕ
+traced n kind number v = n ∷ kind ∷ number ∷ low v
 
 -- a node at a position, with accumulator and message below 256 and so many waiting messages, as it stands in the snapshot
-unfoldable pub nodeLine : ℕ → ℕ → ℕ → ℕ → List ℕ
-nodeLine position accumulator message waiting = position ∷ low accumulator ++ low message ++ (waiting ∷ [])
+unfoldable pub nodePart : ℕ → ℕ → ℕ → ℕ → List ℕ
+nodePart position accumulator message waiting = position ∷ low accumulator ++ low message ++ (waiting ∷ [])
 
 -- an idle node with no waiting message
 unfoldable pub idleNode : List ℕ
-idleNode = nodeLine 255 0 0 0
+idleNode = nodePart 255 0 0 0
 
 -- a run: stop, turns, attempted entry, trace and snapshot
 unfoldable pub ends : ℕ → ℕ → Entry → List ℕ → List ℕ → Result
@@ -94,10 +94,10 @@ noEntry = entry 0 0 0 0
 
 -- the trace of K1 with this START value and this value sent: the turns of node 0, those of node 1 up to its call, and the last two
 unfoldable pub k1First : List ℕ → ℕ → List ℕ
-k1First start sent = 0 ∷ 1 ∷ 0 ∷ start ++ line 0 0 0 0 ++ line 0 3 0 5 ++ line 0 6 0 sent ++ line 0 2 0 0 ++ line 1 1 0 sent ++ line 1 0 0 0
+k1First start sent = 0 ∷ 1 ∷ 0 ∷ start ++ traced 0 0 0 0 ++ traced 0 3 0 5 ++ traced 0 6 0 sent ++ traced 0 2 0 0 ++ traced 1 1 0 sent ++ traced 1 0 0 0
 
 unfoldable pub k1Last : ℕ → List ℕ
-k1Last sent = line 1 5 0 sent ++ line 1 2 0 0
+k1Last sent = traced 1 5 0 sent ++ traced 1 2 0 0
 
 -- K1 to K11, and 32 and 33 nodes
 unfoldable pub examples : List Example
@@ -105,18 +105,18 @@ examples =
     -- K1
     monitoredRow (k1 k1Read (low 2) 0) (ends 0 9 noEntry (k1First (low 2) 7 ++ k1Last 7) (idleNode ++ idleNode ++ low 5))
     -- K2
-    ∷ monitoredRow (k1 k1Read (low 3) 0) (ends 1 7 (entry 1 5 0 8) (k1First (low 3) 8) (idleNode ++ nodeLine 1 8 8 0 ++ low 5))
+    ∷ monitoredRow (k1 k1Read (low 3) 0) (ends 1 7 (entry 1 5 0 8) (k1First (low 3) 8) (idleNode ++ nodePart 1 8 8 0 ++ low 5))
     -- K3
     ∷ unmonitoredRow (k1 k1Read (low 3) 0) (ends 0 9 noEntry (k1First (low 3) 8 ++ k1Last 8) (idleNode ++ idleNode ++ low 5))
     -- K4
-    ∷ monitoredRow (k1 [] (low 2) 0) (ends 1 2 (entry 0 3 0 0) (line 0 1 0 2 ++ line 0 0 0 0) (nodeLine 1 2 2 0 ++ idleNode ++ low 5))
+    ∷ monitoredRow (k1 [] (low 2) 0) (ends 1 2 (entry 0 3 0 0) (traced 0 1 0 2 ++ traced 0 0 0 0) (nodePart 1 2 2 0 ++ idleNode ++ low 5))
     -- K5
-    ∷ monitoredRow (k1 k1Read (low 2) 1) (ends 2 0 (entry 1 0 0 0) [] (nodeLine 255 0 0 1 ++ low 2 ++ idleNode ++ low 5))
+    ∷ monitoredRow (k1 k1Read (low 2) 1) (ends 2 0 (entry 1 0 0 0) [] (nodePart 255 0 0 1 ++ low 2 ++ idleNode ++ low 5))
     -- K6
     ∷ monitoredRow (k1 k1Read (0xFE ∷ 0xFF ∷ 0xFF ∷ 0xFF ∷ []) 0)
-    (ends 1 7 (entry 1 5 0 3) (k1First (0xFE ∷ 0xFF ∷ 0xFF ∷ 0xFF ∷ []) 3) (idleNode ++ nodeLine 1 3 3 0 ++ low 5))
+    (ends 1 7 (entry 1 5 0 3) (k1First (0xFE ∷ 0xFF ∷ 0xFF ∷ 0xFF ∷ []) 3) (idleNode ++ nodePart 1 3 3 0 ++ low 5))
     -- K7
-    ∷ monitoredRow k7 (ends 3 33 (entry 0 6 0 0) (line 0 1 0 1 ++ times 16 (line 0 6 0 0 ++ line 0 0 0 0)) (nodeLine 0 0 1 16 ++ times 16 (low 0)))
+    ∷ monitoredRow k7 (ends 3 33 (entry 0 6 0 0) (traced 0 1 0 1 ++ times 16 (traced 0 6 0 0 ++ traced 0 0 0 0)) (nodePart 0 0 1 16 ++ times 16 (low 0)))
     -- K8
     ∷ monitoredRow [] (refused (refuse 1 0))
     -- K9

@@ -4,7 +4,7 @@ use mathlib.Core.Bool.{Bool, _||_}
 use mathlib.Core.List.{List}
 use Rattle.model.specs.Table.{FLOW, NODE, VAR, FUN, WIRE, ANY, ARG, READ, WRITE}
 use Rattle.model.specs.Command.{Command, binary, ternary}
-use Rattle.model.specs.Declared.{Instruction, countOf, occurs, flowOf, scopeOf, ownerOf, startOf, answerOf, isShared, handlerOf, startsOf}
+use Rattle.model.specs.Declared.{Instruction, countOf, occurs, flowOf, scopeOf, ownerOf, startOf, funAnswerOf, isShared, handlerOf, startsOf}
 
 -- a program
 pub record Program : Type 0 where
@@ -49,7 +49,7 @@ programOf past =
       scope = scopeOf past;
       owner = ownerOf past;
       startValue = startOf past;
-      answer = λ f argument. answerOf past f;
+      answer = λ f argument. funAnswerOf past f;
       wired = λ n port t. occurs WIRE (ternary n port t) past;
       mayCall = λ n f argument. occurs ANY (binary n f) past || occurs ARG (ternary n f argument) past;
       mayRead = λ n x. occurs READ (binary n x) past;

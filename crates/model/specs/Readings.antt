@@ -5,7 +5,7 @@ use mathlib.Core.List.{List, [], _∷_, _++_}
 use Rattle.model.specs.Turn.{entry}
 use Rattle.model.specs.Refusal.{refuse, Sizes, sizes}
 use Rattle.model.specs.Result.{Result, refused}
-use Rattle.model.specs.Examples.{Example, RowsHold, monitoredRow, unmonitoredRow, times, low, line, nodeLine, idleNode, ends, noEntry}
+use Rattle.model.specs.Examples.{Example, RowsHold, monitoredRow, unmonitoredRow, times, low, traced, nodePart, idleNode, ends, noEntry}
 
 -- a monitored row with buffers of these lengths
 unfoldable pub within : Sizes → List ℕ → Result → Example
@@ -95,7 +95,7 @@ sightRows =
     -- the variable of the second flow, read by its node
     ∷ monitoredRow
     (nodes 1 ++ nodes 1 ++ variable 1 1 ++ 0x32 ∷ 0x01 ∷ 0x00 ∷ 0x40 ∷ 0x01 ∷ 0x43 ∷ 0x00 ∷ 0x50 ∷ 0x01 ∷ low 5 ++ turns 2 1)
-    (ends 0 2 noEntry (line 1 1 0 5 ++ line 1 3 0 0) (idleNode ++ nodeLine 1 0 5 0 ++ low 0))
+    (ends 0 2 noEntry (traced 1 1 0 5 ++ traced 1 3 0 0) (idleNode ++ nodePart 1 0 5 0 ++ low 0))
     ∷ []
 
 -- what is declared
@@ -124,7 +124,7 @@ declaredRows =
     -- a START in each of two flows
     ∷ monitoredRow
     (nodes 1 ++ nodes 1 ++ 0x50 ∷ 0x00 ∷ low 1 ++ 0x50 ∷ 0x01 ∷ low 2)
-    (ends 0 0 noEntry [] (nodeLine 255 0 0 1 ++ low 1 ++ nodeLine 255 0 0 1 ++ low 2))
+    (ends 0 0 noEntry [] (nodePart 255 0 0 1 ++ low 1 ++ nodePart 255 0 0 1 ++ low 2))
     -- a second START in the flow, of another node
     ∷ monitoredRow (nodes 2 ++ 0x50 ∷ 0x00 ∷ low 1 ++ 0x50 ∷ 0x01 ∷ low 2) (refused (refuse 8 9))
     ∷ []
@@ -139,35 +139,35 @@ turnRows =
     -- a node variable: GET, PUT and PLUS leave kind 0 and need no permission
     ∷ monitoredRow
     (nodes 1 ++ 0x10 ∷ 0x00 ∷ 0x00 ∷ low 5 ++ 0x40 ∷ 0x00 ∷ 0x43 ∷ 0x00 ∷ 0x44 ∷ 0x00 ∷ 0x46 ∷ 0x00 ∷ 0x50 ∷ 0x00 ∷ low 1 ++ turns 4 0)
-    (ends 0 4 noEntry (line 0 1 0 1 ++ times 3 (line 0 0 0 0)) (nodeLine 3 10 1 0 ++ low 5))
+    (ends 0 4 noEntry (traced 0 1 0 1 ++ times 3 (traced 0 0 0 0)) (nodePart 3 10 1 0 ++ low 5))
     -- a flow variable that the node may read and write
     ∷ monitoredRow
     (nodes 1 ++ 0x10 ∷ 0x01 ∷ 0x00 ∷ low 5 ++ 0x32 ∷ 0x00 ∷ 0x00 ∷ 0x33 ∷ 0x00 ∷ 0x00 ∷ 0x40 ∷ 0x00 ∷ 0x43 ∷ 0x00 ∷ 0x45 ∷ low 1 ++ 0x44 ∷ 0x00 ∷ 0x50 ∷ 0x00 ∷ low 1 ++ turns 4 0)
-    (ends 0 4 noEntry (line 0 1 0 1 ++ line 0 3 0 5 ++ line 0 0 0 0 ++ line 0 4 0 6) (nodeLine 3 6 1 0 ++ low 6))
+    (ends 0 4 noEntry (traced 0 1 0 1 ++ traced 0 3 0 5 ++ traced 0 0 0 0 ++ traced 0 4 0 6) (nodePart 3 6 1 0 ++ low 6))
     -- a call that ANY permits: the accumulator becomes the answer
     ∷ monitoredRow
     (nodes 1 ++ 0x11 ∷ low 9 ++ 0x30 ∷ 0x00 ∷ 0x00 ∷ 0x40 ∷ 0x00 ∷ 0x42 ∷ 0x4A ∷ 0x00 ∷ 0x50 ∷ 0x00 ∷ low 5 ++ turns 3 0)
-    (ends 0 3 noEntry (line 0 1 0 5 ++ line 0 0 0 0 ++ line 0 5 0 5) (nodeLine 2 9 5 0))
+    (ends 0 3 noEntry (traced 0 1 0 5 ++ traced 0 0 0 0 ++ traced 0 5 0 5) (nodePart 2 9 5 0))
     -- JUMPZ with 3, which goes on, and with 0, which jumps over the last SET
     ∷ monitoredRow
     (nodes 1 ++ 0x40 ∷ 0x00 ∷ 0x41 ∷ low 3 ++ 0x47 ∷ 0x04 ∷ 0x41 ∷ low 0 ++ 0x47 ∷ 0x05 ∷ 0x41 ∷ low 9 ++ 0x45 ∷ low 4 ++ 0x50 ∷ 0x00 ∷ low 1 ++ turns 6 0)
-    (ends 0 6 noEntry (line 0 1 0 1 ++ times 5 (line 0 0 0 0)) (nodeLine 6 4 1 0))
+    (ends 0 6 noEntry (traced 0 1 0 1 ++ times 5 (traced 0 0 0 0)) (nodePart 6 4 1 0))
     -- a forbidden write: the attempted entry shows the accumulator, and the variable is not written
     ∷ monitoredRow
     (nodes 1 ++ global 5 ++ 0x32 ∷ 0x00 ∷ 0x00 ∷ 0x40 ∷ 0x00 ∷ 0x41 ∷ low 7 ++ 0x44 ∷ 0x00 ∷ 0x50 ∷ 0x00 ∷ low 1 ++ turns 3 0)
-    (ends 1 2 (entry 0 4 0 7) (line 0 1 0 1 ++ line 0 0 0 0) (nodeLine 1 7 1 0 ++ low 5))
+    (ends 1 2 (entry 0 4 0 7) (traced 0 1 0 1 ++ traced 0 0 0 0) (nodePart 1 7 1 0 ++ low 5))
     -- a send to two targets, and one to a port that is not wired
     ∷ monitoredRow
     (nodes 3 ++ 0x20 ∷ 0x00 ∷ 0x02 ∷ 0x01 ∷ 0x20 ∷ 0x00 ∷ 0x02 ∷ 0x02 ∷ 0x40 ∷ 0x00 ∷ 0x42 ∷ 0x49 ∷ 0x02 ∷ 0x49 ∷ 0x03 ∷ 0x50 ∷ 0x00 ∷ low 9 ++ turns 4 0)
-    (ends 0 4 noEntry (line 0 1 0 9 ++ line 0 0 0 0 ++ line 0 6 2 9 ++ line 0 6 3 9) (nodeLine 3 9 9 0 ++ times 2 (nodeLine 255 0 0 1 ++ low 9)))
+    (ends 0 4 noEntry (traced 0 1 0 9 ++ traced 0 0 0 0 ++ traced 0 6 2 9 ++ traced 0 6 3 9) (nodePart 3 9 9 0 ++ times 2 (nodePart 255 0 0 1 ++ low 9)))
     -- the oldest message is taken first
     ∷ monitoredRow
     (nodes 2 ++ 0x20 ∷ 0x00 ∷ 0x00 ∷ 0x01 ∷ 0x40 ∷ 0x00 ∷ 0x49 ∷ 0x00 ∷ 0x42 ∷ 0x49 ∷ 0x00 ∷ 0x50 ∷ 0x00 ∷ low 9 ++ turns 4 0 ++ turns 1 1)
-    (ends 0 5 noEntry (line 0 1 0 9 ++ line 0 6 0 0 ++ line 0 0 0 0 ++ line 0 6 0 9 ++ line 1 1 0 0) (nodeLine 3 9 9 0 ++ nodeLine 0 0 0 1 ++ low 9))
+    (ends 0 5 noEntry (traced 0 1 0 9 ++ traced 0 6 0 0 ++ traced 0 0 0 0 ++ traced 0 6 0 9 ++ traced 1 1 0 0) (nodePart 3 9 9 0 ++ nodePart 0 0 0 1 ++ low 9))
     -- a send whose second target is full delivers to nobody
     ∷ monitoredRow
     (nodes 2 ++ 0x20 ∷ 0x00 ∷ 0x00 ∷ 0x00 ∷ 0x20 ∷ 0x00 ∷ 0x00 ∷ 0x01 ∷ 0x20 ∷ 0x00 ∷ 0x01 ∷ 0x01 ∷ 0x40 ∷ 0x00 ∷ times 16 (0x49 ∷ 0x01 ∷ []) ++ 0x42 ∷ 0x49 ∷ 0x00 ∷ 0x50 ∷ 0x00 ∷ low 3 ++ turns 19 0)
-    (ends 3 18 (entry 0 6 0 3) (line 0 1 0 3 ++ times 16 (line 0 6 1 0) ++ line 0 0 0 0) (nodeLine 17 3 3 0 ++ nodeLine 255 0 0 16 ++ times 16 (low 0)))
+    (ends 3 18 (entry 0 6 0 3) (traced 0 1 0 3 ++ times 16 (traced 0 6 1 0) ++ traced 0 0 0 0) (nodePart 17 3 3 0 ++ nodePart 255 0 0 16 ++ times 16 (low 0)))
     ∷ []
 
 -- every row holds

@@ -34,42 +34,72 @@ fn lowered(n: u32) -> u32
 }
 
 // Notes a command that passed the tests: the tables then stand for one command more.
-pub fn note(t: &mut [u32], c: Command)
-    ensures { λ _. ⌜ Notes (now (t .entry)) c (now (t .exit)) ⌝ }
+pub fn note(tables: &mut [u32], c: Command)
+    ensures { λ _. ⌜ Notes (now (tables .entry)) c (now (tables .exit)) ⌝ }
 {
     let b = c.byte;
     let first = c.first as usize;
     let second = c.second as usize;
     let wires = first * 4 + second;
     let group = c.group as u32;
-    let have = count_of(t, b);
-    let flows = count_of(t, bytes::FLOW);
-    let nodes = count_of(t, bytes::NODE) as usize;
-    let variables = count_of(t, bytes::VAR) as usize;
-    let functions = count_of(t, bytes::FUN) as usize;
-    let arguments = count_of(t, bytes::ARG) as usize;
-    let opened = open_node(t);
-    let len = length_of(t, opened);
-    let flow = flow_of(t, NodeNum(c.first));
+    let have = count_of(tables, b);
+    let flows = count_of(tables, bytes::FLOW);
+    let nodes = count_of(tables, bytes::NODE) as usize;
+    let variables = count_of(tables, bytes::VAR) as usize;
+    let functions = count_of(tables, bytes::FUN) as usize;
+    let arguments = count_of(tables, bytes::ARG) as usize;
+    let opened = open_node(tables);
+    let len = length_of(tables, opened);
+    let flow = flow_of(tables, NodeNum(c.first));
     let handler = bytes::is_handler(b);
-    put(t, true, cells::COUNTS, b as usize, bumped(have));
-    put(t, true, cells::PROGRESS, 0, group);
-    put(t, b == bytes::BODY, cells::PROGRESS, 1, c.first);
-    put(t, b == bytes::NODE, cells::FLOW, nodes, lowered(flows));
-    put(t, b == bytes::VAR, cells::SCOPE, variables, c.first);
-    put(t, b == bytes::VAR, cells::OWNER, variables, c.second);
-    put(t, b == bytes::VAR, cells::INITIAL, variables, c.third);
-    put(t, b == bytes::FUN, cells::ANSWER, functions, c.first);
-    put(t, handler, cells::LENGTH, opened.0 as usize, bumped(len));
-    put(t, b == bytes::BODY, cells::BODY, first, 1);
-    put(t, b == bytes::START, cells::STARTED, flow.0 as usize, 1);
-    put(t, b == bytes::START, cells::FIRST, first, 1);
-    put(t, b == bytes::START, cells::MESSAGE, first, c.second);
-    put(t, b == bytes::ARG, cells::ARG_NODE, arguments, c.first);
-    put(t, b == bytes::ARG, cells::ARG_FUNCTION, arguments, c.second);
-    put(t, b == bytes::ARG, cells::ARG_VALUE, arguments, c.third);
-    mark(t, b == bytes::READ, cells::READS, first, second);
-    mark(t, b == bytes::WRITE, cells::WRITES, first, second);
-    mark(t, b == bytes::ANY, cells::CALLS, first, second);
-    mark(t, b == bytes::WIRE, cells::WIRES, wires, c.third as usize);
+    put(tables, true, cells::COUNTS, b as usize, bumped(have));
+    put(tables, true, cells::PROGRESS, 0, group);
+    put(tables, b == bytes::BODY, cells::PROGRESS, 1, c.first);
+    put(tables, b == bytes::NODE, cells::FLOW, nodes, lowered(flows));
+    put(tables, b == bytes::VAR, cells::SCOPE, variables, c.first);
+    put(tables, b == bytes::VAR, cells::OWNER, variables, c.second);
+    put(tables, b == bytes::VAR, cells::INITIAL, variables, c.third);
+    put(tables, b == bytes::FUN, cells::ANSWER, functions, c.first);
+    put(
+        tables,
+        handler,
+        cells::LENGTH,
+        opened.0 as usize,
+        bumped(len),
+    );
+    put(tables, b == bytes::BODY, cells::BODY, first, 1);
+    put(
+        tables,
+        b == bytes::START,
+        cells::STARTED,
+        flow.0 as usize,
+        1,
+    );
+    put(tables, b == bytes::START, cells::FIRST, first, 1);
+    put(tables, b == bytes::START, cells::MESSAGE, first, c.second);
+    put(tables, b == bytes::ARG, cells::ARG_NODE, arguments, c.first);
+    put(
+        tables,
+        b == bytes::ARG,
+        cells::ARG_FUNCTION,
+        arguments,
+        c.second,
+    );
+    put(
+        tables,
+        b == bytes::ARG,
+        cells::ARG_VALUE,
+        arguments,
+        c.third,
+    );
+    mark(tables, b == bytes::READ, cells::READS, first, second);
+    mark(tables, b == bytes::WRITE, cells::WRITES, first, second);
+    mark(tables, b == bytes::ANY, cells::CALLS, first, second);
+    mark(
+        tables,
+        b == bytes::WIRE,
+        cells::WIRES,
+        wires,
+        c.third as usize,
+    );
 }

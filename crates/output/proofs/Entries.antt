@@ -5,7 +5,7 @@ use mathlib.Core.List.{_∷_}
 use native.Mathlib.Nat.{mod-eq-of-lt}
 use Rattle.model.specs.Turn.{Entry}
 use Rattle.model.specs.Output.{bytes4, entryBytes}
-use Rattle.output.specs.Output.{Narrow}
+use Rattle.output.specs.Written.{Narrow}
 
 -- node, kind and number are bytes already
 pub entry-bytes : (e : Entry) → Narrow e → e .node % 256 ∷ e .kind % 256 ∷ e .number % 256 ∷ bytes4 (e .value) ≡ entryBytes e

@@ -9,7 +9,7 @@ use lib.Seq.{length-take-le}
 use Rattle.model.specs.State.{variableAt}
 use Rattle.model.specs.Output.{bytes4, numbersBytes, nodeBytes, nodesBytes, variablesBytes}
 use Rattle.model.proofs.Bounds.{length-numbers, length-variables, nodes-next}
-use Rattle.queues.specs.Queues.{Bounded}
+use Rattle.queues.specs.Queues.{BoundedCounts}
 use Rattle.queues.proofs.Queues.{queue-at, count-at}
 use Rattle.effects.specs.declared.Registers.{Registers}
 use Rattle.engine.specs.declared.State.{State}
@@ -17,7 +17,7 @@ use Rattle.engine.specs.Engine.{view}
 use Rattle.writing.specs.Writing.{Writes}
 use Rattle.writing.proofs.Placing.{writes-on, writes-nothing}
 use Rattle.writing.proofs.Words.{numbers-next}
-use Rattle.output.specs.Output.{partBytes, shownBytes}
+use Rattle.output.specs.Written.{partBytes, shownBytes}
 
 -- how long the waiting messages are
 pub length-messages : (slots : List ℕ) (first waiting : ℕ) → first + waiting ≤ length slots → length (numbersBytes (take waiting (drop first slots))) ≡ 4 * waiting
@@ -29,16 +29,16 @@ abbrev pub registersOf : State → ℕ → Registers
 registersOf s n = record { position = getD (s .position) n 0; accumulator = getD (s .accumulator) n 0; message = getD (s .message) n 0 }
 
 -- the parts of the first nodes are written: what a loop over the nodes keeps
-pub record Shown (s : State) (before : List ℕ) (n : ℕ) (picture : List ℕ) (at : ℕ) : Type 0 where
-  pub writes : Writes (nodesBytes (view s) n) before 0 picture at
+pub record Shown (s : State) (before : List ℕ) (n : ℕ) (snapshot : List ℕ) (at : ℕ) : Type 0 where
+  pub writes : Writes (nodesBytes (view s) n) before 0 snapshot at
   pub place : at ≤ 74 * n
-  pub size : length picture ≡ length before
+  pub size : length snapshot ≡ length before
 
 pub none-shown : (s : State) (before : List ℕ) → Shown s before 0 before 0
 unfolding nodesBytes
 none-shown s before = record { writes = writes-nothing before 0; place = omega arith; size = refl }
 
-module _ (s : State) (bounded : Bounded (s .waiting)) (counts : length (s .waiting) ≡ 32) (slots : length (s .queue) ≡ 512) where
+module _ (s : State) (bounded : BoundedCounts (s .waiting)) (counts : length (s .waiting) ≡ 32) (slots : length (s .queue) ≡ 512) where
   -- the part of a node by the slots
   pub part-node : (n : ℕ) → nodeBytes (view s) n ≡ partBytes (registersOf s n) (getD (s .waiting) n 0) (s .queue) (n * 16)
   part-node n =
@@ -46,16 +46,16 @@ module _ (s : State) (bounded : Bounded (s .waiting)) (counts : length (s .waiti
       rw (count-at (s .waiting) (s .queue) bounded (omega arith) n, queue-at (s .waiting) (s .queue) n, e)
 
   pub one-shown :
-      (before : List ℕ) (n : ℕ) (picture : List ℕ) (at : ℕ) (after : List ℕ) (next : ℕ) → n < 32 → 74 * n + 74 ≤ length before → length after ≡ length picture
-      → Shown s before n picture at → Writes (partBytes (registersOf s n) (getD (s .waiting) n 0) (s .queue) (n * 16)) picture at after next
+      (before : List ℕ) (n : ℕ) (snapshot : List ℕ) (at : ℕ) (after : List ℕ) (next : ℕ) → n < 32 → 74 * n + 74 ≤ length before → length after ≡ length snapshot
+      → Shown s before n snapshot at → Writes (partBytes (registersOf s n) (getD (s .waiting) n 0) (s .queue) (n * 16)) snapshot at after next
       → Shown s before (n + 1) after next
-  one-shown before n picture at after next inside fits same w p =
+  one-shown before n snapshot at after next inside fits same w p =
       let long = length-messages (s .queue) (n * 16) (getD (s .waiting) n 0) (omega (arith, bounded n)) in
       let short : length (partBytes (registersOf s n) (getD (s .waiting) n 0) (s .queue) (n * 16)) ≤ 74 = omega (arith, long, bounded n) in
       let e : nodesBytes (view s) (n + 1) ≡ nodesBytes (view s) n ++ partBytes (registersOf s n) (getD (s .waiting) n 0) (s .queue) (n * 16) =
       ap (nodesBytes (view s)) (add-one n) ∙ nodes-next (view s) n ∙ ap (λ (l : List ℕ). nodesBytes (view s) n ++ l) (part-node n) in
       record {
-        writes = rw e (writes-on _ _ before 0 picture at after next (omega (arith, w .place, w .writes .place)) (w .writes) p);
+        writes = rw e (writes-on _ _ before 0 snapshot at after next (omega (arith, w .place, w .writes .place)) (w .writes) p);
         place = omega (arith, p .place, w .place);
         size = same ∙ w .size;
       }
@@ -69,11 +69,11 @@ variables-numbers s (suc k) h =
 
 -- nodes, and behind them the variables
 pub all-shown :
-    (s : State) (before : List ℕ) (nodes variables : ℕ) (picture : List ℕ) (at : ℕ) (after : List ℕ) (next : ℕ)
+    (s : State) (before : List ℕ) (nodes variables : ℕ) (snapshot : List ℕ) (at : ℕ) (after : List ℕ) (next : ℕ)
     → variables ≤ length (s .variable) → at + 4 * variables ≤ length before
-    → Writes (nodesBytes (view s) nodes) before 0 picture at → Writes (numbersBytes (take variables (s .variable))) picture at after next
+    → Writes (nodesBytes (view s) nodes) before 0 snapshot at → Writes (numbersBytes (take variables (s .variable))) snapshot at after next
     → Writes (shownBytes (view s) nodes variables) before 0 after next
-all-shown s before nodes variables picture at after next inside fits w p =
+all-shown s before nodes variables snapshot at after next inside fits w p =
     let e = variables-numbers s variables inside in
     let long = rw e at (length-variables (view s) variables) in
-    rw e (writes-on (nodesBytes (view s) nodes) _ before 0 picture at after next (omega (arith, w .place, long)) w p)
+    rw e (writes-on (nodesBytes (view s) nodes) _ before 0 snapshot at after next (omega (arith, w .place, long)) w p)

@@ -2,7 +2,7 @@
 ghost use mathlib.Core.Path.{_≡_};
 ghost use Rattle.model.specs.Turn.{entry};
 ghost use Rattle.entries.specs.Entries.{numbersOf};
-ghost use Rattle.output.specs.Output.{entryWith};
+ghost use Rattle.output.specs.Written.{entryWith};
 use entries::Entry;
 use entries::Event;
 

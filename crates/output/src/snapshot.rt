@@ -4,9 +4,9 @@ ghost use lib.ListN.{length};
 ghost use Rattle.model.specs.Table.{maxNodes, maxVariables};
 ghost use Rattle.model.specs.Refusal.{snapshotSize};
 ghost use Rattle.writing.specs.Writing.{Writes};
-ghost use Rattle.queues.specs.Queues.{Bounded};
+ghost use Rattle.queues.specs.Queues.{BoundedCounts};
 ghost use Rattle.engine.specs.Engine.{view};
-ghost use Rattle.output.specs.Output.{partBytes, NarrowPositions, shownBytes};
+ghost use Rattle.output.specs.Written.{partBytes, NarrowPositions, shownBytes};
 use effects::Registers;
 use engine::State;
 use writing::put_byte;
@@ -15,30 +15,30 @@ use writing::put_words;
 
 // Writes the part of one node: position, accumulator, message, how many messages wait, and these, from their first slot on.
 fn put_node(
-    picture: &mut [u8],
+    snapshot: &mut [u8],
     at: usize,
     x: Registers,
     waiting: u8,
     queue: &[u32],
     first: usize,
 ) -> usize
-    requires { ⌜ (at + 74 ≤ length (now picture)) × (x .position < 256) ⌝ }
+    requires { ⌜ (at + 74 ≤ length (now snapshot)) × (x .position < 256) ⌝ }
     requires { ⌜ (waiting ≤ 16) × (first + 16 ≤ length (now queue)) ⌝ }
-    ensures { λ r. ⌜ Writes (partBytes x waiting (now (queue .entry)) first) (now (picture .entry)) at (now (picture .exit)) r ⌝ }
+    ensures { λ r. ⌜ Writes (partBytes x waiting (now (queue .entry)) first) (now (snapshot .entry)) at (now (snapshot .exit)) r ⌝ }
 {
-    let accumulator = put_byte(picture, at, (x.position % 256) as u8);
-    let message = put_word(picture, accumulator, x.accumulator);
-    let count = put_word(picture, message, x.message);
-    let messages = put_byte(picture, count, waiting);
-    put_words(picture, messages, queue, first, waiting as usize)
+    let accumulator = put_byte(snapshot, at, (x.position % 256) as u8);
+    let message = put_word(snapshot, accumulator, x.accumulator);
+    let count = put_word(snapshot, message, x.message);
+    let messages = put_byte(snapshot, count, waiting);
+    put_words(snapshot, messages, queue, first, waiting as usize)
 }
 
 // Writes the snapshot of a state with so many nodes and variables.
-pub fn put_snapshot(picture: &mut [u8], s: State, nodes: usize, variables: usize) -> usize
-    requires { ⌜ (snapshotSize ≤ length (now picture)) × (nodes ≤ maxNodes) × (variables ≤ maxVariables) ⌝ }
-    requires { ⌜ Bounded (s .waiting) ⌝ }
+pub fn put_snapshot(snapshot: &mut [u8], s: State, nodes: usize, variables: usize) -> usize
+    requires { ⌜ (snapshotSize ≤ length (now snapshot)) × (nodes ≤ maxNodes) × (variables ≤ maxVariables) ⌝ }
+    requires { ⌜ BoundedCounts (s .waiting) ⌝ }
     requires { ⌜ NarrowPositions s ⌝ }
-    ensures { λ r. ⌜ Writes (shownBytes (view s) nodes variables) (now (picture .entry)) 0 (now (picture .exit)) r ⌝ }
+    ensures { λ r. ⌜ Writes (shownBytes (view s) nodes variables) (now (snapshot .entry)) 0 (now (snapshot .exit)) r ⌝ }
 {
     let mut at: usize = 0;
     let mut n: usize = 0;
@@ -52,8 +52,8 @@ pub fn put_snapshot(picture: &mut [u8], s: State, nodes: usize, variables: usize
             accumulator: accumulator,
             message: message,
         };
-        at = put_node(picture, at, registers, waiting, &s.queue, n * 16);
+        at = put_node(snapshot, at, registers, waiting, &s.queue, n * 16);
         n += 1;
     }
-    put_words(picture, at, &s.variable, 0, variables)
+    put_words(snapshot, at, &s.variable, 0, variables)
 }

@@ -3,7 +3,7 @@ ghost use Prim.Native.Nat.{_+_, _≤_};
 ghost use lib.ListN.{length};
 ghost use Rattle.model.specs.Output.{entryBytes};
 ghost use Rattle.writing.specs.Writing.{Writes};
-ghost use Rattle.output.specs.Output.{entryWith, Narrow};
+ghost use Rattle.output.specs.Written.{entryWith, Narrow};
 use crate::numbers::Numbers;
 use writing::put_byte;
 use writing::put_word;

@@ -17,7 +17,7 @@ use Rattle.command.specs.declared.instruction.Instruction.the-variants as i
 use Rattle.command.specs.Instructions.{instructionOf}
 use Rattle.command.proofs.instruction.Instruction.{the-type}
 use Rattle.tables.specs.Tables.{wiredIn}
-use Rattle.job.specs.Program.{programIn}
+use Rattle.job.specs.Prepared.{programIn}
 use Rattle.entries.specs.declared.Event.{Event}
 use Rattle.entries.specs.declared.Outcome.{Outcome}
 use Rattle.entries.specs.declared.Outcome.the-variants as o

@@ -11,7 +11,7 @@ use Rattle.model.specs.Permission.{enforced}
 use Rattle.command.specs.declared.instruction.Instruction.{Instruction}
 use Rattle.command.specs.Instructions.{instructionOf}
 use Rattle.command.specs.declared.numbers.NodeNum.{NodeNum}
-use Rattle.job.specs.Program.{programIn}
+use Rattle.job.specs.Prepared.{programIn}
 use Rattle.entries.specs.declared.Event.{Event}
 use Rattle.entries.specs.declared.Entry.{Entry}
 use Rattle.entries.specs.declared.Outcome.{Outcome}

@@ -4,7 +4,7 @@ ghost use mathlib.Core.Bool.{not, _&&_};
 ghost use mathlib.Core.List.{List};
 ghost use Prim.Native.Nat.{ℕ, _<_};
 ghost use Rattle.model.specs.Permission.{permitted};
-ghost use Rattle.job.specs.Program.{programIn};
+ghost use Rattle.job.specs.Prepared.{programIn};
 ghost use Rattle.entries.specs.Entries.{entryFor};
 ghost use Rattle.plans.specs.Plans.{plan, entryBy, Blocks, PlansCommand, PlansTurn};
 use command::instruction::Instruction;
@@ -33,22 +33,22 @@ pub struct Plan {
 }
 
 // Whether a handler command is a send with a full target.
-fn blocks(t: &[u32], n: NodeNum, instruction: Instruction, waiting: &[u8; 32]) -> bool
-    ensures { λ r. ⌜ Blocks (now (t .entry)) (n .0) instruction (now (waiting .entry)) r ⌝ }
+fn blocks(tables: &[u32], n: NodeNum, instruction: Instruction, waiting: &[u8; 32]) -> bool
+    ensures { λ r. ⌜ Blocks (now (tables .entry)) (n .0) instruction (now (waiting .entry)) r ⌝ }
 {
     if let Instruction::Send(port) = instruction {
-        has_full(t, n, port, waiting)
+        has_full(tables, n, port, waiting)
     } else {
         false
     }
 }
 
 // Whether the run is monitored and the lists do not permit the event.
-fn is_forbidden(t: &[u32], n: NodeNum, monitored: bool, event: Event) -> bool
-    ensures { λ r. ⌜ ((w : List ℕ) → r ≡ (monitored && not (permitted (programIn (now (t .entry)) w) (entryFor (n .0) event)))) ⌝ }
+fn is_forbidden(tables: &[u32], n: NodeNum, monitored: bool, event: Event) -> bool
+    ensures { λ r. ⌜ ((w : List ℕ) → r ≡ (monitored && not (permitted (programIn (now (tables .entry)) w) (entryFor (n .0) event)))) ⌝ }
 {
     if monitored {
-        let permitted = is_permitted(t, n, event);
+        let permitted = is_permitted(tables, n, event);
         return !permitted;
     }
     false
@@ -78,7 +78,7 @@ fn make_entry(n: NodeNum, event: Event) -> Entry
 // The turn of a node at a handler command: forbidden, a target full, or made. What the command does is worked out first, and stands only
 // in the plan of a turn that is made.
 fn decide<'a>(
-    t: &[u32],
+    tables: &[u32],
     n: NodeNum,
     monitored: bool,
     instruction: Instruction,
@@ -87,18 +87,18 @@ fn decide<'a>(
     variable: &'a [u32],
 ) -> Plan
     requires { ⌜ registers .position < 4294967295 ⌝ }
-    ensures { λ r. ⌜ PlansCommand (now (t .entry)) n monitored instruction registers (now (waiting .entry)) (now (variable .entry)) r ⌝ }
+    ensures { λ r. ⌜ PlansCommand (now (tables .entry)) n monitored instruction registers (now (waiting .entry)) (now (variable .entry)) r ⌝ }
 {
-    let event = event_of(t, instruction, registers.accumulator, variable);
-    let effect = effect_of(t, instruction, registers, variable);
+    let event = event_of(tables, instruction, registers.accumulator, variable);
+    let effect = effect_of(tables, instruction, registers, variable);
     let change = effect.change;
-    if is_forbidden(t, n, monitored, event) {
+    if is_forbidden(tables, n, monitored, event) {
         let shown = redact(event);
         let entry = make_entry(n, shown);
         return planned(registers, Change::Nothing, Outcome::Forbidden(entry));
     }
     let entry = make_entry(n, event);
-    if blocks(t, n, instruction, waiting) {
+    if blocks(tables, n, instruction, waiting) {
         return planned(registers, Change::Nothing, Outcome::Full(entry));
     }
     planned(effect.registers, change, Outcome::Made(entry))
@@ -106,7 +106,7 @@ fn decide<'a>(
 
 // The turn of a node, by its registers, the message in its first slot, how many messages wait at each node, and the variables.
 pub fn plan_turn<'a>(
-    t: &[u32],
+    tables: &[u32],
     work: &[u8],
     n: NodeNum,
     monitored: bool,
@@ -116,7 +116,7 @@ pub fn plan_turn<'a>(
     variable: &'a [u32],
 ) -> Plan
     requires { ⌜ n .0 < 32 ⌝ }
-    ensures { λ r. ⌜ PlansTurn (now (t .entry)) (now (work .entry)) n monitored registers oldest (now (waiting .entry)) (now (variable .entry)) r ⌝ }
+    ensures { λ r. ⌜ PlansTurn (now (tables .entry)) (now (work .entry)) n monitored registers oldest (now (waiting .entry)) (now (variable .entry)) r ⌝ }
 {
     let i = n.0 as usize;
     let position = registers.position;
@@ -132,9 +132,17 @@ pub fn plan_turn<'a>(
         };
         return planned(begun, Change::Take, Outcome::Made(entry));
     }
-    if position < length_of(t, n) {
+    if position < length_of(tables, n) {
         let instruction = fetch(work, n, position);
-        return decide(t, n, monitored, instruction, registers, waiting, variable);
+        return decide(
+            tables,
+            n,
+            monitored,
+            instruction,
+            registers,
+            waiting,
+            variable,
+        );
     }
     let entry = make_entry(n, Event::Finish);
     let idle = Registers {

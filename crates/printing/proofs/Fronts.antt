@@ -5,7 +5,7 @@ use mathlib.Core.List.{List, [], _∷_, _++_, append-assoc}
 use native.Mathlib.Omega.{arith}
 use lib.ListN.{length, getD, length-append, List·getD-append}
 use lib.Seq.{getD-append-add}
-use Rattle.text.specs.Text.{firstOf}
+use Rattle.text.specs.Text.{joined}
 use Rattle.lines.specs.Lines.{entryLine, messagesAt, waitingAt, nextPart, partAt, nodeLine, variableLine, nodeLines, snapshotLines, runLines}
 use Rattle.lines.proofs.Parts.{part-inside, partLine}
 use Rattle.model.specs.Command.{numberAt}
@@ -15,11 +15,11 @@ use Rattle.model.proofs.Reading.{number-one}
 use Rattle.model.proofs.Bounds.{length-node}
 
 -- texts that are the same one by one
-same-first : (f g : ℕ → List ℕ) (n : ℕ) → ((k : ℕ) → k < n → f k ≡ g k) → firstOf f n ≡ firstOf g n
-unfolding firstOf
+same-first : (f g : ℕ → List ℕ) (n : ℕ) → ((k : ℕ) → k < n → f k ≡ g k) → joined f n ≡ joined g n
+unfolding joined
 same-first f g zero same = refl
 same-first f g (suc n) same =
-    ap (λ (l : List ℕ). l ++ f n) (same-first f g n (λ k h. same k (omega arith))) ∙ ap (λ (l : List ℕ). firstOf g n ++ l) (same n (omega arith))
+    ap (λ (l : List ℕ). l ++ f n) (same-first f g n (λ k h. same k (omega arith))) ∙ ap (λ (l : List ℕ). joined g n ++ l) (same n (omega arith))
 
 module _ (xs ys : List ℕ) where
   number-front : (at w : ℕ) → at + w ≤ length xs → numberAt (xs ++ ys) at w ≡ numberAt xs at w
@@ -35,7 +35,7 @@ module _ (xs ys : List ℕ) where
   entry-front k h =
       rw (number-front (7 * k) 1 (omega arith), number-front (7 * k + 1) 1 (omega arith), number-front (7 * k + 2) 1 (omega arith), number-front (7 * k + 3) 4 (omega arith))
 
-  pub entries-front : (n : ℕ) → 7 * n ≤ length xs → firstOf (entryLine (xs ++ ys)) n ≡ firstOf (entryLine xs) n
+  pub entries-front : (n : ℕ) → 7 * n ≤ length xs → joined (entryLine (xs ++ ys)) n ≡ joined (entryLine xs) n
   entries-front n h = same-first (entryLine (xs ++ ys)) (entryLine xs) n (λ k i. entry-front k (omega arith))
 
   -- the snapshot
@@ -70,20 +70,20 @@ module _ (xs ys : List ℕ) where
     pub parts-end : partAt (xs ++ ys) nodes ≡ partAt xs nodes
     parts-end = part-front nodes (omega arith)
 
-    pub picture-front : snapshotLines (xs ++ ys) nodes variables ≡ snapshotLines xs nodes variables
+    pub snapshot-front : snapshotLines (xs ++ ys) nodes variables ≡ snapshotLines xs nodes variables
     unfolding snapshotLines
-    picture-front =
-        ap (λ (l : List ℕ). l ++ firstOf (variableLine (xs ++ ys) (partAt (xs ++ ys) nodes)) variables) (same-first (partLine (xs ++ ys)) (partLine xs) nodes parts-front)
-        ∙ ap (λ (p : ℕ). nodeLines xs nodes ++ firstOf (variableLine (xs ++ ys) p) variables) parts-end
+    snapshot-front =
+        ap (λ (l : List ℕ). l ++ joined (variableLine (xs ++ ys) (partAt (xs ++ ys) nodes)) variables) (same-first (partLine (xs ++ ys)) (partLine xs) nodes parts-front)
+        ∙ ap (λ (p : ℕ). nodeLines xs nodes ++ joined (variableLine (xs ++ ys) p) variables) parts-end
         ∙ ap (λ (l : List ℕ). nodeLines xs nodes ++ l)
         (same-first (variableLine (xs ++ ys) (partAt xs nodes)) (variableLine xs (partAt xs nodes)) variables (λ x h. variable-front (partAt xs nodes) x (omega arith)))
 
 -- a run
 pub run-front :
-    (a : Answer) (trace more picture rest : List ℕ) (nodes variables : ℕ) → 7 * (a .turns) ≤ length trace → partAt picture nodes + 4 * variables ≤ length picture
-    → runLines a (trace ++ more) (picture ++ rest) nodes variables ≡ runLines a trace picture nodes variables
+    (a : Answer) (trace more snapshot rest : List ℕ) (nodes variables : ℕ) → 7 * (a .turns) ≤ length trace → partAt snapshot nodes + 4 * variables ≤ length snapshot
+    → runLines a (trace ++ more) (snapshot ++ rest) nodes variables ≡ runLines a trace snapshot nodes variables
 unfolding runLines
-run-front a trace more picture rest nodes variables h i = rw (entries-front trace more (a .turns) h, picture-front picture rest nodes variables i)
+run-front a trace more snapshot rest nodes variables h i = rw (entries-front trace more (a .turns) h, snapshot-front snapshot rest nodes variables i)
 
 -- the parts of the nodes of a state begin where the definition says
 pub parts-of : (s : State) (k : ℕ) (rest : List ℕ) → partAt (nodesBytes s k ++ rest) k ≡ length (nodesBytes s k)

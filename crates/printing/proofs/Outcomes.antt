@@ -106,8 +106,8 @@ module _ (m : Bool) (job : List ℕ) (before after : Buffers) (x : Ending) (e : 
   abbrev run : Run
   run = runOf m past
 
-  abbrev picture : List ℕ
-  picture = snapshotBytes (programOf past) (run .final)
+  abbrev snapshot : List ℕ
+  snapshot = snapshotBytes (programOf past) (run .final)
 
   bounded : RunBounded (length (turnsOf past)) run
   bounded = runs-bounded past (job-valid job past (e .decoded) .commands) m
@@ -133,16 +133,16 @@ module _ (m : Bool) (job : List ℕ) (before after : Buffers) (x : Ending) (e : 
   pub trace-inside : 7 * (x .turns) ≤ length (after .trace)
   trace-inside = rw (e .trace) (omega (arith, trace-size, length-append (traceIn run) (drop (length (traceIn run)) (before .trace))))
 
-  parts : partAt (after .snapshot) (nodesIn job) + 4 * variablesIn job ≡ length picture
+  parts : partAt (after .snapshot) (nodesIn job) + 4 * variablesIn job ≡ length snapshot
   parts =
-      let rest = drop (length picture) (before .snapshot) in
+      let rest = drop (length snapshot) (before .snapshot) in
       let fits = parts-fit past (run .final) in
-      let same = ap (λ (l : List ℕ). partAt l (nodesIn job)) (e .snapshot) ∙ ap (partAt (picture ++ rest)) nodes-same in
-      omega (arith, same, variables-same, fits, parts-end picture rest (countOf NODE past) (countOf VAR past) (omega arith))
+      let same = ap (λ (l : List ℕ). partAt l (nodesIn job)) (e .snapshot) ∙ ap (partAt (snapshot ++ rest)) nodes-same in
+      omega (arith, same, variables-same, fits, parts-end snapshot rest (countOf NODE past) (countOf VAR past) (omega arith))
 
-  pub picture-inside : partAt (after .snapshot) (nodesIn job) + 4 * variablesIn job ≤ length (after .snapshot)
-  picture-inside =
-      omega (arith, parts, ap length (e .snapshot), length-append picture (drop (length picture) (before .snapshot)))
+  pub snapshot-inside : partAt (after .snapshot) (nodesIn job) + 4 * variablesIn job ≤ length (after .snapshot)
+  snapshot-inside =
+      omega (arith, parts, ap length (e .snapshot), length-append snapshot (drop (length snapshot) (before .snapshot)))
 
   pub lines-short :
       Bytes (after .trace) → Bytes (after .snapshot)
@@ -155,4 +155,4 @@ module _ (m : Bool) (job : List ℕ) (before after : Buffers) (x : Ending) (e : 
   lines-same =
       let fits = parts-fit past (run .final) in
       rw (e .result, e .trace, e .snapshot, ← e .answered)
-      (run-front (answerOf x) (traceIn run) (drop (length (traceIn run)) (before .trace)) picture (drop (length picture) (before .snapshot)) (nodesIn job) (variablesIn job) (omega (arith, trace-size)) (rw (nodes-same, variables-same) (omega (arith, fits))))
+      (run-front (answerOf x) (traceIn run) (drop (length (traceIn run)) (before .trace)) snapshot (drop (length snapshot) (before .snapshot)) (nodesIn job) (variablesIn job) (omega (arith, trace-size)) (rw (nodes-same, variables-same) (omega (arith, fits))))

@@ -5,7 +5,7 @@ use mathlib.Core.List.{List, [], _∷_, _++_}
 use native.Mathlib.Nat.{mul-suc}
 use native.Mathlib.Omega.{arith}
 use lib.ListN.{length, length-append}
-use Rattle.text.specs.Text.{decimal, field, fields, line, firstOf}
+use Rattle.text.specs.Text.{decimal, field, fields, line, joined}
 use Rattle.lines.specs.Lines.{endWord, nodeWord, varWord, refusedWord, entryLine, endLine, messagesAt, waitingAt, partAt, nodeLine, variableLine, nodeLines, snapshotLines, runLines, refusedLine}
 use Rattle.text.proofs.Decimals.{decimal-short, decimal-20}
 use Rattle.lines.proofs.Parts.{partLine}
@@ -36,10 +36,10 @@ length-line : (first numbers : List ℕ) → length (line first numbers) ≡ len
 length-line first numbers = omega (arith, length-append first (fields numbers ++ (10 ∷ [])), length-append (fields numbers) (10 ∷ []))
 
 -- texts of at most so many bytes each
-first-short : (f : ℕ → List ℕ) (most : ℕ) → ((k : ℕ) → length (f k) ≤ most) → (n : ℕ) → length (firstOf f n) ≤ most * n
-unfolding firstOf
+first-short : (f : ℕ → List ℕ) (most : ℕ) → ((k : ℕ) → length (f k) ≤ most) → (n : ℕ) → length (joined f n) ≤ most * n
+unfolding joined
 first-short f most h zero = omega arith
-first-short f most h (suc n) = omega (arith, first-short f most h n, h n, length-append (firstOf f n) (f n), mul-suc most n)
+first-short f most h (suc n) = omega (arith, first-short f most h n, h n, length-append (joined f n) (f n), mul-suc most n)
 
 module _ (xs : List ℕ) (bytes : Bytes xs) where
   byte-short : (at : ℕ) → numberAt xs at 1 < 10 ^ 3
@@ -78,7 +78,7 @@ module _ (xs : List ℕ) (bytes : Bytes xs) where
       omega (arith, length-line nodeWord (n ∷ position ∷ accumulator ∷ message ∷ waiting ∷ messages), length-fields n (position ∷ accumulator ∷ message ∷ waiting ∷ messages), length-fields position (accumulator ∷ message ∷ waiting ∷ messages), length-fields accumulator (message ∷ waiting ∷ messages), length-fields message (waiting ∷ messages), length-fields waiting messages, messages-short (place + 10) waiting, field-21 n, byte-field place, word-field (place + 1), word-field (place + 5), byte-field (place + 9))
 
   nodes-short : (n : ℕ) → length (nodeLines xs n) ≤ 9 * partAt xs n
-  unfolding firstOf partAt
+  unfolding joined partAt
   nodes-short zero = omega arith
   nodes-short (suc n) = omega (arith, nodes-short n, node-short (partAt xs n) n, length-append (nodeLines xs n) (partLine xs n))
 
@@ -88,10 +88,10 @@ module _ (xs : List ℕ) (bytes : Bytes xs) where
       let value = numberAt xs (place + 4 * x) 4 in
       omega (arith, length-line varWord (x ∷ value ∷ []), length-fields x (value ∷ []), length-fields value [], no-fields, field-21 x, word-field (place + 4 * x))
 
-  picture-short : (nodes variables : ℕ) → length (snapshotLines xs nodes variables) ≤ 9 * (partAt xs nodes + 4 * variables)
+  snapshot-short : (nodes variables : ℕ) → length (snapshotLines xs nodes variables) ≤ 9 * (partAt xs nodes + 4 * variables)
   unfolding snapshotLines
-  picture-short nodes variables =
-      let lines = firstOf (variableLine xs (partAt xs nodes)) variables in
+  snapshot-short nodes variables =
+      let lines = joined (variableLine xs (partAt xs nodes)) variables in
       omega (arith, nodes-short nodes, first-short (variableLine xs (partAt xs nodes)) 36 (variable-short (partAt xs nodes)) variables, length-append (nodeLines xs nodes) lines)
 
 -- the line of an answer and of a refusal
@@ -108,9 +108,9 @@ refused-short number place =
 
 -- a run
 pub run-short :
-    (x : Answer) (trace picture : List ℕ) → Bytes trace → Bytes picture → (nodes variables : ℕ)
-    → length (runLines x trace picture nodes variables) ≤ 23 * (x .turns) + 130 + 9 * (partAt picture nodes + 4 * variables)
+    (x : Answer) (trace snapshot : List ℕ) → Bytes trace → Bytes snapshot → (nodes variables : ℕ)
+    → length (runLines x trace snapshot nodes variables) ≤ 23 * (x .turns) + 130 + 9 * (partAt snapshot nodes + 4 * variables)
 unfolding runLines
-run-short x trace picture b c nodes variables =
-    let pictured = snapshotLines picture nodes variables in
-    omega (arith, first-short (entryLine trace) 23 (entry-short trace b) (x .turns), end-short x, picture-short picture c nodes variables, length-append (firstOf (entryLine trace) (x .turns)) (endLine x ++ pictured), length-append (endLine x) pictured)
+run-short x trace snapshot b c nodes variables =
+    let shown = snapshotLines snapshot nodes variables in
+    omega (arith, first-short (entryLine trace) 23 (entry-short trace b) (x .turns), end-short x, snapshot-short snapshot c nodes variables, length-append (joined (entryLine trace) (x .turns)) (endLine x ++ shown), length-append (endLine x) shown)

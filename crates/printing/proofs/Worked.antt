@@ -1,6 +1,6 @@
 -- The definitions agree with K1, by computation.
 use mathlib.Core.Path.{refl}
-use Rattle.text.specs.Text.{digitsWithin, decimal, field, fields, firstOf}
+use Rattle.text.specs.Text.{digitsWithin, decimal, field, fields, joined}
 use Rattle.lines.specs.Lines.{entryLine, endLine, messagesAt, partAt, nodeLine, variableLine, snapshotLines, runLines}
 use Rattle.model.specs.Table.{operandsIn, operandsOf, isAmong, largestIn, largestOf}
 use Rattle.model.specs.Command.{numberAt, readCommand}
@@ -27,6 +27,6 @@ unfolding operandsIn operandsOf isAmong largestIn largestOf
     anyOf groupFalls violation decodeFrom decode refuseFirst decodeJob decodeFor
     report monitored
     enough times k1 k1Read low
-    digitsWithin decimal field fields firstOf entryLine endLine messagesAt partAt nodeLine variableLine snapshotLines runLines
+    digitsWithin decimal field fields joined entryLine endLine messagesAt partAt nodeLine variableLine snapshotLines runLines
     k1Lines
 k1-prints = refl

@@ -18,4 +18,4 @@ variablesIn job = countOf VAR (commandsOf (decodeJob job))
 -- what is printed for a job with this result
 abbrev pub resultLines : List ℕ → Result → List ℕ
 resultLines job (refused r) = refusedLine (r .number) (r .place)
-resultLines job (ran x trace picture) = runLines x trace picture (nodesIn job) (variablesIn job)
+resultLines job (ran x trace snapshot) = runLines x trace snapshot (nodesIn job) (variablesIn job)

@@ -32,19 +32,19 @@ fn put_ended(
     ending: Ending,
     job: &[u8],
     trace: &[u8],
-    picture: &[u8],
+    snapshot: &[u8],
 ) -> usize
     requires { ⌜ IsAccepted (decodeJob (now job)) ⌝ }
     requires { ⌜ 7 * (ending .turns) ≤ length (now trace) ⌝ }
-    requires { ⌜ partAt (now picture) (nodesIn (now job)) + 4 * variablesIn (now job) ≤ length (now picture) ⌝ }
-    requires { ⌜ at + length (runLines (answerOf ending) (now trace) (now picture) (nodesIn (now job)) (variablesIn (now job))) ≤ length (now text) ⌝ }
-    ensures { λ r. ⌜ Writes (runLines (answerOf ending) (now (trace .entry)) (now (picture .entry)) (nodesIn (now (job .entry))) (variablesIn (now (job .entry)))) (now (text .entry)) at (now (text .exit)) r ⌝ }
+    requires { ⌜ partAt (now snapshot) (nodesIn (now job)) + 4 * variablesIn (now job) ≤ length (now snapshot) ⌝ }
+    requires { ⌜ at + length (runLines (answerOf ending) (now trace) (now snapshot) (nodesIn (now job)) (variablesIn (now job))) ≤ length (now text) ⌝ }
+    ensures { λ r. ⌜ Writes (runLines (answerOf ending) (now (trace .entry)) (now (snapshot .entry)) (nodesIn (now (job .entry))) (variablesIn (now (job .entry)))) (now (text .entry)) at (now (text .exit)) r ⌝ }
 {
-    let mut t = [0u32; CELLS];
-    decode(job, &mut t);
-    let nodes = count_of(&t, bytes::NODE) as usize;
-    let variables = count_of(&t, bytes::VAR) as usize;
-    put_run(text, at, ending, trace, picture, nodes, variables)
+    let mut tables = [0u32; CELLS];
+    decode(job, &mut tables);
+    let nodes = count_of(&tables, bytes::NODE) as usize;
+    let variables = count_of(&tables, bytes::VAR) as usize;
+    put_run(text, at, ending, trace, snapshot, nodes, variables)
 }
 
 // Runs a job and puts the lines of its run, at most 131,072 bytes.
@@ -53,16 +53,16 @@ pub fn run_to_text(
     at: usize,
     job: &[u8],
     trace: &mut [u8],
-    picture: &mut [u8],
+    snapshot: &mut [u8],
     work: &mut [u8],
     monitored: bool,
 ) -> Printed
     requires { ⌜ at + 131072 ≤ length (now text) ⌝ }
     ensures { λ r. ⌜ r .next ≤ at + 131072 ⌝ }
-    ensures { λ r. ⌜ Writes (resultLines (now (job .entry)) (resultFor monitored (now (job .entry)) (sizesOf (buffers (now (trace .entry)) (now (picture .entry)) (now (work .entry)))))) (now (text .entry)) at (now (text .exit)) (r .next) ⌝ }
-    ensures { λ r. ⌜ Delivers (resultFor monitored (now (job .entry)) (sizesOf (buffers (now (trace .entry)) (now (picture .entry)) (now (work .entry))))) (buffers (now (trace .entry)) (now (picture .entry)) (now (work .entry))) (buffers (now (trace .exit)) (now (picture .exit)) (now (work .exit))) (r .answer) ⌝ }
+    ensures { λ r. ⌜ Writes (resultLines (now (job .entry)) (resultFor monitored (now (job .entry)) (sizesOf (buffers (now (trace .entry)) (now (snapshot .entry)) (now (work .entry)))))) (now (text .entry)) at (now (text .exit)) (r .next) ⌝ }
+    ensures { λ r. ⌜ Delivers (resultFor monitored (now (job .entry)) (sizesOf (buffers (now (trace .entry)) (now (snapshot .entry)) (now (work .entry))))) (buffers (now (trace .entry)) (now (snapshot .entry)) (now (work .entry))) (buffers (now (trace .exit)) (now (snapshot .exit)) (now (work .exit))) (r .answer) ⌝ }
 {
-    let answer = run(job, trace, picture, work, monitored);
+    let answer = run(job, trace, snapshot, work, monitored);
     match answer {
         Answer::Refused(refusal) => {
             let next = put_refusal(text, at, refusal);
@@ -72,7 +72,7 @@ pub fn run_to_text(
             }
         }
         Answer::Ended(ending) => {
-            let next = put_ended(text, at, ending, job, trace, picture);
+            let next = put_ended(text, at, ending, job, trace, snapshot);
             Printed {
                 next: next,
                 answer: answer,

@@ -8,7 +8,7 @@ use native.Mathlib.Numerals.{add-one}
 use native.Mathlib.Decide.{ℕ-discrete, decLt}
 use lib.ListN.{length, getD, take, drop, set, length-set, length-drop}
 use lib.Seq.{ext-getD, getD-set-same, getD-set-other, drop-drop, drop-set-lt, drop-set-add, take-set-le, take-suc-set, length-take-le, getD-take, getD-drop, paste, paste-zero, paste-suc, drop-paste, drop-at, take-append-le, take-take, take-nil}
-use Rattle.queues.specs.Queues.{queues, Bounded, shifted}
+use Rattle.queues.specs.Queues.{queues, BoundedCounts, shifted}
 
 pub length-queues : (ws slots : List ℕ) → length (queues ws slots) ≡ length ws
 length-queues [] slots = refl
@@ -23,7 +23,7 @@ queue-at (w ∷ ws) slots (suc n) =
     queue-at ws (drop 16 slots) n ∙ rw (drop-drop (16 * n) 16 slots, e)
 
 -- its length
-pub count-at : (ws slots : List ℕ) → Bounded ws → length ws * 16 ≤ length slots → (n : ℕ) → length (getD (queues ws slots) n []) ≡ getD ws n 0
+pub count-at : (ws slots : List ℕ) → BoundedCounts ws → length ws * 16 ≤ length slots → (n : ℕ) → length (getD (queues ws slots) n []) ≡ getD ws n 0
 count-at [] slots bounded fits n = refl
 count-at (w ∷ ws) slots bounded fits zero = length-take-le w slots (omega (arith, bounded 0))
 count-at (w ∷ ws) slots bounded fits (suc n) = count-at ws (drop 16 slots) (λ i. bounded (suc i)) (simp length-drop (omega arith)) n
@@ -35,7 +35,7 @@ oldest-is ws slots n some =
     rw (queue-at ws slots n, getD-take (getD ws n 0) (drop (16 * n) slots) 0 0 some, getD-drop (16 * n) slots 0 0, e)
 
 -- counts stay within 16 where the new one is
-pub bounded-set : (ws : List ℕ) (n w : ℕ) → Bounded ws → n < length ws → w ≤ 16 → Bounded (set ws n w)
+pub bounded-set : (ws : List ℕ) (n w : ℕ) → BoundedCounts ws → n < length ws → w ≤ 16 → BoundedCounts (set ws n w)
 bounded-set ws n w bounded inside h i = by-place (ℕ-discrete i n)
   where
     by-place : Dec (i ≡ n) → getD (set ws n w) i 0 ≤ 16
@@ -100,7 +100,7 @@ drop-one-take zero l h = absurd (omega arith)
 drop-one-take (suc k) [] h = sym (take-nil (suc k - 1))
 drop-one-take (suc k) (x ∷ l) h = let e : suc k - 1 ≡ k = omega arith in rw e
 
-module _ (ws slots : List ℕ) (n : ℕ) (bounded : Bounded ws) (fits : n * 16 + 16 ≤ length slots) where
+module _ (ws slots : List ℕ) (n : ℕ) (bounded : BoundedCounts ws) (fits : n * 16 + 16 ≤ length slots) where
   -- a message at the back
   pub queues-pushed :
       (v : ℕ) → getD ws n 0 < 16

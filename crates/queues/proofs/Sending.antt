@@ -12,7 +12,7 @@ use borrow.Author.Tests.{leb-false}
 use Rattle.model.specs.Table.{maxWaiting}
 use Rattle.model.specs.Turn.{delivered}
 use Rattle.model.proofs.Turns.{some-none, delivered-target, delivered-other}
-use Rattle.queues.specs.Queues.{queues, countAt, Bounded, Holds, full}
+use Rattle.queues.specs.Queues.{queues, countAt, BoundedCounts, Holds, full}
 use Rattle.queues.proofs.Queues.{bounded-set, queues-pushed}
 
 -- at this target 16 messages wait
@@ -31,7 +31,7 @@ pub record Serving (target : ℕ → Bool) (v : ℕ) (qs : List (List ℕ)) (k :
   pub holds : Holds ws slots (delivered target v qs k)
 
 pub serving-none :
-    (target : ℕ → Bool) (v : ℕ) (ws slots : List ℕ) → length ws ≡ 32 → length slots ≡ 512 → Bounded ws → full target (countAt ws) ≡ false
+    (target : ℕ → Bool) (v : ℕ) (ws slots : List ℕ) → length ws ≡ 32 → length slots ≡ 512 → BoundedCounts ws → full target (countAt ws) ≡ false
     → Serving target v (queues ws slots) 0 ws slots
 unfolding delivered
 serving-none target v ws slots counts places bounded f = record {

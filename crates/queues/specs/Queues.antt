@@ -19,12 +19,12 @@ abbrev pub countAt : List ℕ → ℕ → ℕ
 countAt ws n = getD ws n 0
 
 -- no more messages wait at a node than it has slots
-abbrev pub Bounded : List ℕ → Type 0
-Bounded ws = (n : ℕ) → countAt ws n ≤ maxWaiting
+abbrev pub BoundedCounts : List ℕ → Type 0
+BoundedCounts ws = (n : ℕ) → countAt ws n ≤ maxWaiting
 
 -- the slots hold these queues, and no more messages wait than there are slots
 pub record Holds (ws slots : List ℕ) (qs : List (List ℕ)) : Type 0 where
-  pub bounded : Bounded ws
+  pub bounded : BoundedCounts ws
   pub same : queues ws slots ≡ qs
 
 -- at some target 16 messages wait, where so many wait at each node

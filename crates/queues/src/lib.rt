@@ -6,18 +6,18 @@ ghost use lib.ListN.{length};
 ghost use Rattle.model.specs.Table.{maxNodes};
 ghost use Rattle.model.specs.Turn.{delivered};
 ghost use Rattle.tables.specs.Tables.{wiredIn};
-ghost use Rattle.queues.specs.Queues.{queues, countAt, Bounded, Holds, full, withoutOldest, shifted};
+ghost use Rattle.queues.specs.Queues.{queues, countAt, BoundedCounts, Holds, full, withoutOldest, shifted};
 use allowlists::is_wired;
 use command::numbers::NodeNum;
 
 // Whether 16 messages wait at some target of a node's port.
-pub fn has_full(t: &[u32], n: NodeNum, port: u32, waiting: &[u8; 32]) -> bool
-    ensures { λ r. ⌜ r ≡ full (wiredIn (now (t .entry)) (n .0) port) (countAt (now (waiting .entry))) ⌝ }
+pub fn has_full(tables: &[u32], n: NodeNum, port: u32, waiting: &[u8; 32]) -> bool
+    ensures { λ r. ⌜ r ≡ full (wiredIn (now (tables .entry)) (n .0) port) (countAt (now (waiting .entry))) ⌝ }
 {
     let mut k: usize = 0;
     while k < 32 {
         if 16 <= waiting[k] {
-            if is_wired(t, n, port, NodeNum(k as u32)) {
+            if is_wired(tables, n, port, NodeNum(k as u32)) {
                 return true;
             }
         }
@@ -30,19 +30,19 @@ pub fn has_full(t: &[u32], n: NodeNum, port: u32, waiting: &[u8; 32]) -> bool
 pub fn deliver(
     queue: &mut [u32; 512],
     waiting: &mut [u8; 32],
-    t: &[u32],
+    tables: &[u32],
     n: NodeNum,
     port: u32,
     value: u32,
 )
     requires { ⌜ (length (now queue) ≡ 512) × (length (now waiting) ≡ 32) ⌝ }
-    requires { ⌜ Bounded (now waiting) ⌝ }
-    requires { ⌜ full (wiredIn (now t) (n .0) port) (countAt (now waiting)) ≡ false ⌝ }
-    ensures { λ _. ⌜ Holds (now (waiting .exit)) (now (queue .exit)) (delivered (wiredIn (now (t .entry)) (n .0) port) value (queues (now (waiting .entry)) (now (queue .entry))) maxNodes) ⌝ }
+    requires { ⌜ BoundedCounts (now waiting) ⌝ }
+    requires { ⌜ full (wiredIn (now tables) (n .0) port) (countAt (now waiting)) ≡ false ⌝ }
+    ensures { λ _. ⌜ Holds (now (waiting .exit)) (now (queue .exit)) (delivered (wiredIn (now (tables .entry)) (n .0) port) value (queues (now (waiting .entry)) (now (queue .entry))) maxNodes) ⌝ }
 {
     let mut target: usize = 0;
     while target < 32 {
-        if is_wired(t, n, port, NodeNum(target as u32)) {
+        if is_wired(tables, n, port, NodeNum(target as u32)) {
             let w = waiting[target];
             let at = target * 16 + w as usize;
             queue[at] = value;
@@ -68,7 +68,7 @@ fn shift(queue: &mut [u32; 512], base: usize)
 // The oldest message of a node leaves its queue.
 pub fn take_oldest(queue: &mut [u32; 512], waiting: &mut [u8; 32], n: NodeNum)
     requires { ⌜ (length (now queue) ≡ 512) × (length (now waiting) ≡ 32) ⌝ }
-    requires { ⌜ Bounded (now waiting) ⌝ }
+    requires { ⌜ BoundedCounts (now waiting) ⌝ }
     requires { ⌜ (n .0 < 32) × (1 ≤ countAt (now waiting) (n .0)) ⌝ }
     ensures { λ _. ⌜ Holds (now (waiting .exit)) (now (queue .exit)) (withoutOldest (queues (now (waiting .entry)) (now (queue .entry))) (n .0)) ⌝ }
 {

@@ -34,13 +34,13 @@ fn numbers_in(answer: Answer) -> [u64; 8]
 pub extern "C" fn leqsumir_run_monitored(
     job: &[u8],
     trace: &mut [u8],
-    picture: &mut [u8],
+    snapshot: &mut [u8],
     work: &mut [u8],
     answer: &mut [u64; 8],
 )
-    ensures { λ _. ⌜ Exports (monitored (now (job .entry)) (sizesOf (buffers (now (trace .entry)) (now (picture .entry)) (now (work .entry))))) (buffers (now (trace .entry)) (now (picture .entry)) (now (work .entry))) (buffers (now (trace .exit)) (now (picture .exit)) (now (work .exit))) (now (answer .exit)) ⌝ }
+    ensures { λ _. ⌜ Exports (monitored (now (job .entry)) (sizesOf (buffers (now (trace .entry)) (now (snapshot .entry)) (now (work .entry))))) (buffers (now (trace .entry)) (now (snapshot .entry)) (now (work .entry))) (buffers (now (trace .exit)) (now (snapshot .exit)) (now (work .exit))) (now (answer .exit)) ⌝ }
 {
-    *answer = numbers_in(run_monitored(job, trace, picture, work));
+    *answer = numbers_in(run_monitored(job, trace, snapshot, work));
 }
 
 // The unmonitored run (01's "bare").
@@ -48,11 +48,11 @@ pub extern "C" fn leqsumir_run_monitored(
 pub extern "C" fn leqsumir_run_unmonitored(
     job: &[u8],
     trace: &mut [u8],
-    picture: &mut [u8],
+    snapshot: &mut [u8],
     work: &mut [u8],
     answer: &mut [u64; 8],
 )
-    ensures { λ _. ⌜ Exports (unmonitored (now (job .entry)) (sizesOf (buffers (now (trace .entry)) (now (picture .entry)) (now (work .entry))))) (buffers (now (trace .entry)) (now (picture .entry)) (now (work .entry))) (buffers (now (trace .exit)) (now (picture .exit)) (now (work .exit))) (now (answer .exit)) ⌝ }
+    ensures { λ _. ⌜ Exports (unmonitored (now (job .entry)) (sizesOf (buffers (now (trace .entry)) (now (snapshot .entry)) (now (work .entry))))) (buffers (now (trace .entry)) (now (snapshot .entry)) (now (work .entry))) (buffers (now (trace .exit)) (now (snapshot .exit)) (now (work .exit))) (now (answer .exit)) ⌝ }
 {
-    *answer = numbers_in(run_unmonitored(job, trace, picture, work));
+    *answer = numbers_in(run_unmonitored(job, trace, snapshot, work));
 }

@@ -7,10 +7,10 @@ use lib.Dec.{ltb}
 use lib.ListN.{length}
 use Rattle.model.specs.Table.{WIRE, ANY, ARG, READ, WRITE, BODY, groupOf}
 use Rattle.model.specs.Command.{Command, ternary, binary}
-use Rattle.model.specs.Declared.{countOf, occurs, flowOf, scopeOf, ownerOf, startOf, answerOf, openBody, bodyLength, startsOf, startedIn}
+use Rattle.model.specs.Declared.{countOf, occurs, flowOf, scopeOf, ownerOf, startOf, funAnswerOf, openBody, bodyLength, startsOf, startedIn}
 use Rattle.model.specs.Refusal.{groupFalls}
 use Rattle.tables.specs.Cells.{cellCount}
-use Rattle.tables.specs.Tables.{countIn, groupIn, openIn, flowIn, scopeIn, ownerIn, startIn, answerIn, lengthIn, bodyIn, startedAt, firstsIn, wiredIn, readIn, writeIn, anyIn, listedIn}
+use Rattle.tables.specs.Tables.{countIn, groupIn, openIn, flowIn, scopeIn, ownerIn, startIn, funAnswerIn, lengthIn, bodyIn, startedAt, firstsIn, wiredIn, readIn, writeIn, anyIn, listedIn}
 
 pub record Stands (t : List ℕ) (past : List Command) : Type 0 where
   pub size : length t ≡ cellCount
@@ -21,7 +21,7 @@ pub record Stands (t : List ℕ) (past : List Command) : Type 0 where
   pub scope : (x : ℕ) → scopeIn t x ≡ scopeOf past x
   pub owner : (x : ℕ) → ownerIn t x ≡ ownerOf past x
   pub startValue : (x : ℕ) → startIn t x ≡ startOf past x
-  pub answer : (f : ℕ) → answerIn t f ≡ answerOf past f
+  pub answer : (f : ℕ) → funAnswerIn t f ≡ funAnswerOf past f
   pub lengths : (n : ℕ) → lengthIn t n ≡ bodyLength past n
   pub bodies : (n : ℕ) → bodyIn t n ≡ occurs BODY (binary n 0) past
   pub started : (f : ℕ) → startedAt t f ≡ startedIn past f

@@ -93,8 +93,8 @@ abbrev pub startIn : List ℕ → ℕ → ℕ
 startIn t x = entryIn t startCells x
 
 -- the answer of a function
-abbrev pub answerIn : List ℕ → ℕ → ℕ
-answerIn t f = entryIn t answerCells f
+abbrev pub funAnswerIn : List ℕ → ℕ → ℕ
+funAnswerIn t f = entryIn t answerCells f
 
 -- the variable is shared
 abbrev pub sharedIn : List ℕ → ℕ → Bool

@@ -49,80 +49,80 @@ pub const CALLS: Section = Section(5696, 2048);
 pub const WIRES: Section = Section(7744, 8192);
 
 // Cell i of a section.
-pub fn entry(t: &[u32], s: Section, i: usize) -> u32
+pub fn entry(tables: &[u32], s: Section, i: usize) -> u32
     requires { ⌜ s .0 + s .1 ≤ cellCount ⌝ }
-    ensures { λ r. ⌜ r ≡ entryIn (now (t .entry)) s i ⌝ }
+    ensures { λ r. ⌜ r ≡ entryIn (now (tables .entry)) s i ⌝ }
 {
     let base = s.0;
     let size = s.1;
     if i < size {
         let at = base + i;
-        if at < t.len() {
-            return t[at];
+        if at < tables.len() {
+            return tables[at];
         }
     }
     0
 }
 
 // Sets cell i of a section, if on.
-pub fn put(t: &mut [u32], on: bool, s: Section, i: usize, x: u32)
+pub fn put(tables: &mut [u32], on: bool, s: Section, i: usize, x: u32)
     requires { ⌜ s .0 + s .1 ≤ cellCount ⌝ }
-    ensures { λ _. ⌜ now (t .exit) ≡ putIn (now (t .entry)) on s i x ⌝ }
+    ensures { λ _. ⌜ now (tables .exit) ≡ putIn (now (tables .entry)) on s i x ⌝ }
 {
     let base = s.0;
     let size = s.1;
     if on {
         if i < size {
             let at = base + i;
-            if at < t.len() {
-                t[at] = x;
+            if at < tables.len() {
+                tables[at] = x;
             }
         }
     }
 }
 
 // Whether cell i of a section is marked.
-pub fn flagged(t: &[u32], s: Section, i: usize) -> bool
+pub fn flagged(tables: &[u32], s: Section, i: usize) -> bool
     requires { ⌜ s .0 + s .1 ≤ cellCount ⌝ }
-    ensures { λ r. ⌜ r ≡ markIn (now (t .entry)) s i ⌝ }
+    ensures { λ r. ⌜ r ≡ markIn (now (tables .entry)) s i ⌝ }
 {
-    let x = entry(t, s, i);
+    let x = entry(tables, s, i);
     x != 0
 }
 
 // Whether a cell of a section with 64 cells a row is marked.
-pub fn marked(t: &[u32], s: Section, row: usize, column: usize) -> bool
+pub fn marked(tables: &[u32], s: Section, row: usize, column: usize) -> bool
     requires { ⌜ s .0 + s .1 ≤ cellCount ⌝ }
-    ensures { λ r. ⌜ r ≡ gridIn (now (t .entry)) s row column ⌝ }
+    ensures { λ r. ⌜ r ≡ gridIn (now (tables .entry)) s row column ⌝ }
 {
     if row < 128 {
         if column < 64 {
-            return flagged(t, s, row * 64 + column);
+            return flagged(tables, s, row * 64 + column);
         }
     }
     false
 }
 
 // Marks a cell of such a section, if on.
-pub fn mark(t: &mut [u32], on: bool, s: Section, row: usize, column: usize)
+pub fn mark(tables: &mut [u32], on: bool, s: Section, row: usize, column: usize)
     requires { ⌜ s .0 + s .1 ≤ cellCount ⌝ }
-    ensures { λ _. ⌜ now (t .exit) ≡ markAt (now (t .entry)) on s row column ⌝ }
+    ensures { λ _. ⌜ now (tables .exit) ≡ markAt (now (tables .entry)) on s row column ⌝ }
 {
     if row < 128 {
         if column < 64 {
-            put(t, on, s, row * 64 + column, 1);
+            put(tables, on, s, row * 64 + column, 1);
         }
     }
 }
 
 // Makes every cell 0.
-pub fn clear(t: &mut [u32])
-    requires { ⌜ length (now t) ≡ cellCount ⌝ }
-    ensures { λ _. ⌜ now (t .exit) ≡ blank ⌝ }
+pub fn clear(tables: &mut [u32])
+    requires { ⌜ length (now tables) ≡ cellCount ⌝ }
+    ensures { λ _. ⌜ now (tables .exit) ≡ blank ⌝ }
 {
     let mut i = 0;
-    while i < t.len() {
-        t[i] = 0;
+    while i < tables.len() {
+        tables[i] = 0;
         i += 1;
     }
 }

@@ -7,65 +7,65 @@ use native.Mathlib.Omega.{arith}
 use lib.ListN.{length, getD, length-append}
 use Rattle.writing.specs.Writing.{Writes}
 use Rattle.writing.proofs.Placing.{writes-on, writes-nothing, length-writes}
-use Rattle.text.specs.Text.{field, fields, firstOf}
+use Rattle.text.specs.Text.{field, fields, joined}
 
 -- one text more, and room for it
-first-next : (f : ℕ → List ℕ) (k : ℕ) → firstOf f (k + 1) ≡ firstOf f k ++ f k
-unfolding firstOf
-first-next f k = ap (firstOf f) (add-one k)
+first-next : (f : ℕ → List ℕ) (k : ℕ) → joined f (k + 1) ≡ joined f k ++ f k
+unfolding joined
+first-next f k = ap (joined f) (add-one k)
 
-grows : (f : ℕ → List ℕ) (k d n : ℕ) → n ≡ d + k → length (firstOf f k) ≤ length (firstOf f n)
-unfolding firstOf
-grows f k zero n e = let same : n ≡ k = omega arith in omega (arith, ap (λ (i : ℕ). length (firstOf f i)) same)
+grows : (f : ℕ → List ℕ) (k d n : ℕ) → n ≡ d + k → length (joined f k) ≤ length (joined f n)
+unfolding joined
+grows f k zero n e = let same : n ≡ k = omega arith in omega (arith, ap (λ (i : ℕ). length (joined f i)) same)
 grows f k (suc d) zero e = absurd (omega arith)
-grows f k (suc d) (suc n) e = omega (arith, grows f k d n (omega arith), length-append (firstOf f n) (f n))
+grows f k (suc d) (suc n) e = omega (arith, grows f k d n (omega arith), length-append (joined f n) (f n))
 
-pub first-fits : (f : ℕ → List ℕ) (k n : ℕ) → k < n → length (firstOf f k) + length (f k) ≤ length (firstOf f n)
+pub first-fits : (f : ℕ → List ℕ) (k n : ℕ) → k < n → length (joined f k) + length (f k) ≤ length (joined f n)
 first-fits f k n h =
-    omega (arith, grows f (k + 1) (n - (k + 1)) n (omega arith), length-append (firstOf f k) (f k), ap length (first-next f k))
+    omega (arith, grows f (k + 1) (n - (k + 1)) n (omega arith), length-append (joined f k) (f k), ap length (first-next f k))
 
 -- the first k texts are put: what a loop over them keeps
 pub record Put (f : ℕ → List ℕ) (before : List ℕ) (at k : ℕ) (buffer : List ℕ) (next : ℕ) : Type 0 where
-  pub writes : Writes (firstOf f k) before at buffer next
+  pub writes : Writes (joined f k) before at buffer next
   pub size : length buffer ≡ length before
 
 pub none-put : (f : ℕ → List ℕ) (before : List ℕ) (at : ℕ) → Put f before at 0 before at
-unfolding firstOf
+unfolding joined
 none-put f before at = record { writes = writes-nothing before at; size = refl }
 
-module _ (f : ℕ → List ℕ) (before : List ℕ) (at n : ℕ) (fits : at + length (firstOf f n) ≤ length before) (k : ℕ) (inside : k < n) (buffer : List ℕ) (next : ℕ) (w : Put f before at k buffer next) where
+module _ (f : ℕ → List ℕ) (before : List ℕ) (at n : ℕ) (fits : at + length (joined f n) ≤ length before) (k : ℕ) (inside : k < n) (buffer : List ℕ) (next : ℕ) (w : Put f before at k buffer next) where
   pub room : next + length (f k) ≤ length buffer
   room = omega (arith, first-fits f k n inside, w .writes .place, w .size)
 
   pub one-put : (after : List ℕ) (last : ℕ) → Writes (f k) buffer next after last → Put f before at (k + 1) after last
   one-put after last p =
       let more = first-fits f k n inside in
-      let both = writes-on (firstOf f k) (f k) before at buffer next after last (omega arith) (w .writes) p in
+      let both = writes-on (joined f k) (f k) before at buffer next after last (omega arith) (w .writes) p in
       record {
         writes = rw first-next both;
-        size = length-writes (firstOf f k ++ f k) before at after last (omega (arith, length-append (firstOf f k) (f k))) both;
+        size = length-writes (joined f k ++ f k) before at after last (omega (arith, length-append (joined f k) (f k))) both;
       }
 
 -- all are put
 pub all-put :
     (f : ℕ → List ℕ) (before : List ℕ) (at n k : ℕ) (buffer : List ℕ) (next : ℕ) → k ≤ n → n ≤ k
-    → Put f before at k buffer next → Writes (firstOf f n) before at buffer next
+    → Put f before at k buffer next → Writes (joined f n) before at buffer next
 all-put f before at n k buffer next low high w = let same : k ≡ n = omega arith in rw same at (w .writes)
 
 -- from the front: the first text, then the others
-first-shift : (f : ℕ → List ℕ) (k : ℕ) → firstOf f (suc k) ≡ f 0 ++ firstOf (λ i. f (suc i)) k
-unfolding firstOf
+first-shift : (f : ℕ → List ℕ) (k : ℕ) → joined f (suc k) ≡ f 0 ++ joined (λ i. f (suc i)) k
+unfolding joined
 first-shift f zero = sym (append-nil (f 0))
-first-shift f (suc k) = ap (λ (l : List ℕ). l ++ f (suc k)) (first-shift f k) ∙ append-assoc (f 0) (firstOf (λ i. f (suc i)) k) (f (suc k))
+first-shift f (suc k) = ap (λ (l : List ℕ). l ++ f (suc k)) (first-shift f k) ∙ append-assoc (f 0) (joined (λ i. f (suc i)) k) (f (suc k))
 
 -- bytes one by one, and numbers one by one
-pub bytes-each : (bytes : List ℕ) → firstOf (λ i. getD bytes i 0 ∷ []) (length bytes) ≡ bytes
-unfolding firstOf
+pub bytes-each : (bytes : List ℕ) → joined (λ i. getD bytes i 0 ∷ []) (length bytes) ≡ bytes
+unfolding joined
 bytes-each [] = refl
 bytes-each (b ∷ bytes) = first-shift (λ i. getD (b ∷ bytes) i 0 ∷ []) (length bytes) ∙ ap (λ (l : List ℕ). b ∷ l) (bytes-each bytes)
 
-pub fields-each : (numbers : List ℕ) → firstOf (λ i. field (getD numbers i 0)) (length numbers) ≡ fields numbers
-unfolding firstOf fields
+pub fields-each : (numbers : List ℕ) → joined (λ i. field (getD numbers i 0)) (length numbers) ≡ fields numbers
+unfolding joined fields
 fields-each [] = refl
 fields-each (n ∷ ns) = first-shift (λ i. field (getD (n ∷ ns) i 0)) (length ns) ∙ ap (λ (l : List ℕ). field n ++ l) (fields-each ns)
 
@@ -75,13 +75,13 @@ unfolding fields
 fields-append [] ys = refl
 fields-append (x ∷ xs) ys = ap (λ (l : List ℕ). field x ++ l) (fields-append xs ys) ∙ sym (append-assoc (field x) (fields xs) (fields ys))
 
-pub fields-first : (number : ℕ → ℕ) (k : ℕ) → fields (firstOf (λ i. number i ∷ []) k) ≡ firstOf (λ i. field (number i)) k
-unfolding firstOf fields
+pub fields-first : (number : ℕ → ℕ) (k : ℕ) → fields (joined (λ i. number i ∷ []) k) ≡ joined (λ i. field (number i)) k
+unfolding joined fields
 fields-first number zero = refl
 fields-first number (suc k) =
-    fields-append (firstOf (λ i. number i ∷ []) k) (number k ∷ [])
+    fields-append (joined (λ i. number i ∷ []) k) (number k ∷ [])
     ∙ ap (λ (l : List ℕ). l ++ (field (number k) ++ [])) (fields-first number k)
-    ∙ ap (λ (l : List ℕ). firstOf (λ i. field (number i)) k ++ l) (append-nil (field (number k)))
+    ∙ ap (λ (l : List ℕ). joined (λ i. field (number i)) k ++ l) (append-nil (field (number k)))
 
 -- a text behind another: room for each, and both
 module _ (xs ys before : List ℕ) (at : ℕ) (fits : at + length (xs ++ ys) ≤ length before) where

@@ -27,6 +27,6 @@ abbrev pub line : List ℕ → List ℕ → List ℕ
 line first numbers = first ++ (fields numbers ++ (10 ∷ []))
 
 -- the first k of these texts, one behind the other
-unfoldable pub firstOf : (ℕ → List ℕ) → ℕ → List ℕ
-firstOf text zero = []
-firstOf text (suc k) = firstOf text k ++ text k
+unfoldable pub joined : (ℕ → List ℕ) → ℕ → List ℕ
+joined text zero = []
+joined text (suc k) = joined text k ++ text k

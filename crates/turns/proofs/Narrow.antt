@@ -21,7 +21,7 @@ use Rattle.model.proofs.Ranges.{handler-named}
 use Rattle.model.proofs.Valid.{limits}
 use Rattle.model.proofs.Ways.{either, turn-by, monitored-by}
 use Rattle.entries.specs.Entries.{ruleOf}
-use Rattle.output.specs.Output.{Narrow}
+use Rattle.output.specs.Written.{Narrow}
 
 -- a completed turn makes an entry with this property
 abbrev pub Makes : (Entry → Type 0) → Turned → Type 0

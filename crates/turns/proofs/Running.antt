@@ -22,8 +22,8 @@ use Rattle.model.proofs.Runs.{trace-snoc, entries-snoc, behind, behind-none, be
 use Rattle.model.proofs.Valid.{job-valid, limits}
 use Rattle.model.proofs.Ways.{Keeps}
 use Rattle.tables.specs.Tables.{countIn}
-use Rattle.queues.specs.Queues.{Bounded}
-use Rattle.job.specs.Program.{turnIn, Prepared}
+use Rattle.queues.specs.Queues.{BoundedCounts}
+use Rattle.job.specs.Prepared.{turnIn, Prepared}
 use Rattle.job.proofs.Prepared.{prepared}
 use Rattle.entries.specs.declared.Entry.{Entry}
 use Rattle.entries.specs.declared.Outcome.{Outcome}
@@ -38,13 +38,13 @@ use Rattle.engine.specs.Accepted.{EngineMeets}
 use Rattle.engine.proofs.Accepted.{engine-holds}
 use Rattle.writing.specs.Writing.{Writes}
 use Rattle.writing.proofs.Placing.{writes-on, writes-nothing, placed-front}
-use Rattle.output.specs.Output.{Narrow}
+use Rattle.output.specs.Written.{Narrow}
 use Rattle.turns.specs.declared.Ran.{Ran}
 use Rattle.turns.specs.declared.ending.Ending.{Ending}
 use Rattle.turns.specs.declared.ending.Stop.{Stop}
 use Rattle.turns.specs.declared.ending.Stop.the-variants as v
 use Rattle.turns.specs.Endings.{answerOf, answerBy, answerAt}
-use Rattle.turns.specs.Runs.{runOf, Ready, RunsAs}
+use Rattle.turns.specs.Runs.{runOf, Loaded, RunsAs}
 use Rattle.turns.proofs.Narrow.{rule-narrow, placed-narrow}
 
 -- the run behind k completed turns, whose entries stand at the front of the trace
@@ -55,7 +55,7 @@ pub record Underway (monitored : Bool) (past : List Command) (before : List ℕ)
   pub writes : Writes (traceBytes (entriesOf done)) before 0 trace at
   pub place : at ≡ 7 * k
   pub size : length trace ≡ length before
-  pub bounded : Bounded (s .waiting)
+  pub bounded : BoundedCounts (s .waiting)
   pub placed : Placed (programOf past) (view s)
 
 -- what the loop keeps: while it goes on, the run behind k turns; when it is left, the run that is over
@@ -82,7 +82,7 @@ halts (o.Forbidden x) after h = record { stop = 1; attempted = numbersOf x; same
 halts (o.Unready n) after h = record { stop = 2; attempted = entry (n .0) 0 0 0; same = refl }
 halts (o.Full x) after h = record { stop = 3; attempted = numbersOf x; same = refl }
 
-module _ (monitored : Bool) (job t w : List ℕ) (ready : Ready job t w) where
+module _ (monitored : Bool) (job t w : List ℕ) (ready : Loaded job t w) where
   abbrev past : List Command
   past = ready .past
 
@@ -128,7 +128,7 @@ module _ (monitored : Bool) (job t w : List ℕ) (ready : Ready job t w) where
   over :
       {before : List ℕ} {s : State} {trace : List ℕ} {at k : ℕ} (u : Underway monitored past before s trace at k) (x : Ran) (j : ℕ) (e : Numbered)
       → runOf monitored past ≡ record { steps = u .done; stop = j; attempted = e; final = view s }
-      → view (x .state) ≡ view s → Bounded (x .state .waiting) → answerOf (x .ending) ≡ record { stop = j; turns = k; attempted = e }
+      → view (x .state) ≡ view s → BoundedCounts (x .state .waiting) → answerOf (x .ending) ≡ record { stop = j; turns = k; attempted = e }
       → RunsAs (runOf monitored past) before trace x
   over {before} {s} {trace} {at} {k} u x j e is same bounded told =
       let count = u .count in

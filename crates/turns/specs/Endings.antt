@@ -4,7 +4,7 @@ use Rattle.model.specs.State.{State}
 use Rattle.model.specs.Turn.{entry, Turned, completed, stopped}
 use Rattle.model.specs.Output.{Answer}
 use Rattle.entries.specs.Entries.{turnedBy}
-use Rattle.output.specs.Output.{entryWith}
+use Rattle.output.specs.Written.{entryWith}
 use Rattle.turns.specs.declared.ending.Ending.{Ending}
 use Rattle.turns.specs.declared.ending.Stop.{Stop}
 use Rattle.turns.specs.declared.ending.Stop.the-variants as s

@@ -15,10 +15,10 @@ use Rattle.model.specs.Result.{written}
 use Rattle.model.specs.Valid.{Bytes}
 use Rattle.handlers.specs.Loading.{loaded}
 use Rattle.tables.specs.Stands.{Stands}
-use Rattle.queues.specs.Queues.{Bounded}
+use Rattle.queues.specs.Queues.{BoundedCounts}
 use Rattle.entries.specs.Entries.{ruleOf}
 use Rattle.engine.specs.Engine.{view}
-use Rattle.output.specs.Output.{NarrowPositions}
+use Rattle.output.specs.Written.{NarrowPositions}
 use Rattle.turns.specs.declared.Ran.{Ran}
 use Rattle.turns.specs.Endings.{answerOf}
 
@@ -27,7 +27,7 @@ abbrev pub runOf : Bool → List Command → Run
 runOf monitored past = runFrom (ruleOf monitored (programOf past)) (turnsOf past) (initialState (programOf past))
 
 -- the job is accepted, the tables stand for its commands, and the work buffer holds its handlers
-pub record Ready (job t w : List ℕ) : Type 0 where
+pub record Loaded (job t w : List ℕ) : Type 0 where
   pub bytes : Bytes job
   pub past : List Command
   pub decoded : decodeJob job ≡ accepted past
@@ -41,5 +41,5 @@ pub record RunsAs (r : Run) (before after : List ℕ) (x : Ran) : Type 0 where
   pub answer : answerOf (x .ending) ≡ answerIn r
   pub trace : after ≡ written (traceIn r) before
   pub state : view (x .state) ≡ r .final
-  pub bounded : Bounded (x .state .waiting)
+  pub bounded : BoundedCounts (x .state .waiting)
   pub positions : NarrowPositions (x .state)

@@ -9,7 +9,7 @@ ghost use Rattle.model.specs.Table.{TURN};
 ghost use Rattle.model.specs.Command.{Command};
 ghost use Rattle.model.specs.Refusal.{accepted, decodeJob};
 ghost use Rattle.tables.specs.Tables.{countIn};
-ghost use Rattle.turns.specs.Runs.{Ready, runOf, RunsAs};
+ghost use Rattle.turns.specs.Runs.{Loaded, runOf, RunsAs};
 use command::bytes;
 use declared::count_of;
 use ending::Ending;
@@ -29,20 +29,20 @@ pub struct Ran {
 }
 
 // The run of an accepted job from the start to its last turn or a stop, its entries written to the trace.
-pub fn run_turns(job: &[u8], t: &[u32], work: &[u8], trace: &mut [u8], monitored: bool) -> Ran
-    requires { ⌜ Ready (now job) (now t) (now work) ⌝ }
-    requires { ⌜ 7 * countIn (now t) TURN ≤ length (now trace) ⌝ }
+pub fn run_turns(job: &[u8], tables: &[u32], work: &[u8], trace: &mut [u8], monitored: bool) -> Ran
+    requires { ⌜ Loaded (now job) (now tables) (now work) ⌝ }
+    requires { ⌜ 7 * countIn (now tables) TURN ≤ length (now trace) ⌝ }
     ensures { λ r. ⌜ ((past : List Command) → decodeJob (now (job .entry)) ≡ accepted past → RunsAs (runOf monitored past) (now (trace .entry)) (now (trace .exit)) r) ⌝ }
 {
-    let turns = count_of(t, bytes::TURN);
-    let mut s = start(t);
+    let turns = count_of(tables, bytes::TURN);
+    let mut s = start(tables);
     let mut stop = Stop::Never;
     let mut last = turns;
     let mut at: usize = 0;
     let mut k: u32 = 0;
     while k < last {
-        let n = turn_at(job, t, k);
-        let turned = s.turn(t, work, n, monitored);
+        let n = turn_at(job, tables, k);
+        let turned = s.turn(tables, work, n, monitored);
         s = turned.state;
         let outcome = turned.outcome;
         if let Outcome::Made(entry) = outcome {

@@ -49,22 +49,22 @@ fn check_buffers(size: usize, turns: u32, trace: usize, snapshot: usize, work: u
 // The verdict on a job of any length with buffers of any lengths, whatever the tables held before: an accepted job leaves its tables, a refused one blank ones.
 pub fn judge(
     job: &[u8],
-    t: &mut [u32; CELLS],
+    tables: &mut [u32; CELLS],
     trace: usize,
     snapshot: usize,
     work: usize,
 ) -> Verdict
-    ensures { λ r. ⌜ Decides (decodeFor (now (job .entry)) (sizes trace snapshot work)) (now (t .exit)) r ⌝ }
+    ensures { λ r. ⌜ Decides (decodeFor (now (job .entry)) (sizes trace snapshot work)) (now (tables .exit)) r ⌝ }
 {
-    let decoded = decode(job, t);
+    let decoded = decode(job, tables);
     match decoded {
         Verdict::Refused(r) => Verdict::Refused(r),
         Verdict::Accepted => {
-            let turns = count_of(t, bytes::TURN);
+            let turns = count_of(tables, bytes::TURN);
             let checked = check_buffers(job.len(), turns, trace, snapshot, work);
             match checked {
                 Verdict::Refused(r) => {
-                    clear(t);
+                    clear(tables);
                     Verdict::Refused(r)
                 }
                 Verdict::Accepted => Verdict::Accepted,

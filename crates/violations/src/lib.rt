@@ -27,15 +27,15 @@ struct Counts {
 }
 
 // 5: a largest count would be passed.
-fn exceeds_count(t: &[u32], c: Command) -> bool
+fn exceeds_count(tables: &[u32], c: Command) -> bool
     requires { ⌜ Known c ⌝ }
-    ensures { λ r. ⌜ ((past : List Past) → Stands (now (t .entry)) past → r ≡ exceedsCount past (commandOf c)) ⌝ }
+    ensures { λ r. ⌜ ((past : List Past) → Stands (now (tables .entry)) past → r ≡ exceedsCount past (commandOf c)) ⌝ }
 {
     let row = table::row_at(c.row);
     let most = row.8 as u32;
-    let have = declared::count_of(t, c.byte);
-    let opened = declared::open_node(t);
-    let inside = declared::length_of(t, opened);
+    let have = declared::count_of(tables, c.byte);
+    let opened = declared::open_node(tables);
+    let inside = declared::length_of(tables, opened);
     let handler = bytes::is_handler(c.byte);
     ((most != 0) & (most <= have)) | (handler & (64 <= inside))
 }
@@ -68,16 +68,16 @@ fn names_nothing(d: Counts, scope: u32, kind: u8, x: u32) -> bool
 }
 
 // 6: a NODE before every FLOW, a handler command before every BODY, or an operand that names nothing.
-fn is_undeclared(t: &[u32], c: Command) -> bool
+fn is_undeclared(tables: &[u32], c: Command) -> bool
     requires { ⌜ Known c ⌝ }
-    ensures { λ r. ⌜ ((past : List Past) → Stands (now (t .entry)) past → r ≡ undeclared past (commandOf c)) ⌝ }
+    ensures { λ r. ⌜ ((past : List Past) → Stands (now (tables .entry)) past → r ≡ undeclared past (commandOf c)) ⌝ }
 {
     let row = table::row_at(c.row);
-    let flows = declared::count_of(t, bytes::FLOW);
-    let nodes = declared::count_of(t, bytes::NODE);
-    let variables = declared::count_of(t, bytes::VAR);
-    let functions = declared::count_of(t, bytes::FUN);
-    let bodies = declared::count_of(t, bytes::BODY);
+    let flows = declared::count_of(tables, bytes::FLOW);
+    let nodes = declared::count_of(tables, bytes::NODE);
+    let variables = declared::count_of(tables, bytes::VAR);
+    let functions = declared::count_of(tables, bytes::FUN);
+    let bodies = declared::count_of(tables, bytes::BODY);
     let d = Counts {
         flows,
         nodes,
@@ -108,50 +108,50 @@ fn is_access(b: u8) -> bool
 
 // 7: a wire into another flow, a handler command with a variable that its node does not see, READ or WRITE of a variable unseen or
 // not shared.
-fn is_out_of_reach(t: &[u32], c: Command) -> bool
-    ensures { λ r. ⌜ ((past : List Past) → Stands (now (t .entry)) past → r ≡ outOfReach past (commandOf c)) ⌝ }
+fn is_out_of_reach(tables: &[u32], c: Command) -> bool
+    ensures { λ r. ⌜ ((past : List Past) → Stands (now (tables .entry)) past → r ≡ outOfReach past (commandOf c)) ⌝ }
 {
     if c.byte == bytes::WIRE {
-        let from = declared::flow_of(t, NodeNum(c.first));
-        let to = declared::flow_of(t, NodeNum(c.third));
+        let from = declared::flow_of(tables, NodeNum(c.first));
+        let to = declared::flow_of(tables, NodeNum(c.third));
         return from.0 != to.0;
     }
     if uses_variable(c.byte) {
-        let opened = declared::open_node(t);
-        let seen = declared::sees(t, opened, VarNum(c.first));
+        let opened = declared::open_node(tables);
+        let seen = declared::sees(tables, opened, VarNum(c.first));
         return !seen;
     }
     if is_access(c.byte) {
-        let seen = declared::sees(t, NodeNum(c.first), VarNum(c.second));
-        let shared = declared::is_shared(t, VarNum(c.second));
+        let seen = declared::sees(tables, NodeNum(c.first), VarNum(c.second));
+        let shared = declared::is_shared(tables, VarNum(c.second));
         return !seen | !shared;
     }
     false
 }
 
 // 8: the same WIRE or permission again, a node's second BODY, a flow's second START.
-fn is_repeated(t: &[u32], c: Command) -> bool
-    ensures { λ r. ⌜ ((past : List Past) → Stands (now (t .entry)) past → Plain (commandOf c) → r ≡ repeated past (commandOf c)) ⌝ }
+fn is_repeated(tables: &[u32], c: Command) -> bool
+    ensures { λ r. ⌜ ((past : List Past) → Stands (now (tables .entry)) past → Plain (commandOf c) → r ≡ repeated past (commandOf c)) ⌝ }
 {
     let n = NodeNum(c.first);
     let b = c.byte;
     match b {
-        bytes::WIRE => allowlists::is_wired(t, n, c.second, NodeNum(c.third)),
-        bytes::ANY => allowlists::may_call_any(t, n, FunNum(c.second)),
-        bytes::ARG => allowlists::may_call_with(t, n, FunNum(c.second), c.third),
-        bytes::READ => allowlists::may_read(t, n, VarNum(c.second)),
-        bytes::WRITE => allowlists::may_write(t, n, VarNum(c.second)),
-        bytes::BODY => declared::has_body(t, n),
+        bytes::WIRE => allowlists::is_wired(tables, n, c.second, NodeNum(c.third)),
+        bytes::ANY => allowlists::may_call_any(tables, n, FunNum(c.second)),
+        bytes::ARG => allowlists::may_call_with(tables, n, FunNum(c.second), c.third),
+        bytes::READ => allowlists::may_read(tables, n, VarNum(c.second)),
+        bytes::WRITE => allowlists::may_write(tables, n, VarNum(c.second)),
+        bytes::BODY => declared::has_body(tables, n),
         bytes::START => {
-            let flow = declared::flow_of(t, n);
-            declared::has_start(t, flow)
+            let flow = declared::flow_of(tables, n);
+            declared::has_start(tables, flow)
         }
         _ => false,
     }
 }
 
 // The number of the first of the tests 4 to 8 that refuses, or 0.
-fn first_of(falls: bool, exceeds: bool, undeclared: bool, outside: bool, again: bool) -> u8
+fn first_violation(falls: bool, exceeds: bool, undeclared: bool, outside: bool, again: bool) -> u8
     ensures { λ r. ⌜ r ≡ cond falls 4 (cond exceeds 5 (cond undeclared 6 (cond outside 7 (cond again 8 0)))) ⌝ }
 {
     if falls {
@@ -173,15 +173,15 @@ fn first_of(falls: bool, exceeds: bool, undeclared: bool, outside: bool, again: 
 }
 
 // The number of the first of the tests 4 to 8 that refuses a command, or 0.
-pub fn violation_of(t: &[u32], c: Command) -> u8
+pub fn violation_of(tables: &[u32], c: Command) -> u8
     requires { ⌜ Known c ⌝ }
-    ensures { λ r. ⌜ ((past : List Past) → Stands (now (t .entry)) past → Plain (commandOf c) → r ≡ violation past (commandOf c)) ⌝ }
+    ensures { λ r. ⌜ ((past : List Past) → Stands (now (tables .entry)) past → Plain (commandOf c) → r ≡ violation past (commandOf c)) ⌝ }
 {
     let group = c.group as u32;
-    let highest = declared::group(t);
-    let exceeds = exceeds_count(t, c);
-    let undeclared = is_undeclared(t, c);
-    let outside = is_out_of_reach(t, c);
-    let again = is_repeated(t, c);
-    first_of(group < highest, exceeds, undeclared, outside, again)
+    let highest = declared::group(tables);
+    let exceeds = exceeds_count(tables, c);
+    let undeclared = is_undeclared(tables, c);
+    let outside = is_out_of_reach(tables, c);
+    let again = is_repeated(tables, c);
+    first_violation(group < highest, exceeds, undeclared, outside, again)
 }

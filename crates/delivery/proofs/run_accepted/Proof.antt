@@ -48,8 +48,8 @@ same-length-3 c = search needs
 returns : tie.Need-returns
 returns c =
     let z = c .before .before .before .before .before .before .before .before .before .before .before .before .before .before .before .before .before .before .before .before .before .before .before .before .before .before .before .before in
-    let b = buffers (now (z .args .trace)) (now (z .args .picture)) (now (z .args .work)) in
-    hands-over (now (z .args .job)) (now (z .args .t)) b (z .pre) (z .args .monitored) _ (c .before .before .before .before .before .before .before .before .before .before .before .before .before .before .before .before .run-turns .result) (c .before .before .before .before .before .before .before .before .before .before .before .before .before .before .before .before .run-turns .ensures) _ _ (rw (c .before .before .before .before .before .before .before .before .before .before .count-of .ensures, c .before .before .before .before .before .before .before .before .count-of2 .ensures) at (c .before .before .before .before .before .before .put-snapshot .ensures)) _ _ (rw (c .before .before .before .before .before .before .before .before .before .before .before .before .before .before .before .before .before .before .before .before .before .before .load .ensures) at (c .before .before .put-zeros .ensures))
+    let b = buffers (now (z .args .trace)) (now (z .args .snapshot)) (now (z .args .work)) in
+    hands-over (now (z .args .job)) (now (z .args .tables)) b (z .pre) (z .args .monitored) _ (c .before .before .before .before .before .before .before .before .before .before .before .before .before .before .before .before .run-turns .result) (c .before .before .before .before .before .before .before .before .before .before .before .before .before .before .before .before .run-turns .ensures) _ _ (rw (c .before .before .before .before .before .before .before .before .before .before .count-of .ensures, c .before .before .before .before .before .before .before .before .count-of2 .ensures) at (c .before .before .before .before .before .before .put-snapshot .ensures)) _ _ (rw (c .before .before .before .before .before .before .before .before .before .before .before .before .before .before .before .before .before .before .before .before .before .before .load .ensures) at (c .before .before .put-zeros .ensures))
 
 pub run-accepted-spec : {M : Type 1} → statement M
 run-accepted-spec =

@@ -130,7 +130,7 @@ returns-10 : tie.Need-returns-10
 returns-10 c = rw (c .before .before .instruction8 .given .1) (nexts _ _ _ _ _ _ (c .continue-at10 .ensures) (λ w s n. refl) (λ w s n e. e))
 
 returns-11 : tie.Need-returns-11
-returns-11 c = rw (c .before .before .before .instruction9 .given .1) (sets _ _ _ _ _ _ (c .continue-at11 .ensures) (λ w s n h. ap (λ (v : ℕ). advanced (withAccumulator s n v) n) (answer-by (now (c .before .before .before .before .before .before .before .before .args .t)) w _ _ ∙ sym (c .before .answer-of .ensures))))
+returns-11 c = rw (c .before .before .before .instruction9 .given .1) (sets _ _ _ _ _ _ (c .continue-at11 .ensures) (λ w s n h. ap (λ (v : ℕ). advanced (withAccumulator s n v) n) (answer-by (now (c .before .before .before .before .before .before .before .before .args .tables)) w _ _ ∙ sym (c .before .answer-of .ensures))))
 
 returns-12 : tie.Need-returns-12
 returns-12 c = rw (c .before .enum-told2 .given .1) (nexts _ _ _ _ _ _ (c .continue-at12 .ensures) (λ w s n. refl) (λ w s n _. tt))

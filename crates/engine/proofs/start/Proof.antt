@@ -1,7 +1,7 @@
 -- `engine::start` meets its contract.
 use borrow.Author.Needs.{needs}
 use Rattle.model.specs.State.{initialState}
-use Rattle.job.specs.Program.{programIn}
+use Rattle.job.specs.Prepared.{programIn}
 use Rattle.engine.proofs.start.Statement.{statement}
 use Rattle.engine.proofs.start.Tie as tie
 

@@ -2,7 +2,7 @@
 use mathlib.Core.Path.{sym, _∙_, ap}
 use denote.Ref.{now}
 use borrow.Author.Needs.{needs}
-use Rattle.job.specs.Program.{programIn}
+use Rattle.job.specs.Prepared.{programIn}
 use Rattle.effects.specs.declared.Registers.{Registers}
 use Rattle.effects.proofs.Carrying.{does-at}
 use Rattle.plans.proofs.Deciding.{forbidden-planned, full-planned, made-by}
@@ -32,7 +32,7 @@ returns c w s h counts =
     let a = c .before .before .before .before .before .before .before .before .before .args in
     let left = c .before .before .before .before .before .before .event-of .ensures w s (a .n .0) (ap (λ (o : Registers). o .accumulator) (h .own)) (h .variables) in
     rw (c .planned .ensures, c .before .make-entry .ensures)
-    (forbidden-planned (programIn (now (a .t)) w) s (a .n) (a .monitored) (a .instruction) (c .before .before .before .before .before .before .event-of .result) left (a .registers) (h .own) (sym (c .before .before .before .before .is-forbidden .ensures w) ∙ c .before .before .before .if1 .taken) (c .before .before .redact .result) (c .before .before .redact .ensures (a .n .0)))
+    (forbidden-planned (programIn (now (a .tables)) w) s (a .n) (a .monitored) (a .instruction) (c .before .before .before .before .before .before .event-of .result) left (a .registers) (h .own) (sym (c .before .before .before .before .is-forbidden .ensures w) ∙ c .before .before .before .if1 .taken) (c .before .before .redact .result) (c .before .before .redact .ensures (a .n .0)))
 
 make-entry-requires-2 : tie.Need-make-entry-requires-2
 make-entry-requires-2 c κs = search needs
@@ -48,7 +48,7 @@ returns-2 c w s h counts =
     let a = c .before .before .before .before .before .before .before .before .before .before .args in
     let left = c .before .before .before .before .before .before .before .event-of .ensures w s (a .n .0) (ap (λ (o : Registers). o .accumulator) (h .own)) (h .variables) in
     rw (c .planned2 .ensures, c .before .before .before .make-entry2 .ensures)
-    (full-planned (programIn (now (a .t)) w) s (a .n) (a .monitored) (a .instruction) (c .before .before .before .before .before .before .before .event-of .result) left (a .registers) (h .own) (sym (c .before .before .blocks2 .ensures w s counts) ∙ c .before .if2 .taken))
+    (full-planned (programIn (now (a .tables)) w) s (a .n) (a .monitored) (a .instruction) (c .before .before .before .before .before .before .before .event-of .result) left (a .registers) (h .own) (sym (c .before .before .blocks2 .ensures w s counts) ∙ c .before .if2 .taken))
 
 planned-requires-3 : tie.Need-planned-requires-3
 planned-requires-3 c κs = search needs
@@ -58,7 +58,7 @@ returns-3 c w s h counts =
     let a = c .before .before .before .before .before .before .before .before .before .before .args in
     let left = c .before .before .before .before .before .before .before .event-of .ensures w s (a .n .0) (ap (λ (o : Registers). o .accumulator) (h .own)) (h .variables) in
     rw (c .planned3 .ensures, c .before .before .before .make-entry2 .ensures)
-    (made-by (programIn (now (a .t)) w) s (a .n) (a .monitored) (a .instruction) (c .before .before .before .before .before .before .before .event-of .result) left (sym (c .before .before .before .before .before .is-forbidden .ensures w) ∙ c .before .before .before .before .if1 .left) (sym (c .before .before .blocks2 .ensures w s counts) ∙ c .before .if2 .left) (c .before .before .before .before .before .before .effect-of .result) (does-at _ _ _ _ _ (c .before .before .before .before .before .before .effect-of .ensures) w s (a .n .0) h))
+    (made-by (programIn (now (a .tables)) w) s (a .n) (a .monitored) (a .instruction) (c .before .before .before .before .before .before .before .event-of .result) left (sym (c .before .before .before .before .before .is-forbidden .ensures w) ∙ c .before .before .before .before .if1 .left) (sym (c .before .before .blocks2 .ensures w s counts) ∙ c .before .if2 .left) (c .before .before .before .before .before .before .effect-of .result) (does-at _ _ _ _ _ (c .before .before .before .before .before .before .effect-of .ensures) w s (a .n .0) h))
 
 pub decide-spec : {M : Type 1} → statement M
 decide-spec =

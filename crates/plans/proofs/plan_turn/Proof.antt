@@ -3,7 +3,7 @@ use mathlib.Core.Path.{sym, _∙_}
 use native.Mathlib.Omega.{arith}
 use denote.Ref.{now}
 use borrow.Author.Needs.{needs}
-use Rattle.job.specs.Program.{programIn}
+use Rattle.job.specs.Prepared.{programIn}
 use Rattle.entries.proofs.Names.{length-by, command-by}
 use Rattle.plans.proofs.Turning.{unready-planned, begun-planned, finished-planned, executed-planned}
 use Rattle.plans.proofs.plan_turn.Statement.{statement}
@@ -22,7 +22,7 @@ returns : tie.Need-returns
 returns c s h counts first =
     let a = c .before .before .before .before .before .before .before .before .args in
     rw (c .planned .ensures)
-    (unready-planned (programIn (now (a .t)) (now (a .work))) s (a .n) (a .monitored) (a .registers) (h .own) (c .before .before .before .if1 .taken) (counts (a .n .0) ∙ c .before .if2 .taken))
+    (unready-planned (programIn (now (a .tables)) (now (a .work))) s (a .n) (a .monitored) (a .registers) (h .own) (c .before .before .before .if1 .taken) (counts (a .n .0) ∙ c .before .if2 .taken))
 
 make-entry-requires : tie.Need-make-entry-requires
 make-entry-requires c κs = search needs
@@ -34,7 +34,7 @@ returns-2 : tie.Need-returns-2
 returns-2 c s h counts first =
     let a = c .before .before .before .before .before .before .before .before .before .args in
     rw (c .planned2 .ensures, c .before .make-entry .ensures)
-    (begun-planned (programIn (now (a .t)) (now (a .work))) s (a .n) (a .monitored) (a .registers) (h .own) (c .before .before .before .before .if1 .taken) (λ e. c .before .before .if2 .left (sym (counts (a .n .0)) ∙ e)) (a .oldest) (first (omega (arith, counts (a .n .0), c .before .before .if2 .left))))
+    (begun-planned (programIn (now (a .tables)) (now (a .work))) s (a .n) (a .monitored) (a .registers) (h .own) (c .before .before .before .before .if1 .taken) (λ e. c .before .before .if2 .left (sym (counts (a .n .0)) ∙ e)) (a .oldest) (first (omega (arith, counts (a .n .0), c .before .before .if2 .left))))
 
 length-of-requires : tie.Need-length-of-requires
 length-of-requires c κs = search needs
@@ -49,8 +49,8 @@ returns-3 : tie.Need-returns-3
 returns-3 c s h counts first =
     let a = c .before .before .before .before .before .before .before .before .before .args in
     let l = c .before .before .before .length-of .ensures in
-    executed-planned (programIn (now (a .t)) (now (a .work))) s (a .n) (a .monitored) (a .registers) (h .own) (c .before .before .before .before .if1 .left) (omega (arith, c .before .before .if3 .taken, l, length-by (now (a .t)) (now (a .work)) (a .n .0)))
-    _ (c .before .fetch .ensures ∙ sym (command-by (now (a .t)) (now (a .work)) (a .n .0) (a .registers .position) (omega (arith, c .before .before .if3 .taken, l)))) _ (c .decide .ensures (now (a .work)) s h counts)
+    executed-planned (programIn (now (a .tables)) (now (a .work))) s (a .n) (a .monitored) (a .registers) (h .own) (c .before .before .before .before .if1 .left) (omega (arith, c .before .before .if3 .taken, l, length-by (now (a .tables)) (now (a .work)) (a .n .0)))
+    _ (c .before .fetch .ensures ∙ sym (command-by (now (a .tables)) (now (a .work)) (a .n .0) (a .registers .position) (omega (arith, c .before .before .if3 .taken, l)))) _ (c .decide .ensures (now (a .work)) s h counts)
 
 make-entry-requires-2 : tie.Need-make-entry-requires-2
 make-entry-requires-2 c κs = search needs
@@ -62,7 +62,7 @@ returns-4 : tie.Need-returns-4
 returns-4 c s h counts first =
     let a = c .before .before .before .before .before .before .before .before .before .args in
     rw (c .planned3 .ensures, c .before .make-entry2 .ensures)
-    (finished-planned (programIn (now (a .t)) (now (a .work))) s (a .n) (a .monitored) (a .registers) (h .own) (c .before .before .before .before .if1 .left) (omega (arith, c .before .before .if3 .left, c .before .before .before .length-of .ensures, length-by (now (a .t)) (now (a .work)) (a .n .0))))
+    (finished-planned (programIn (now (a .tables)) (now (a .work))) s (a .n) (a .monitored) (a .registers) (h .own) (c .before .before .before .before .if1 .left) (omega (arith, c .before .before .if3 .left, c .before .before .before .length-of .ensures, length-by (now (a .tables)) (now (a .work)) (a .n .0))))
 
 pub plan-turn-spec : {M : Type 1} → statement M
 plan-turn-spec =

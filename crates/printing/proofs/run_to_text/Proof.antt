@@ -5,7 +5,7 @@ use denote.Ref.{now}
 use borrow.Author.Needs.{needs}
 use Rattle.delivery.specs.Answers.{buffers}
 use Rattle.printing.specs.Printing.{resultLines}
-use Rattle.printing.proofs.Outcomes.{refused-result, ended-as, is-accepted, trace-inside, picture-inside, lines-short, lines-same}
+use Rattle.printing.proofs.Outcomes.{refused-result, ended-as, is-accepted, trace-inside, snapshot-inside, lines-short, lines-same}
 use Rattle.printing.proofs.Short.{refused-short}
 use Rattle.printing.proofs.run_to_text.Statement.{statement}
 use Rattle.printing.proofs.run_to_text.Tie as tie
@@ -25,8 +25,8 @@ enum-known-answer-2 c = search needs
 put-ended-requires : tie.Need-put-ended-requires
 put-ended-requires c κs =
     let z = c .before .before .before .before .before .before .before .before .before .before .before .before .before .before .before .before .before .before .before .before .before .args in
-    let e = ended-as (z .monitored) (now (z .job)) (buffers (now (z .trace)) (now (z .picture)) (now (z .work))) _ _ _ (c .before .before .before .before .before .before .before .before .before .before .before .before .run .ensures) (c .before .before .before .before .answer2 .given .1) in
-    (is-accepted _ _ _ _ _ e, (trace-inside _ _ _ _ _ e, (picture-inside _ _ _ _ _ e, omega (arith, c .before .before .before .before .before .before .before .before .before .before .before .before .before .before .before .before .before .before .before .before .before .pre, lines-short _ _ _ _ _ e (λ i. omega (arith, c .before .before .before .before .before .before .before .before .before .before .slice-known5 .given i)) (λ i. omega (arith, c .before .before .before .before .before .before .before .before .slice-known6 .given i))))))
+    let e = ended-as (z .monitored) (now (z .job)) (buffers (now (z .trace)) (now (z .snapshot)) (now (z .work))) _ _ _ (c .before .before .before .before .before .before .before .before .before .before .before .before .run .ensures) (c .before .before .before .before .answer2 .given .1) in
+    (is-accepted _ _ _ _ _ e, (trace-inside _ _ _ _ _ e, (snapshot-inside _ _ _ _ _ e, omega (arith, c .before .before .before .before .before .before .before .before .before .before .before .before .before .before .before .before .before .before .before .before .before .pre, lines-short _ _ _ _ _ e (λ i. omega (arith, c .before .before .before .before .before .before .before .before .before .before .slice-known5 .given i)) (λ i. omega (arith, c .before .before .before .before .before .before .before .before .slice-known6 .given i))))))
 
 same-length : tie.Need-same-length
 same-length c = search needs
@@ -61,7 +61,7 @@ same-length-8 c = search needs
 returns-2 : tie.Need-returns-2
 returns-2 c =
     let z = c .before .before .before .before .before .before .before .before .before .before .before .before .before .before .before .before .before .before .before .before .before .before .before .before .args in
-    let e = ended-as (z .monitored) (now (z .job)) (buffers (now (z .trace)) (now (z .picture)) (now (z .work))) _ _ _ (c .before .before .before .before .before .before .before .before .before .before .before .before .before .before .before .run .ensures) (c .before .before .before .before .before .before .before .answer2 .given .1) in
+    let e = ended-as (z .monitored) (now (z .job)) (buffers (now (z .trace)) (now (z .snapshot)) (now (z .work))) _ _ _ (c .before .before .before .before .before .before .before .before .before .before .before .before .before .before .before .run .ensures) (c .before .before .before .before .before .before .before .answer2 .given .1) in
     (omega (arith, c .before .before .put-ended .ensures .place, lines-short _ _ _ _ _ e (λ i. omega (arith, c .before .before .before .before .before .before .before .before .before .before .before .before .before .slice-known5 .given i)) (λ i. omega (arith, c .before .before .before .before .before .before .before .before .before .before .before .slice-known6 .given i))), (rw (lines-same _ _ _ _ _ e) at (c .before .before .put-ended .ensures), rw (c .before .before .before .before .before .before .before .answer2 .given .1) at (c .before .before .before .before .before .before .before .before .before .before .before .before .before .before .before .run .ensures)))
 
 pub run-to-text-spec : {M : Type 1} → statement M

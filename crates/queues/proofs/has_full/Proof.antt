@@ -39,7 +39,7 @@ returns : tie.Need-returns Inv-loop μ-loop
 returns c =
     let a = c .before .before .before .before .before .before .before .args in
     let k = c .before .before .before .before .before .loop .k in
-    let target = wiredIn (now (a .t)) (a .n .0) (a .port) in
+    let target = wiredIn (now (a .tables)) (a .n .0) (a .port) in
     let ws = now (a .waiting) in
     let wired : target k ≡ true = sym (c .before .is-wired .ensures) ∙ c .if2 .taken in
     let many : 16 ≤ getD ws k 0 = omega arith in
@@ -55,7 +55,7 @@ loop-again : tie.Need-loop-again Inv-loop μ-loop
 loop-again c =
     let a = c .before .before .before .before .before .args in
     let l = c .before .before .before .loop in
-    let target = wiredIn (now (a .t)) (a .n .0) (a .port) in
+    let target = wiredIn (now (a .tables)) (a .n .0) (a .port) in
     let ws = now (a .waiting) in
     let room : held target ws (l .k) ≡ false =
     ⊎-elim
@@ -67,7 +67,7 @@ loop-again c =
 returns-2 : tie.Need-returns-2 Inv-loop μ-loop
 returns-2 c =
     let a = c .before .before .before .args in
-    sym (ap (someBelow (held (wiredIn (now (a .t)) (a .n .0) (a .port)) (now (a .waiting)))) (omega arith) ∙ c .before .loop .inv .1)
+    sym (ap (someBelow (held (wiredIn (now (a .tables)) (a .n .0) (a .port)) (now (a .waiting)))) (omega arith) ∙ c .before .loop .inv .1)
 
 pub has-full-spec : {M : Type 1} → statement M
 has-full-spec =

@@ -8,14 +8,14 @@ use borrow.Author.Needs.{needs}
 use Rattle.model.specs.Table.{TURN}
 use Rattle.model.specs.Command.{Command}
 use Rattle.tables.specs.Tables.{countIn}
-use Rattle.output.specs.Output.{entryWith, Narrow}
-use Rattle.turns.specs.Runs.{Ready, runOf, RunsAs}
+use Rattle.output.specs.Written.{entryWith, Narrow}
+use Rattle.turns.specs.Runs.{Loaded, runOf, RunsAs}
 use Rattle.turns.proofs.Running.{Reached, underway-none, node-inside, turns-few, made-narrow, underway-next, underway-stopped, reached, halted}
 use Rattle.turns.proofs.run_turns.Statement.{statement}
 use Rattle.turns.proofs.run_turns.Tie as tie
 
 abbrev Inv-loop : tie.InvT-loop
-Inv-loop job t work trace₀ monitored turns s₀ stop₀ last₀ at₀ k₀ trace s stop last at k = (ready : Ready job t work) → Reached monitored (ready .past) trace₀ turns trace s stop last at k
+Inv-loop job t work trace₀ monitored turns s₀ stop₀ last₀ at₀ k₀ trace s stop last at k = (ready : Loaded job t work) → Reached monitored (ready .past) trace₀ turns trace s stop last at k
 
 abbrev μ-loop : tie.MeasureT-loop
 μ-loop job t work trace₀ monitored turns s₀ stop₀ last₀ at₀ k₀ trace s stop last at k = last - k
@@ -30,8 +30,8 @@ loop-holds : tie.Need-loop-holds Inv-loop μ-loop
 loop-holds c =
     let a = c .before .before .before .before .before .before .args in
     λ ready.
-    reached (a .monitored) (now (a .job)) (now (a .t)) (now (a .work)) ready _ _ _ 0 0 _ _ refl (c .before .count-of .ensures) (omega arith)
-    (underway-none (a .monitored) (now (a .job)) (now (a .t)) (now (a .work)) ready _ _ (c .start .ensures)) _ refl
+    reached (a .monitored) (now (a .job)) (now (a .tables)) (now (a .work)) ready _ _ _ 0 0 _ _ refl (c .before .count-of .ensures) (omega arith)
+    (underway-none (a .monitored) (now (a .job)) (now (a .tables)) (now (a .work)) ready _ _ (c .start .ensures)) _ refl
 
 turn-at-requires : tie.Need-turn-at-requires Inv-loop μ-loop
 turn-at-requires c κs = search needs
@@ -42,7 +42,7 @@ turn-requires c κs =
     let ready = c .before .before .before .before .before .before .before .before .before .pre .0 in
     let l = c .before .before .loop in
     let h : l .k < l .last = omega (arith, c .before .loop-test .taken) in
-    (l .inv ready .going h .bounded, omega (arith, c .turn-at .ensures, node-inside (a .monitored) (now (a .job)) (now (a .t)) (now (a .work)) ready (l .k) (omega (arith, h, l .inv ready .all h, c .before .before .before .before .count-of .ensures))))
+    (l .inv ready .going h .bounded, omega (arith, c .turn-at .ensures, node-inside (a .monitored) (now (a .job)) (now (a .tables)) (now (a .work)) ready (l .k) (omega (arith, h, l .inv ready .all h, c .before .before .before .before .count-of .ensures))))
 
 enum-known-outcome : tie.Need-enum-known-outcome Inv-loop μ-loop
 enum-known-outcome c = search needs
@@ -57,9 +57,9 @@ put-entry-requires c κs =
     let l = c .before .before .before .before .before .before .before .before .before .loop in
     let h : l .k < l .last = omega (arith, c .before .before .before .before .before .before .before .before .loop-test .taken) in
     let u = l .inv ready .going h in
-    let more : l .k < countIn (now (a .t)) TURN = omega (arith, h, l .inv ready .all h, c .before .before .before .before .before .before .before .before .before .before .before .count-of .ensures) in
+    let more : l .k < countIn (now (a .tables)) TURN = omega (arith, h, l .inv ready .all h, c .before .before .before .before .before .before .before .before .before .before .before .count-of .ensures) in
     let e = c .numbers-of .ensures in
-    (omega (arith, more, u .place, u .size, c .before .before .before .before .before .before .before .before .before .before .before .before .before .before .before .before .pre .1), subst Narrow (sym e) (made-narrow (a .monitored) (now (a .job)) (now (a .t)) (now (a .work)) ready _ (l .s) (l .trace) (l .at) (l .k) u more _ (c .before .before .before .before .before .before .before .turn-at .ensures) (c .before .before .before .before .before .before .turn .result) (c .before .before .before .before .before .before .turn .ensures) _ (c .before .before .before .outcome .given .1)))
+    (omega (arith, more, u .place, u .size, c .before .before .before .before .before .before .before .before .before .before .before .before .before .before .before .before .pre .1), subst Narrow (sym e) (made-narrow (a .monitored) (now (a .job)) (now (a .tables)) (now (a .work)) ready _ (l .s) (l .trace) (l .at) (l .k) u more _ (c .before .before .before .before .before .before .before .turn-at .ensures) (c .before .before .before .before .before .before .turn .result) (c .before .before .before .before .before .before .turn .ensures) _ (c .before .before .before .outcome .given .1)))
 
 add-k : tie.Need-add-k Inv-loop μ-loop
 add-k c =
@@ -67,7 +67,7 @@ add-k c =
     let ready = c .before .before .before .before .before .before .before .before .before .before .before .before .before .before .before .before .before .before .before .pre .0 in
     let l = c .before .before .before .before .before .before .before .before .before .before .before .before .loop in
     let h : l .k < l .last = omega (arith, c .before .before .before .before .before .before .before .before .before .before .before .loop-test .taken) in
-    omega (arith, h, l .inv ready .all h, c .before .before .before .before .before .before .before .before .before .before .before .before .before .before .count-of .ensures, turns-few (a .monitored) (now (a .job)) (now (a .t)) (now (a .work)) ready)
+    omega (arith, h, l .inv ready .all h, c .before .before .before .before .before .before .before .before .before .before .before .before .before .before .count-of .ensures, turns-few (a .monitored) (now (a .job)) (now (a .tables)) (now (a .work)) ready)
 
 loop-less : tie.Need-loop-less Inv-loop μ-loop
 loop-less c = search needs
@@ -80,9 +80,9 @@ loop-again c =
     let e = c .before .before .before .numbers-of .ensures in
     λ ready.
     let r = l .inv ready in
-    let more : l .k < countIn (now (a .t)) TURN = omega (arith, h, r .all h, c .before .before .before .before .before .before .before .before .before .before .before .before .before .before .count-of .ensures) in
-    reached (a .monitored) (now (a .job)) (now (a .t)) (now (a .work)) ready _ _ _ _ _ _ (l .last) (r .all h) (c .before .before .before .before .before .before .before .before .before .before .before .before .before .before .count-of .ensures) (omega (arith, h, r .all h))
-    (underway-next (a .monitored) (now (a .job)) (now (a .t)) (now (a .work)) ready _ (l .s) (l .trace) (l .at) (l .k) (r .going h) more _ (c .before .before .before .before .before .before .before .before .before .before .turn-at .ensures) (c .before .before .before .before .before .before .before .before .before .turn .result) (c .before .before .before .before .before .before .before .before .before .turn .ensures) _ (c .before .before .before .before .before .before .outcome .given .1) (entryWith (c .before .before .before .numbers-of .result)) e _ _ (c .before .before .before .before .before .before .before .before .before .before .before .before .before .before .before .before .before .before .before .pre .1) (search needs) (c .before .before .put-entry .ensures)) _ (r .never h)
+    let more : l .k < countIn (now (a .tables)) TURN = omega (arith, h, r .all h, c .before .before .before .before .before .before .before .before .before .before .before .before .before .before .count-of .ensures) in
+    reached (a .monitored) (now (a .job)) (now (a .tables)) (now (a .work)) ready _ _ _ _ _ _ (l .last) (r .all h) (c .before .before .before .before .before .before .before .before .before .before .before .before .before .before .count-of .ensures) (omega (arith, h, r .all h))
+    (underway-next (a .monitored) (now (a .job)) (now (a .tables)) (now (a .work)) ready _ (l .s) (l .trace) (l .at) (l .k) (r .going h) more _ (c .before .before .before .before .before .before .before .before .before .before .turn-at .ensures) (c .before .before .before .before .before .before .before .before .before .turn .result) (c .before .before .before .before .before .before .before .before .before .turn .ensures) _ (c .before .before .before .before .before .before .outcome .given .1) (entryWith (c .before .before .before .numbers-of .result)) e _ _ (c .before .before .before .before .before .before .before .before .before .before .before .before .before .before .before .before .before .before .before .pre .1) (search needs) (c .before .before .put-entry .ensures)) _ (r .never h)
 
 loop-less-2 : tie.Need-loop-less-2 Inv-loop μ-loop
 loop-less-2 c = omega (arith, c .before .before .before .before .loop-test .taken)
@@ -94,9 +94,9 @@ loop-again-2 c =
     let h : l .k < l .last = omega (arith, c .before .before .before .before .loop-test .taken) in
     λ ready.
     let r = l .inv ready in
-    let more : l .k < countIn (now (a .t)) TURN = omega (arith, h, r .all h, c .before .before .before .before .before .before .before .count-of .ensures) in
+    let more : l .k < countIn (now (a .tables)) TURN = omega (arith, h, r .all h, c .before .before .before .before .before .before .before .count-of .ensures) in
     halted (a .monitored) _ _ _ _ _ _ _ _ (r .size)
-    (underway-stopped (a .monitored) (now (a .job)) (now (a .t)) (now (a .work)) ready _ (l .s) (l .trace) (l .at) (l .k) (r .going h) more _ (c .before .before .before .turn-at .ensures) (c .before .before .turn .result) (c .before .before .turn .ensures) (c .match .keys2))
+    (underway-stopped (a .monitored) (now (a .job)) (now (a .tables)) (now (a .work)) ready _ (l .s) (l .trace) (l .at) (l .k) (r .going h) more _ (c .before .before .before .turn-at .ensures) (c .before .before .turn .result) (c .before .before .turn .ensures) (c .match .keys2))
 
 ending-of-requires : tie.Need-ending-of-requires Inv-loop μ-loop
 ending-of-requires c κs = search needs

@@ -22,14 +22,14 @@ is-out-of-reach-requires c κs = search needs
 is-repeated-requires : tie.Need-is-repeated-requires
 is-repeated-requires c κs = search needs
 
-first-of-requires : tie.Need-first-of-requires
-first-of-requires c κs = search needs
+first-violation-requires : tie.Need-first-violation-requires
+first-violation-requires c κs = search needs
 
 returns : tie.Need-returns
 returns c =
     λ past s plain.
     rw (
-      c .first-of .ensures,
+      c .first-violation .ensures,
       violation-as _ (c .before .before .before .before .before .before .before .before .args .c) past s _ (c .before .before .before .before .before .before .before .before .pre) (c .before .before .before .before .before .group .ensures),
       c .before .before .before .before .exceeds-count .ensures past s,
       c .before .before .before .is-undeclared .ensures past s,
@@ -47,5 +47,5 @@ violation-of-spec =
     is-undeclared-requires
     is-out-of-reach-requires
     is-repeated-requires
-    first-of-requires
+    first-violation-requires
     returns)

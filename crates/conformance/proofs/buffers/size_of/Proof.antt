@@ -1,4 +1,4 @@
--- `conformance::buffers::size_of` is safe and ends. A part ends at most 1,020 bytes, those of 255 messages, behind the picture.
+-- `conformance::buffers::size_of` is safe and ends. A part ends at most 1,020 bytes, those of 255 messages, behind the snapshot.
 use Prim.Native.Nat.{_+_, _≤_, _-_}
 use lib.ListN.{length}
 use borrow.Author.Needs.{needs}
@@ -6,10 +6,10 @@ use Rattle.conformance.proofs.buffers.size_of.Statement.{statement}
 use Rattle.conformance.proofs.buffers.size_of.Tie as tie
 
 abbrev Inv-loop : tie.InvT-loop
-Inv-loop picture nodes variables place₀ n₀ place n = (place ≤ length picture + 1020) × (n ≤ nodes)
+Inv-loop snapshot nodes variables place₀ n₀ place n = (place ≤ length snapshot + 1020) × (n ≤ nodes)
 
 abbrev μ-loop : tie.MeasureT-loop
-μ-loop picture nodes variables place₀ n₀ place n = nodes - n
+μ-loop snapshot nodes variables place₀ n₀ place n = nodes - n
 
 loop-holds : tie.Need-loop-holds Inv-loop μ-loop
 loop-holds c = search needs

@@ -46,7 +46,7 @@ change-queues-requires c κs =
     let s = z .args .t1 in
     let counts : length (s .waiting) ≡ 32 = search needs in
     let places : length (s .queue) ≡ 512 = search needs in
-    let can = can-change (now (z .args .t)) (now (z .args .work)) s (z .args .n) (z .args .monitored) (z .pre .0) counts places (c .before .before .before .before .plan-turn .result) (c .before .before .before .before .plan-turn .ensures) in
+    let can = can-change (now (z .args .tables)) (now (z .args .work)) s (z .args .n) (z .args .monitored) (z .pre .0) counts places (c .before .before .before .before .plan-turn .result) (c .before .before .before .before .plan-turn .ensures) in
     ((places, counts), (z .pre .0, (z .pre .1, can)))
 
 change-variable-requires : tie.Need-change-variable-requires
@@ -76,7 +76,7 @@ returns c =
     let s = z .args .t1 in
     let counts : length (s .waiting) ≡ 32 = search needs in
     let places : length (s .queue) ≡ 512 = search needs in
-    carried-out (now (z .args .t)) (now (z .args .work)) s (z .args .n) (z .args .monitored) (z .pre .0) counts places (c .before .before .before .before .before .before .before .plan-turn .result) (c .before .before .before .before .before .before .before .plan-turn .ensures) _ _ _ (c .before .before .change-queues .ensures) (c .change-variable .ensures)
+    carried-out (now (z .args .tables)) (now (z .args .work)) s (z .args .n) (z .args .monitored) (z .pre .0) counts places (c .before .before .before .before .before .before .before .plan-turn .result) (c .before .before .before .before .before .before .before .plan-turn .ensures) _ _ _ (c .before .before .change-queues .ensures) (c .change-variable .ensures)
 
 pub turn-spec : {M : Type 1} → statement M
 turn-spec =

@@ -10,10 +10,10 @@ use Rattle.lines.proofs.snapshot.put_messages.Statement.{statement}
 use Rattle.lines.proofs.snapshot.put_messages.Tie as tie
 
 abbrev Inv-loop : tie.InvT-loop
-Inv-loop text₀ at picture place count next₀ i₀ text next i = (i ≤ count) × Put (messageField picture place) text₀ at i text next
+Inv-loop text₀ at snapshot place count next₀ i₀ text next i = (i ≤ count) × Put (messageField snapshot place) text₀ at i text next
 
 abbrev μ-loop : tie.MeasureT-loop
-μ-loop text₀ at picture place count next₀ i₀ text next i = count - i
+μ-loop text₀ at snapshot place count next₀ i₀ text next i = count - i
 
 loop-holds : tie.Need-loop-holds Inv-loop μ-loop
 loop-holds c = (omega arith, none-put _ _ _)

@@ -20,8 +20,8 @@ loop-holds c = queued-none _ _ _ (c .before .pre .0) (c .before .pre .1)
 cast-t8 : tie.Need-cast-t8 Inv-loop μ-loop
 cast-t8 c = search needs
 
-first-of-requires : tie.Need-first-of-requires Inv-loop μ-loop
-first-of-requires c κs = search needs
+first-message-requires : tie.Need-first-message-requires Inv-loop μ-loop
+first-message-requires c κs = search needs
 
 enum-known-first : tie.Need-enum-known-first Inv-loop μ-loop
 enum-known-first c = search needs
@@ -54,8 +54,8 @@ loop-again : tie.Need-loop-again Inv-loop μ-loop
 loop-again c =
     let i = c .before .before .before .loop .inv in
     ⊎-elim
-    (λ w. rw (w .3, w .4) (queued-one i _ (omega arith) (rw (w .1 .given .1) at (c .before .first-of .ensures))))
-    (λ w. rw (w .2, w .3) (queued-empty i (omega arith) (rw (w .1 .given .1) at (c .before .first-of .ensures))))
+    (λ w. rw (w .3, w .4) (queued-one i _ (omega arith) (rw (w .1 .given .1) at (c .before .first-message .ensures))))
+    (λ w. rw (w .2, w .3) (queued-empty i (omega arith) (rw (w .1 .given .1) at (c .before .first-message .ensures))))
     (c .match .came)
 
 returns : tie.Need-returns Inv-loop μ-loop
@@ -69,7 +69,7 @@ fill-queues-spec =
     μ-loop
     loop-holds
     cast-t8
-    first-of-requires
+    first-message-requires
     enum-known-first
     mul-queue
     mul-queue-2

@@ -9,10 +9,10 @@ use Rattle.output.proofs.snapshot.put_snapshot.Statement.{statement}
 use Rattle.output.proofs.snapshot.put_snapshot.Tie as tie
 
 abbrev Inv-loop : tie.InvT-loop
-Inv-loop picture₀ nodes variables s at₀ n₀ picture at n = (n ≤ nodes) × Shown s picture₀ n picture at
+Inv-loop snapshot₀ nodes variables s at₀ n₀ snapshot at n = (n ≤ nodes) × Shown s snapshot₀ n snapshot at
 
 abbrev μ-loop : tie.MeasureT-loop
-μ-loop picture₀ nodes variables s at₀ n₀ picture at n = nodes - n
+μ-loop snapshot₀ nodes variables s at₀ n₀ snapshot at n = nodes - n
 
 loop-holds : tie.Need-loop-holds Inv-loop μ-loop
 loop-holds c = (omega arith, none-shown _ _)
@@ -63,7 +63,7 @@ loop-again c =
     let s = z .args .t2 in
     let counts : length (s .waiting) ≡ 32 = search needs in
     let slots : length (s .queue) ≡ 512 = search needs in
-    (omega (arith, c .before .before .before .before .before .before .before .before .before .before .before .loop-test .taken), one-shown s (z .pre .1 .0) counts slots _ (l .n) (l .picture) (l .at) _ _ (omega (arith, c .before .before .before .before .before .before .before .before .before .before .before .loop-test .taken, h .1)) (omega (arith, c .before .before .before .before .before .before .before .before .before .before .before .loop-test .taken, h .0, h .1)) (search needs) (l .inv .1) (c .before .before .put-node .ensures))
+    (omega (arith, c .before .before .before .before .before .before .before .before .before .before .before .loop-test .taken), one-shown s (z .pre .1 .0) counts slots _ (l .n) (l .snapshot) (l .at) _ _ (omega (arith, c .before .before .before .before .before .before .before .before .before .before .before .loop-test .taken, h .1)) (omega (arith, c .before .before .before .before .before .before .before .before .before .before .before .loop-test .taken, h .0, h .1)) (search needs) (l .inv .1) (c .before .before .put-node .ensures))
 
 put-words-requires : tie.Need-put-words-requires Inv-loop μ-loop
 put-words-requires c κs =
@@ -81,7 +81,7 @@ returns c =
     let l = c .before .before .before .before .before .before .before .before .loop in
     let e : l .n ≡ z .args .nodes = omega (arith, l .inv .0, c .before .before .before .before .before .before .before .loop-test .left) in
     let variables : length (z .args .t2 .variable) ≡ 64 = search needs in
-    all-shown (z .args .t2) _ (z .args .nodes) (z .args .variables) (l .picture) (l .at) _ _ (omega (arith, z .pre .0 .2, variables)) (omega (arith, l .inv .1 .place, l .inv .0, z .pre .0 .0, z .pre .0 .1, z .pre .0 .2)) (rw e at (l .inv .1 .writes)) (c .before .before .put-words .ensures)
+    all-shown (z .args .t2) _ (z .args .nodes) (z .args .variables) (l .snapshot) (l .at) _ _ (omega (arith, z .pre .0 .2, variables)) (omega (arith, l .inv .1 .place, l .inv .0, z .pre .0 .0, z .pre .0 .1, z .pre .0 .2)) (rw e at (l .inv .1 .writes)) (c .before .before .put-words .ensures)
 
 pub put-snapshot-spec : {M : Type 1} → statement M
 put-snapshot-spec =

@@ -2,7 +2,7 @@
 use native.Mathlib.Omega.{arith}
 use borrow.Author.Needs.{needs}
 use Rattle.writing.proofs.Placing.{writes-on}
-use Rattle.output.specs.Output.{entryWith}
+use Rattle.output.specs.Written.{entryWith}
 use Rattle.output.proofs.Entries.{entry-bytes}
 use Rattle.output.proofs.trace.put_entry.Statement.{statement}
 use Rattle.output.proofs.trace.put_entry.Tie as tie

@@ -19,11 +19,11 @@ abbrev μ-loop : tie.MeasureT-loop
 loop-holds : tie.Need-loop-holds Inv-loop μ-loop
 loop-holds c = (omega arith, c .pre, λ k h. absurd (omega arith))
 
-mul-t : tie.Need-mul-t Inv-loop μ-loop
-mul-t c = search needs
+mul-tables : tie.Need-mul-tables Inv-loop μ-loop
+mul-tables c = search needs
 
-slice-write-t : tie.Need-slice-write-t Inv-loop μ-loop
-slice-write-t c = search needs
+slice-write-tables : tie.Need-slice-write-tables Inv-loop μ-loop
+slice-write-tables c = search needs
 
 add-i : tie.Need-add-i Inv-loop μ-loop
 add-i c = search needs
@@ -36,9 +36,9 @@ loop-again c =
     let l = c .before .loop in
     let z = l .inv .2 in
     let m = c .loop-test .taken in (
-      omega (arith, length-set (l .t) (l .i) 0),
-      length-set (l .t) (l .i) 0 ∙ l .inv .1,
-      below-more (λ k. getD (set (l .t) (l .i) 0) k 0 ≡ 0) (l .i) (λ k h. getD-set-other (l .t) (l .i) k 0 0 (λ e. omega arith) ∙ z k h) (getD-set-same (l .t) (l .i) 0 0 m),
+      omega (arith, length-set (l .tables) (l .i) 0),
+      length-set (l .tables) (l .i) 0 ∙ l .inv .1,
+      below-more (λ k. getD (set (l .tables) (l .i) 0) k 0 ≡ 0) (l .i) (λ k h. getD-set-other (l .tables) (l .i) k 0 0 (λ e. omega arith) ∙ z k h) (getD-set-same (l .tables) (l .i) 0 0 m),
     )
 
 same-length : tie.Need-same-length Inv-loop μ-loop
@@ -54,8 +54,8 @@ clear-spec =
     Inv-loop
     μ-loop
     loop-holds
-    mul-t
-    slice-write-t
+    mul-tables
+    slice-write-tables
     add-i
     loop-less
     loop-again

@@ -8,11 +8,11 @@ use Rattle.tables.proofs.cells.put.Tie as tie
 add-at : tie.Need-add-at
 add-at c = search needs
 
-mul-t : tie.Need-mul-t
-mul-t c = search needs
+mul-tables : tie.Need-mul-tables
+mul-tables c = search needs
 
-slice-write-t : tie.Need-slice-write-t
-slice-write-t c = search needs
+slice-write-tables : tie.Need-slice-write-tables
+slice-write-tables c = search needs
 
 same-length : tie.Need-same-length
 same-length c = search needs
@@ -32,4 +32,4 @@ returns-4 c = rw (c .if1 .left) (sym (put-off _ _ _ _))
 pub put-spec : {M : Type 1} → statement M
 put-spec =
     tie.close
-    (tie.spec add-at mul-t slice-write-t same-length returns returns-2 returns-3 returns-4)
+    (tie.spec add-at mul-tables slice-write-tables same-length returns returns-2 returns-3 returns-4)

@@ -1,10 +1,10 @@
--- `beside::run_both` meets its contract.
+-- `transparency::run_both` meets its contract.
 use denote.Ref.{now}
 use borrow.Author.Needs.{needs}
 use Rattle.delivery.specs.Answers.{buffers, call}
-use Rattle.beside.proofs.Claims.{compares}
-use Rattle.beside.proofs.run_both.Statement.{statement}
-use Rattle.beside.proofs.run_both.Tie as tie
+use Rattle.transparency.proofs.Claims.{compares}
+use Rattle.transparency.proofs.run_both.Statement.{statement}
+use Rattle.transparency.proofs.run_both.Tie as tie
 
 run-monitored-requires : tie.Need-run-monitored-requires
 run-monitored-requires c κs = search needs
@@ -33,7 +33,7 @@ same-length-6 c = search needs
 returns : tie.Need-returns
 returns c =
     let a = c .before .before .before .before .before .before .before .before .before .before .before .before .before .before .before .before .before .before .before .before .before .before .before .before .before .before .before .args in
-    compares (now (a .job)) (call (buffers (now (a .trace)) (now (a .picture)) (now (a .work))) (buffers _ _ _) _) (call (buffers (now (a .unmonitored-trace)) (now (a .unmonitored-picture)) (now (a .unmonitored-work))) (buffers _ _ _) _) (c .before .before .before .before .before .before .before .before .before .before .before .before .before .before .before .before .run-monitored .ensures) (c .before .before .before .before .before .before .run-unmonitored .ensures)
+    compares (now (a .job)) (call (buffers (now (a .trace)) (now (a .snapshot)) (now (a .work))) (buffers _ _ _) _) (call (buffers (now (a .unmonitored-trace)) (now (a .unmonitored-snapshot)) (now (a .unmonitored-work))) (buffers _ _ _) _) (c .before .before .before .before .before .before .before .before .before .before .before .before .before .before .before .before .run-monitored .ensures) (c .before .before .before .before .before .before .run-unmonitored .ensures)
 
 pub run-both-spec : {M : Type 1} → statement M
 run-both-spec =

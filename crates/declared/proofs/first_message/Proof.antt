@@ -1,8 +1,8 @@
--- `declared::first_of` meets its contract.
+-- `declared::first_message` meets its contract.
 use mathlib.Core.Path.{sym, _∙_}
 use borrow.Author.Needs.{needs}
-use Rattle.declared.proofs.first_of.Statement.{statement}
-use Rattle.declared.proofs.first_of.Tie as tie
+use Rattle.declared.proofs.first_message.Statement.{statement}
+use Rattle.declared.proofs.first_message.Tie as tie
 
 cast-i : tie.Need-cast-i
 cast-i c = search needs
@@ -19,5 +19,5 @@ returns c = rw (sym (c .before .before .flagged .ensures) ∙ c .before .if1 .ta
 returns-2 : tie.Need-returns-2
 returns-2 c = rw (sym (c .before .flagged .ensures) ∙ c .if1 .left)
 
-pub first-of-spec : {M : Type 1} → statement M
-first-of-spec = tie.close (tie.spec cast-i flagged-requires entry-requires returns returns-2)
+pub first-message-spec : {M : Type 1} → statement M
+first-message-spec = tie.close (tie.spec cast-i flagged-requires entry-requires returns returns-2)

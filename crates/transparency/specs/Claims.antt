@@ -1,4 +1,4 @@
--- Demand 3 of the code: the monitored ("watched") and the unmonitored ("bare") call of a job beside each other ("Watched beside bare").
+-- Demand 3 of the code: the monitored ("watched") and the unmonitored ("bare") call of a job compared ("Watched beside bare").
 use Prim.Native.Nat.{ℕ}
 use mathlib.Core.Path.{_≡_}
 use mathlib.Core.List.{List}
@@ -14,7 +14,7 @@ use Rattle.delivery.specs.Answers.{Told, answer, Call, call, Gives, Monitored, 
 use Rattle.run.specs.Exported.{numbersIn, Exports}
 
 -- both calls of a job with these commands; `unmonitoredOf past` is the run that the turn rules make, permissions ignored
-pub record BothRun (past : List Command) (m u : Call) : Type 0 where
+pub record CallsRun (past : List Command) (m u : Call) : Type 0 where
   -- the unmonitored call hands that run over
   pub unmonitoredRuns : Gives (report (programOf past) (unmonitoredOf past)) u
   -- that run has a first forbidden turn, or it has none
@@ -27,28 +27,28 @@ pub record BothRun (past : List Command) (m u : Call) : Type 0 where
   pub parts : (n : ℕ) → FirstForbidden (programOf past) (unmonitoredOf past) n ↔ ((e : Entry) × (m .told ≡ answer (record { stop = 1; turns = n; attempted = e })))
 
 -- the two calls of a job, each with buffers of its own, whatever they held before
-pub record Beside (job : List ℕ) (m u : Call) : Type 0 where
+pub record Transparent (job : List ℕ) (m u : Call) : Type 0 where
   -- each refuses the job exactly for the first test that it fails, and then leaves its buffers as they were
   pub monitoredRefuses : (r : Refusal) → Gives (refused r) m ↔ Refuses job (sizesOf (m .before)) r
   pub unmonitoredRefuses : (r : Refusal) → Gives (refused r) u ↔ Refuses job (sizesOf (u .before)) r
   -- with equal buffer lengths both refuse alike, by number and place
   pub refuseAlike : sizesOf (m .before) ≡ sizesOf (u .before) → (r : Refusal) → Gives (refused r) m ↔ Gives (refused r) u
   -- if the job is accepted with the buffers of both, both run
-  pub bothRun : (past : List Command) → Accepts job (sizesOf (m .before)) past → Accepts job (sizesOf (u .before)) past → BothRun past m u
+  pub bothRun : (past : List Command) → Accepts job (sizesOf (m .before)) past → Accepts job (sizesOf (u .before)) past → CallsRun past m u
 
 -- demand 3 of the code: every job, and any two calls as the two entry points promise them
-abbrev pub BesideHolds : Type 0
-BesideHolds = (job : List ℕ) (m u : Call) → Monitored job m → Unmonitored job u → Beside job m u
+abbrev pub TransparencyHolds : Type 0
+TransparencyHolds = (job : List ℕ) (m u : Call) → Monitored job m → Unmonitored job u → Transparent job m u
 
--- the same of the exported entry points: the eight numbers are those of two calls that stand beside each other so
-abbrev pub ExportsBeside : Type 0
-ExportsBeside =
+-- the same of the exported entry points: the eight numbers are those of two calls that compare so
+abbrev pub ExportsTransparent : Type 0
+ExportsTransparent =
     (job : List ℕ) (before after before′ after′ : Buffers) (numbers numbers′ : List ℕ)
     → Exports (monitored job (sizesOf before)) before after numbers → Exports (unmonitored job (sizesOf before′)) before′ after′ numbers′
-    → (m : Told) × (u : Told) × (numbers ≡ numbersIn m) × (numbers′ ≡ numbersIn u) × Beside job (call before after m) (call before′ after′ u)
+    → (m : Told) × (u : Told) × (numbers ≡ numbersIn m) × (numbers′ ≡ numbersIn u) × Transparent job (call before after m) (call before′ after′ u)
 
--- what a function promises that makes both calls; the third follows from the first two by `BesideHolds`
+-- what a function promises that makes both calls; the third follows from the first two by `TransparencyHolds`
 pub record Compares (job : List ℕ) (m u : Call) : Type 0 where
   pub monitors : Monitored job m
   pub runs : Unmonitored job u
-  pub beside : Beside job m u
+  pub transparency : Transparent job m u

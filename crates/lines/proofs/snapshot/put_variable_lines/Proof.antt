@@ -1,4 +1,4 @@
--- `lines::snapshot::put_variables` meets its contract.
+-- `lines::snapshot::put_variable_lines` meets its contract.
 use Prim.Native.Nat.{_-_, _≤_}
 use mathlib.Core.Path.{refl}
 use mathlib.Core.Logic.{inl}
@@ -7,14 +7,14 @@ use borrow.Author.Needs.{needs}
 use Rattle.text.proofs.Putting.{Put, none-put, room, one-put, all-put}
 use Rattle.lines.specs.Lines.{variableLine}
 use Rattle.lines.proofs.Texts.{variable-same}
-use Rattle.lines.proofs.snapshot.put_variables.Statement.{statement}
-use Rattle.lines.proofs.snapshot.put_variables.Tie as tie
+use Rattle.lines.proofs.snapshot.put_variable_lines.Statement.{statement}
+use Rattle.lines.proofs.snapshot.put_variable_lines.Tie as tie
 
 abbrev Inv-loop : tie.InvT-loop
-Inv-loop text₀ at picture place variables next₀ x₀ t10 text next x = (x ≤ variables) × Put (variableLine picture place) text₀ at x text next
+Inv-loop text₀ at snapshot place variables next₀ x₀ t10 text next x = (x ≤ variables) × Put (variableLine snapshot place) text₀ at x text next
 
 abbrev μ-loop : tie.MeasureT-loop
-μ-loop text₀ at picture place variables next₀ x₀ t10 text next x = variables - x
+μ-loop text₀ at snapshot place variables next₀ x₀ t10 text next x = variables - x
 
 loop-holds : tie.Need-loop-holds Inv-loop μ-loop
 loop-holds c = (omega arith, none-put _ _ _)
@@ -61,8 +61,8 @@ returns c =
     let l = c .before .loop in
     all-put _ _ _ _ (l .x) _ _ (l .inv .0) (c .loop-test .left) (l .inv .1)
 
-pub put-variables-spec : {M : Type 1} → statement M
-put-variables-spec =
+pub put-variable-lines-spec : {M : Type 1} → statement M
+put-variable-lines-spec =
     tie.close
     (tie.spec
     Inv-loop

@@ -1,11 +1,11 @@
--- `lines::trace::put_entries` meets its contract.
+-- `lines::trace::put_entry_lines` meets its contract.
 use Prim.Native.Nat.{_-_, _≤_}
 use native.Mathlib.Omega.{arith}
 use borrow.Author.Needs.{needs}
 use Rattle.text.proofs.Putting.{Put, none-put, room, one-put, all-put}
 use Rattle.lines.specs.Lines.{entryLine}
-use Rattle.lines.proofs.trace.put_entries.Statement.{statement}
-use Rattle.lines.proofs.trace.put_entries.Tie as tie
+use Rattle.lines.proofs.trace.put_entry_lines.Statement.{statement}
+use Rattle.lines.proofs.trace.put_entry_lines.Tie as tie
 
 abbrev Inv-loop : tie.InvT-loop
 Inv-loop text₀ at trace turns next₀ k₀ text next k = (k ≤ turns) × Put (entryLine trace) text₀ at k text next
@@ -16,8 +16,8 @@ abbrev μ-loop : tie.MeasureT-loop
 loop-holds : tie.Need-loop-holds Inv-loop μ-loop
 loop-holds c = (omega arith, none-put _ _ _)
 
-put-entry-requires : tie.Need-put-entry-requires Inv-loop μ-loop
-put-entry-requires c κs =
+put-entry-line-requires : tie.Need-put-entry-line-requires Inv-loop μ-loop
+put-entry-line-requires c κs =
     let l = c .before .before .loop in
     (omega (arith, c .before .before .before .before .before .pre .0, c .before .loop-test .taken), room _ _ _ _ (c .before .before .before .before .before .pre .1) (l .k) (c .before .loop-test .taken) _ _ (l .inv .1))
 
@@ -30,7 +30,7 @@ loop-less c = search needs
 loop-again : tie.Need-loop-again Inv-loop μ-loop
 loop-again c =
     let l = c .before .before .before .before .before .loop in
-    (search needs, one-put _ _ _ _ (c .before .before .before .before .before .before .before .before .pre .1) (l .k) (c .before .before .before .before .loop-test .taken) _ _ (l .inv .1) _ _ (c .before .before .put-entry .ensures))
+    (search needs, one-put _ _ _ _ (c .before .before .before .before .before .before .before .before .pre .1) (l .k) (c .before .before .before .before .loop-test .taken) _ _ (l .inv .1) _ _ (c .before .before .put-entry-line .ensures))
 
 same-length : tie.Need-same-length Inv-loop μ-loop
 same-length c = search needs
@@ -40,14 +40,14 @@ returns c =
     let l = c .before .loop in
     all-put _ _ _ _ (l .k) _ _ (l .inv .0) (c .loop-test .left) (l .inv .1)
 
-pub put-entries-spec : {M : Type 1} → statement M
-put-entries-spec =
+pub put-entry-lines-spec : {M : Type 1} → statement M
+put-entry-lines-spec =
     tie.close
     (tie.spec
     Inv-loop
     μ-loop
     loop-holds
-    put-entry-requires
+    put-entry-line-requires
     add-k
     loop-less
     loop-again

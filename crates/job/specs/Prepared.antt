@@ -11,7 +11,7 @@ use Rattle.model.specs.State.{tabulate}
 use Rattle.model.specs.Turn.{instructionAt}
 use Rattle.model.specs.Refusal.{accepted, decodeJob, workSize}
 use Rattle.model.specs.Valid.{Bytes}
-use Rattle.tables.specs.Tables.{countIn, flowIn, scopeIn, ownerIn, startIn, answerIn, wiredIn, callIn, readIn, writeIn, lengthIn, firstsIn}
+use Rattle.tables.specs.Tables.{countIn, flowIn, scopeIn, ownerIn, startIn, funAnswerIn, wiredIn, callIn, readIn, writeIn, lengthIn, firstsIn}
 use Rattle.tables.specs.Stands.{Stands}
 use Rattle.handlers.specs.Loading.{fetchedIn, loaded}
 
@@ -27,7 +27,7 @@ programIn t w =
       scope = scopeIn t;
       owner = ownerIn t;
       startValue = startIn t;
-      answer = λ f argument. answerIn t f;
+      answer = λ f argument. funAnswerIn t f;
       wired = wiredIn t;
       mayCall = callIn t;
       mayRead = readIn t;

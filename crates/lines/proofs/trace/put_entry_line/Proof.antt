@@ -1,4 +1,4 @@
--- `lines::trace::put_entry` meets its contract.
+-- `lines::trace::put_entry_line` meets its contract.
 use mathlib.Core.Path.{refl}
 use mathlib.Core.List.{[], _∷_}
 use mathlib.Core.Logic.{inl, inr}
@@ -7,8 +7,8 @@ use borrow.Author.Needs.{needs}
 use Rattle.text.specs.Text.{decimal}
 use Rattle.text.proofs.Lining.{first-room, numbers-room, feed-room, line-put}
 use Rattle.lines.proofs.Texts.{entry-same}
-use Rattle.lines.proofs.trace.put_entry.Statement.{statement}
-use Rattle.lines.proofs.trace.put_entry.Tie as tie
+use Rattle.lines.proofs.trace.put_entry_line.Statement.{statement}
+use Rattle.lines.proofs.trace.put_entry_line.Tie as tie
 
 mul-place : tie.Need-mul-place
 mul-place c = search needs
@@ -76,8 +76,8 @@ returns c =
     let same = entry-same (now (z .trace)) (z .k) _ _ _ _ (c .before .before .before .before .before .before .before .before .before .before .before .before .before .before .before .before .operand .ensures) (c .before .before .before .before .before .before .before .before .before .before .before .before .before .before .before .operand2 .ensures) (c .before .before .before .before .before .before .before .before .before .before .before .before .before .before .operand3 .ensures) (c .before .before .before .before .before .before .before .before .before .before .before .before .before .operand4 .ensures) in
     rw same (line-put (decimal (c .before .before .before .before .before .before .before .before .before .before .before .before .before .before .before .before .operand .result)) (c .before .before .before .before .before .before .before .before .before .before .before .before .before .before .before .operand2 .result ∷ c .before .before .before .before .before .before .before .before .before .before .before .before .before .before .operand3 .result ∷ c .before .before .before .before .before .before .before .before .before .before .before .before .before .operand4 .result ∷ []) (now (z .text)) (z .at) (rw same at (c .before .before .before .before .before .before .before .before .before .before .before .before .before .before .before .before .before .before .before .pre .1)) _ _ (c .before .before .before .before .before .before .before .before .before .before .before .put-decimal .ensures) _ _ (c .before .before .before .before .before .before .put-fields .ensures) _ _ (c .before .before .put-byte .ensures))
 
-pub put-entry-spec : {M : Type 1} → statement M
-put-entry-spec =
+pub put-entry-line-spec : {M : Type 1} → statement M
+put-entry-line-spec =
     tie.close
     (tie.spec
     mul-place

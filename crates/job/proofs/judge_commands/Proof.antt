@@ -1,8 +1,8 @@
--- `job::judge` meets its contract.
+-- `job::judge_commands` meets its contract.
 use borrow.Author.Needs.{needs}
 use Rattle.job.proofs.Judged.{is-accepted, is-refused, walk-refuses, jumps-decide}
-use Rattle.job.proofs.judge.Statement.{statement}
-use Rattle.job.proofs.judge.Tie as tie
+use Rattle.job.proofs.judge_commands.Statement.{statement}
+use Rattle.job.proofs.judge_commands.Tie as tie
 
 walk-requires : tie.Need-walk-requires
 walk-requires c κs = search needs
@@ -28,8 +28,8 @@ same-length-2 c = search needs
 returns-2 : tie.Need-returns-2
 returns-2 c = jumps-decide _ _ (c .check-jumps .result) (is-accepted _ _ _ (c .before .before .before .before .before .before .walk .ensures) (c .before .before .enum-told .given .1)) (c .check-jumps .ensures)
 
-pub judge-spec : {M : Type 1} → statement M
-judge-spec =
+pub judge-commands-spec : {M : Type 1} → statement M
+judge-commands-spec =
     tie.close
     (tie.spec
     walk-requires

@@ -15,7 +15,7 @@ use Rattle.model.specs.Conclusion.{unmonitoredOf}
 use Rattle.model.specs.Transparency.{AllPermitted, FirstForbidden, stoppedAt}
 use Rattle.model.proofs.Conclusion.{demand1}
 use Rattle.model.proofs.Transparency.{demand3}
-use Rattle.beside.specs.Claims.{BesideHolds, ExportsBeside, Compares}
+use Rattle.transparency.specs.Claims.{TransparencyHolds, ExportsTransparent, Compares}
 
 -- only a refused job tells a refusal
 told-refused : (result : Result) (r : Refusal) → toldIn result ≡ refusal r → result ≡ refused r
@@ -54,8 +54,8 @@ module _ (past : List Command) (m : Call) where
   parted (inl (k, first)) identical stops never n (e, told) = subst (FirstForbidden P u) (ap turnsIn (sym (stops k first .told) ∙ told)) first
   parted (inr all) identical stops never n (e, told) = absurd (never (ap stopIn (sym (identical all .told) ∙ told)))
 
-pub beside : BesideHolds
-beside job m u gm gu =
+pub transparency : TransparencyHolds
+transparency job m u gm gu =
     let both = demand3 job (m .before) (u .before) in
     let one = demand1 job (m .before) .concluded in
     let other = demand1 job (u .before) .concluded in
@@ -78,12 +78,12 @@ beside job m u gm gu =
           };
     }
 
-pub exports-beside : ExportsBeside
-exports-beside job before after before′ after′ numbers numbers′ em eu =
+pub exports-transparency : ExportsTransparent
+exports-transparency job before after before′ after′ numbers numbers′ em eu =
     let m = toldIn (monitored job (sizesOf before)) in
     let u = toldIn (unmonitored job (sizesOf before′)) in
-    (m, u, em .told, eu .told, beside job (call before after m) (call before′ after′ u) (record { told = refl; left = em .left }) (record { told = refl; left = eu .left }))
+    (m, u, em .told, eu .told, transparency job (call before after m) (call before′ after′ u) (record { told = refl; left = em .left }) (record { told = refl; left = eu .left }))
 
 -- both calls made
 pub compares : (job : List ℕ) (m u : Call) → Monitored job m → Unmonitored job u → Compares job m u
-compares job m u gm gu = record { monitors = gm; runs = gu; beside = beside job m u gm gu }
+compares job m u gm gu = record { monitors = gm; runs = gu; transparency = transparency job m u gm gu }
