@@ -1,6 +1,6 @@
-// What the tables say of wires and permissions, each under its own kind of number.
+// What the tables say of permissions, each under its own kind of number.
 ghost use mathlib.Core.Path.{_≡_};
-ghost use Rattle.tables.specs.Tables.{countIn, wiredIn, readIn, writeIn, anyIn, callIn, listedIn};
+ghost use Rattle.tables.specs.Tables.{countIn, readIn, writeIn, anyIn, callIn, listedIn};
 use command::bytes;
 use command::numbers::FunNum;
 use command::numbers::NodeNum;
@@ -9,15 +9,6 @@ use declared::count_of;
 use tables::cells;
 use tables::cells::entry;
 use tables::cells::marked;
-
-// Whether a port is wired to a target.
-pub fn is_wired(tables: &[u32], n: NodeNum, port: u32, target: NodeNum) -> bool
-    ensures { λ r. ⌜ r ≡ wiredIn (now (tables .entry)) (n .0) port (target .0) ⌝ }
-{
-    let row = (n.0 as usize) * 4 + (port as usize);
-    let wire = marked(tables, cells::WIRES, row, target.0 as usize);
-    (port < 4) & wire
-}
 
 // Whether a node may read a variable.
 pub fn may_read(tables: &[u32], n: NodeNum, x: VarNum) -> bool

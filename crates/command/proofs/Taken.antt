@@ -12,7 +12,7 @@ use Rattle.command.specs.declared.table.Row.{Row as Shape}
 use Rattle.command.specs.declared.table.Lookup.{Lookup}
 use Rattle.command.specs.declared.table.Lookup.the-variants.{Found, Missing}
 use Rattle.command.specs.declared.read.Command.{Command as Code}
-use Rattle.command.specs.declared.read.Refusal.{Refusal}
+use Rattle.command.specs.declared.refusal.Refusal.{Refusal}
 use Rattle.command.specs.declared.read.Parsed.{Parsed}
 use Rattle.command.specs.declared.read.Parsed.the-variants.{Whole, Refused}
 use Rattle.command.specs.Rows.{rowAt, Says, RowOf, Finds}

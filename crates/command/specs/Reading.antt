@@ -8,7 +8,7 @@ use Rattle.model.specs.Table.{groupOf}
 use Rattle.model.specs.Command.{Command as Past, Parsed as ParsedAs, whole, unknown, cutShort, ternary, readCommand}
 use Rattle.model.specs.Refusal.{Refusal as RefusedFor, refuse}
 use Rattle.command.specs.declared.read.Command.{Command}
-use Rattle.command.specs.declared.read.Refusal.{Refusal}
+use Rattle.command.specs.declared.refusal.Refusal.{Refusal}
 use Rattle.command.specs.declared.read.Parsed.{Parsed}
 use Rattle.command.specs.declared.read.Parsed.the-variants.{Whole, Refused}
 use Rattle.command.specs.Rows.{RowOf}

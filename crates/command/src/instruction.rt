@@ -19,6 +19,12 @@ pub enum Instruction {
     Skip,
 }
 
+// What stands at a position of a handler: a command, or its end.
+pub enum Fetched {
+    Command(Instruction),
+    End,
+}
+
 // The handler command with this byte and operand; SKIP for a byte that is none.
 pub fn instruction_of(byte: u8, x: u32) -> Instruction
     ensures { λ r. ⌜ instructionOf r ≡ recognised byte x ⌝ }

@@ -4,4 +4,5 @@ pub mod bytes;
 pub mod instruction;
 pub mod numbers;
 pub mod read;
+pub mod refusal;
 pub mod table;

@@ -9,15 +9,10 @@ ghost use Rattle.model.specs.Command.{numberAt};
 ghost use Rattle.command.specs.Reading.{ParsesAs, IsWidth};
 use crate::bytes;
 use crate::numbers::NodeNum;
+use crate::refusal::Refusal;
 use crate::table::Lookup;
 use crate::table::look_up;
 use crate::table::row_at;
-
-// Why a job is turned away: the number of the refusal and its place.
-pub struct Refusal {
-    pub number: u8,
-    pub place: usize,
-}
 
 // A command that was read: its place in the job, its row of the table, its byte and group, and its operands, 0 where it has none.
 pub struct Command {

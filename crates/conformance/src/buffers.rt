@@ -2,8 +2,8 @@
 use crate::input::wide;
 use command::bytes;
 use declared::count_of;
-use delivery::answer::Answer;
 use job::decode;
+use run::answer::Answer;
 use std::num::wrapping_add_u8;
 use tables::cells::CELLS;
 ghost use Prim.Native.Nat.{_≤_};

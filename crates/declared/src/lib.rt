@@ -1,7 +1,7 @@
 // What the tables say of flows, nodes, variables and functions, each under its own kind of number.
 ghost use mathlib.Core.Path.{_≡_};
 ghost use Rattle.model.specs.Declared.{isSeen};
-ghost use Rattle.tables.specs.Tables.{countIn, groupIn, openIn, flowIn, startIn, funAnswerIn, sharedIn, seesIn, lengthIn, bodyIn, startedAt, firstsIn};
+ghost use Rattle.tables.specs.Tables.{countIn, groupIn, openIn, flowIn, startIn, funAnswerIn, sharedIn, seesIn, lengthIn, bodyIn, startedAt, firstsIn, wiredIn};
 ghost use Rattle.declared.specs.Asked.{messagesOf};
 use command::numbers::FlowNum;
 use command::numbers::FunNum;
@@ -10,6 +10,7 @@ use command::numbers::VarNum;
 use tables::cells;
 use tables::cells::entry;
 use tables::cells::flagged;
+use tables::cells::marked;
 
 // How many commands have this byte.
 pub fn count_of(tables: &[u32], byte: u8) -> u32
@@ -119,4 +120,13 @@ pub fn first_message(tables: &[u32], n: NodeNum) -> First
         return First::Message(entry(tables, cells::MESSAGE, i));
     }
     First::Nothing
+}
+
+// Whether a port is wired to a target.
+pub fn is_wired(tables: &[u32], n: NodeNum, port: u32, target: NodeNum) -> bool
+    ensures { λ r. ⌜ r ≡ wiredIn (now (tables .entry)) (n .0) port (target .0) ⌝ }
+{
+    let row = (n.0 as usize) * 4 + (port as usize);
+    let wire = marked(tables, cells::WIRES, row, target.0 as usize);
+    (port < 4) & wire
 }

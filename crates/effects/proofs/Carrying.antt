@@ -12,12 +12,13 @@ use Rattle.command.specs.declared.numbers.VarNum.{VarNum}
 use Rattle.command.specs.declared.instruction.Instruction.{Instruction}
 use Rattle.command.specs.declared.instruction.Instruction.the-variants as i
 use Rattle.command.specs.Instructions.{instructionOf}
-use Rattle.job.specs.Prepared.{programIn}
-use Rattle.effects.specs.declared.Registers.{Registers}
-use Rattle.effects.specs.declared.Change.{Change}
-use Rattle.effects.specs.declared.Change.the-variants as c
+use Rattle.tables.specs.Programs.{Handlers, programIn}
+use Rattle.memory.specs.declared.Registers.{Registers}
+use Rattle.memory.specs.declared.Change.{Change}
+use Rattle.memory.specs.declared.Change.the-variants as c
 use Rattle.effects.specs.declared.Effect.{Effect}
-use Rattle.effects.specs.Effects.{registers, effect, registersAt, queuesAfter, variablesAfter, carried, Possible, Shows, Does, Performs}
+use Rattle.effects.specs.Effects.{effect, Shows, Does, Performs}
+use Rattle.memory.specs.Changes.{registers, registersAt, queuesAfter, variablesAfter, carried, Possible}
 
 -- the state with a new position of node n and behind its change
 abbrev pub behind : Program → State → ℕ → ℕ → Change → State
@@ -46,70 +47,70 @@ module _ (P : Program) (s : State) (n : ℕ) where
 
 -- what a command does, by the effect that it has in a state with these numbers
 module _ (t : List ℕ) (l : Registers) (xs : List ℕ) (k : Instruction) (r : Effect) where
-  by-effect : (x : Effect) → r ≡ x → ((w : List ℕ) (s : State) (n : ℕ) → Shows s n l xs → Does (programIn t w) s n (instructionOf k) x) → Performs t k l xs r
+  by-effect : (x : Effect) → r ≡ x → ((hs : Handlers) (s : State) (n : ℕ) → Shows s n l xs → Does (programIn t hs) s n (instructionOf k) x) → Performs t k l xs r
   unfolding Performs
-  by-effect x e does w s n h = subst (Does (programIn t w) s n (instructionOf k)) (sym e) (does w s n h)
+  by-effect x e does hs s n h = subst (Does (programIn t hs) s n (instructionOf k)) (sym e) (does hs s n h)
 
   -- a command that sets the accumulator
   pub sets : (a : ℕ) → r ≡ effect (l .position + 1) a (l .message) c.Nothing
-      → ((w : List ℕ) (s : State) (n : ℕ) → Shows s n l xs → performed (programIn t w) s n (instructionOf k) ≡ advanced (withAccumulator s n a) n) → Performs t k l xs r
+      → ((hs : Handlers) (s : State) (n : ℕ) → Shows s n l xs → performed (programIn t hs) s n (instructionOf k) ≡ advanced (withAccumulator s n a) n) → Performs t k l xs r
   sets a e same =
       by-effect (effect (l .position + 1) a (l .message) c.Nothing) e
-      (λ w s n h.
-      let P = programIn t w in
+      (λ hs s n h.
+      let P = programIn t hs in
       record {
-        state = subst (λ (o : Registers). carried P s n (registers (o .position + 1) a (o .message)) c.Nothing ≡ advanced (withAccumulator s n a) n) (h .own) (takes P s n (positionAt s n + 1) a) ∙ sym (same w s n h);
+        state = subst (λ (o : Registers). carried P s n (registers (o .position + 1) a (o .message)) c.Nothing ≡ advanced (withAccumulator s n a) n) (h .own) (takes P s n (positionAt s n + 1) a) ∙ sym (same hs s n h);
         possible = λ _. tt;
       })
 
   -- a command that goes on at a position, with the same accumulator
   leads : (p : ℕ) (x : Change) → r ≡ effect p (l .accumulator) (l .message) x
-      → ((w : List ℕ) (s : State) (n : ℕ) → Shows s n l xs
-      → performed (programIn t w) s n (instructionOf k)
-      ≡ behind (programIn t w) s n p x)
-      → ((w : List ℕ) (s : State) (n : ℕ) → blocked (programIn t w) s n (instructionOf k) ≡ false → Possible (programIn t w .wired n) n (waitingAt s) x)
+      → ((hs : Handlers) (s : State) (n : ℕ) → Shows s n l xs
+      → performed (programIn t hs) s n (instructionOf k)
+      ≡ behind (programIn t hs) s n p x)
+      → ((hs : Handlers) (s : State) (n : ℕ) → blocked (programIn t hs) s n (instructionOf k) ≡ false → Possible (programIn t hs .wired n) n (waitingAt s) x)
       → Performs t k l xs r
   leads p x e same can =
       by-effect (effect p (l .accumulator) (l .message) x) e
-      (λ w s n h.
-      let P = programIn t w in
+      (λ hs s n h.
+      let P = programIn t hs in
       record {
-        state = ap (λ (o : Registers). carried P s n (registers p (o .accumulator) (o .message)) x) (sym (h .own)) ∙ goes P s n p x ∙ sym (same w s n h);
-        possible = can w s n;
+        state = ap (λ (o : Registers). carried P s n (registers p (o .accumulator) (o .message)) x) (sym (h .own)) ∙ goes P s n p x ∙ sym (same hs s n h);
+        possible = can hs s n;
       })
 
   -- a jump
   pub jumps : (p : ℕ) → r ≡ effect p (l .accumulator) (l .message) c.Nothing
-      → ((w : List ℕ) (s : State) (n : ℕ) → Shows s n l xs → performed (programIn t w) s n (instructionOf k) ≡ withPosition s n p) → Performs t k l xs r
-  jumps p e same = leads p c.Nothing e same (λ w s n _. tt)
+      → ((hs : Handlers) (s : State) (n : ℕ) → Shows s n l xs → performed (programIn t hs) s n (instructionOf k) ≡ withPosition s n p) → Performs t k l xs r
+  jumps p e same = leads p c.Nothing e same (λ hs s n _. tt)
 
   -- a command that goes on with the same accumulator
   pub nexts : (x : Change) → r ≡ effect (l .position + 1) (l .accumulator) (l .message) x
-      → ((w : List ℕ) (s : State) (n : ℕ)
-      → performed (programIn t w) s n (instructionOf k)
-      ≡ behind (programIn t w) s n (positionAt s n + 1) x)
-      → ((w : List ℕ) (s : State) (n : ℕ) → blocked (programIn t w) s n (instructionOf k) ≡ false → Possible (programIn t w .wired n) n (waitingAt s) x)
+      → ((hs : Handlers) (s : State) (n : ℕ)
+      → performed (programIn t hs) s n (instructionOf k)
+      ≡ behind (programIn t hs) s n (positionAt s n + 1) x)
+      → ((hs : Handlers) (s : State) (n : ℕ) → blocked (programIn t hs) s n (instructionOf k) ≡ false → Possible (programIn t hs .wired n) n (waitingAt s) x)
       → Performs t k l xs r
   nexts x e same = leads (l .position + 1) x e
-      (λ w s n h. same w s n ∙ ap (λ (o : Registers). behind (programIn t w) s n (o .position + 1) x) (h .own))
+      (λ hs s n h. same hs s n ∙ ap (λ (o : Registers). behind (programIn t hs) s n (o .position + 1) x) (h .own))
 
 -- the commands that work on the accumulator
 module _ (t : List ℕ) (l : Registers) (xs : List ℕ) (r : Effect) (a : ℕ) (e : r ≡ effect (l .position + 1) a (l .message) c.Nothing) where
   pub gets : (x : VarNum) → a ≡ getD xs (x .0) 0 → Performs t (i.Get x) l xs r
-  gets x v = sets t l xs (i.Get x) r a e (λ w s n h. ap (λ (ys : List ℕ). advanced (withAccumulator s n (getD ys (x .0) 0)) n) (h .variables) ∙ ap (λ (b : ℕ). advanced (withAccumulator s n b) n) (sym v))
+  gets x v = sets t l xs (i.Get x) r a e (λ hs s n h. ap (λ (ys : List ℕ). advanced (withAccumulator s n (getD ys (x .0) 0)) n) (h .variables) ∙ ap (λ (b : ℕ). advanced (withAccumulator s n b) n) (sym v))
 
   pub adds : (v : ℕ) → a ≡ sum32 (l .accumulator) v → Performs t (i.Add v) l xs r
-  adds v q = sets t l xs (i.Add v) r a e (λ w s n h. ap (λ (o : Registers). advanced (withAccumulator s n (sum32 (o .accumulator) v)) n) (h .own) ∙ ap (λ (b : ℕ). advanced (withAccumulator s n b) n) (sym q))
+  adds v q = sets t l xs (i.Add v) r a e (λ hs s n h. ap (λ (o : Registers). advanced (withAccumulator s n (sum32 (o .accumulator) v)) n) (h .own) ∙ ap (λ (b : ℕ). advanced (withAccumulator s n b) n) (sym q))
 
   pub pluses : (x : VarNum) (v : ℕ) → v ≡ getD xs (x .0) 0 → a ≡ sum32 (l .accumulator) v → Performs t (i.Plus x) l xs r
   pluses x v p q =
       sets t l xs (i.Plus x) r a e
-      (λ w s n h.
+      (λ hs s n h.
       ap (λ (o : Registers). advanced (withAccumulator s n (sum32 (o .accumulator) (getD (s .variable) (x .0) 0))) n) (h .own)
       ∙ ap (λ (ys : List ℕ). advanced (withAccumulator s n (sum32 (l .accumulator) (getD ys (x .0) 0))) n) (h .variables)
       ∙ ap (λ (b : ℕ). advanced (withAccumulator s n b) n) (ap (sum32 (l .accumulator)) (sym p) ∙ sym q))
 
 -- what an effect does in one state
-pub does-at : (t : List ℕ) (k : Instruction) (l : Registers) (xs : List ℕ) (x : Effect) → Performs t k l xs x → (w : List ℕ) (s : State) (n : ℕ) → Shows s n l xs → Does (programIn t w) s n (instructionOf k) x
+pub does-at : (t : List ℕ) (k : Instruction) (l : Registers) (xs : List ℕ) (x : Effect) → Performs t k l xs x → (hs : Handlers) (s : State) (n : ℕ) → Shows s n l xs → Does (programIn t hs) s n (instructionOf k) x
 unfolding Performs
 does-at t k l xs x p = p

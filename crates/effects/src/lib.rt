@@ -5,22 +5,9 @@ ghost use Rattle.effects.specs.Effects.{Performs, effect};
 use command::instruction::Instruction;
 use command::numbers::VarNum;
 use declared::answer_of;
-use entries::variable_at;
-
-// A node's registers.
-pub struct Registers {
-    pub position: u32,
-    pub accumulator: u32,
-    pub message: u32,
-}
-
-// What a turn changes besides its node's registers: its queue, the queues of a port's targets, or a variable.
-pub enum Change {
-    Nothing,
-    Take,
-    Send(u32),
-    Store(VarNum),
-}
+use memory::Change;
+use memory::Registers;
+use memory::variables::variable_at;
 
 // An effect: the node's registers after a handler command, and the command's change.
 pub struct Effect {

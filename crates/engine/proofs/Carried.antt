@@ -6,35 +6,49 @@ use mathlib.Core.List.{List}
 use native.Mathlib.Omega.{arith}
 use lib.ListN.{length, getD, set}
 use lib.Seq.{set-getD}
-use Rattle.model.specs.State.{State as Meant, accumulatorAt, waitingAt}
+use Rattle.model.specs.State.{State as Meant, positionAt, accumulatorAt, waitingAt}
 use Rattle.command.specs.declared.numbers.NodeNum.{NodeNum}
+use Rattle.command.specs.declared.instruction.Fetched.{Fetched}
+use Rattle.command.specs.Instructions.{fetchedOf, commandIn}
+use Rattle.command.proofs.Fetching.{standing, standing-there}
 use Rattle.tables.specs.Tables.{wiredIn}
-use Rattle.job.specs.Prepared.{programIn}
+use Rattle.tables.specs.Programs.{Handlers, programIn}
 use Rattle.entries.specs.Entries.{Comes, ruleOf}
-use Rattle.queues.specs.Queues.{countAt, BoundedCounts}
-use Rattle.queues.proofs.Queues.{count-at, oldest-is}
-use Rattle.effects.specs.declared.Registers.{Registers}
-use Rattle.effects.specs.Effects.{registersAt, variablesAfter, carried, Possible, isNothing}
+use Rattle.memory.specs.Queues.{countAt, BoundedCounts}
+use Rattle.memory.proofs.Waiting.{count-at, oldest-is}
+use Rattle.memory.specs.declared.Registers.{Registers}
+use Rattle.memory.specs.Changes.{registersAt, variablesAfter, carried, Possible, isNothing}
 use Rattle.plans.specs.declared.Plan.{Plan}
 use Rattle.plans.specs.Plans.{Plans, PlansTurn}
 use Rattle.memory.specs.Changes.{Changes}
 use Rattle.engine.specs.declared.State.{State}
 use Rattle.engine.specs.Engine.{view, Turns}
 
-module _ (t w : List ℕ) (s : State) (n : NodeNum) (monitored : Bool) (bounded : BoundedCounts (s .waiting)) (counts : length (s .waiting) ≡ 32) (places : length (s .queue) ≡ 512) where
+module _ (t : List ℕ) (fetched : Fetched) (s : State) (n : NodeNum) (monitored : Bool) (bounded : BoundedCounts (s .waiting)) (counts : length (s .waiting) ≡ 32) (places : length (s .queue) ≡ 512) where
   -- as many messages wait in the model's state as the counts say
   waiting-at : (k : ℕ) → waitingAt (view s) k ≡ getD (s .waiting) k 0
   waiting-at k = count-at (s .waiting) (s .queue) bounded (omega (arith, counts, places)) k
 
-  module _ (p : Plan) (plan : PlansTurn t w n monitored (registersAt (view s) (n .0)) (getD (s .queue) (n .0 * 16) 0) (s .waiting) (s .variable) p) where
+  module _ (p : Plan) (plan : PlansTurn t fetched n monitored (registersAt (view s) (n .0)) (getD (s .queue) (n .0 * 16) 0) (s .waiting) (s .variable) p) where
     -- the plan is one for the model's state
-    planned : Plans (programIn t w) (view s) (n .0) (ruleOf monitored (programIn t w) (view s) (n .0)) p
-    planned = plan (view s) (record { own = refl; variables = refl }) waiting-at (λ h. sym (oldest-is (s .waiting) (s .queue) (n .0) (omega (arith, h, waiting-at (n .0)))))
+    planned :
+        (hs : Handlers) → fetchedOf fetched ≡ commandIn (hs (n .0)) (positionAt (view s) (n .0))
+        → Plans (programIn t hs) (view s) (n .0) (ruleOf monitored (programIn t hs) (view s) (n .0)) p
+    planned hs =
+        plan hs (view s) (record { own = refl; variables = refl }) waiting-at
+        (λ h. sym (oldest-is (s .waiting) (s .queue) (n .0) (omega (arith, h, waiting-at (n .0)))))
+
+    -- handlers in which this stands at the node's position
+    abbrev some-handlers : Handlers
+    some-handlers k = standing fetched (positionAt (view s) (n .0))
+
+    some-planned : Plans (programIn t some-handlers) (view s) (n .0) (ruleOf monitored (programIn t some-handlers) (view s) (n .0)) p
+    some-planned = planned some-handlers (standing-there fetched (positionAt (view s) (n .0)))
 
     -- its change can be carried out on the arrays
     pub can-change : Possible (wiredIn t (n .0)) (n .0) (countAt (s .waiting)) (p .change)
     unfolding programIn
-    can-change = subst (λ (f : ℕ → ℕ). Possible (wiredIn t (n .0)) (n .0) f (p .change)) (fun-ext waiting-at) (planned .possible)
+    can-change = subst (λ (f : ℕ → ℕ). Possible (wiredIn t (n .0)) (n .0) f (p .change)) (fun-ext waiting-at) (some-planned .possible)
 
     -- the arrays with the plan carried out
     abbrev pub after : List ℕ → List ℕ → List ℕ → State
@@ -51,16 +65,16 @@ module _ (t w : List ℕ) (s : State) (n : NodeNum) (monitored : Bool) (bounded 
     -- stand for the state after the turn, and are the arrays before if it is a stop
     pub carried-out :
         (ws slots xs : List ℕ) → Changes (wiredIn t (n .0)) (n .0) (accumulatorAt (view s) (n .0)) (p .change) (s .waiting) (s .queue) ws slots
-        → xs ≡ variablesAfter (accumulatorAt (view s) (n .0)) (s .variable) (p .change) → Turns t w (n .0) monitored s (record { state = after ws slots xs; outcome = p .outcome })
+        → xs ≡ variablesAfter (accumulatorAt (view s) (n .0)) (s .variable) (p .change) → Turns t fetched (n .0) monitored s (record { state = after ws slots xs; outcome = p .outcome })
     unfolding programIn
     carried-out ws slots xs changes stored =
-        let behind : List (List ℕ) → List ℕ → Meant = λ qs ys. record { position = after ws slots xs .position; accumulator = after ws slots xs .accumulator; message = after ws slots xs .message; queue = qs; variable = ys } in
+        let afterwards : List (List ℕ) → List ℕ → Meant = λ qs ys. record { position = after ws slots xs .position; accumulator = after ws slots xs .accumulator; message = after ws slots xs .message; queue = qs; variable = ys } in
         record {
           bounded = changes .holds .bounded;
-          comes = subst (Comes (view s) (ruleOf monitored (programIn t w) (view s) (n .0)) (p .outcome)) (sym (ap₂ behind (changes .holds .same) stored)) (planned .comes);
+          comes = λ hs f. subst (Comes (view s) (ruleOf monitored (programIn t hs) (view s) (n .0)) (p .outcome)) (sym (ap₂ afterwards (changes .holds .same) stored)) (planned hs f .comes);
           kept = λ h.
-              let own = planned .stays h .0 in
-              let none = planned .stays h .1 in
+              let own = some-planned .stays h .0 in
+              let none = some-planned .stays h .1 in
               let same = changes .kept (ap isNothing none) in
               λ j. record {
                 position = (ap (λ (r : Registers). set (s .position) (n .0) (r .position)) own ∙ set-getD (s .position) (n .0) 0) j;

@@ -8,23 +8,26 @@ use Rattle.model.specs.Command.{Command}
 use Rattle.model.specs.Table.{maxNodes}
 use Rattle.model.specs.Declared.{turnsOf}
 use Rattle.model.specs.Program.{programOf}
-use Rattle.model.specs.State.{initialState}
+use Rattle.model.specs.State.{positionAt, initialState}
 use Rattle.model.specs.Refusal.{accepted, decodeJob, workSize}
 use Rattle.model.specs.Valid.{Bytes}
+use Rattle.command.specs.declared.instruction.Fetched.{Fetched}
+use Rattle.command.specs.Instructions.{fetchedOf, commandIn}
 use Rattle.tables.specs.Stands.{Stands}
-use Rattle.handlers.specs.Loading.{loaded}
+use Rattle.handlers.specs.Loading.{handlersIn, loaded}
 use Rattle.job.specs.Prepared.{turnIn}
 use Rattle.entries.specs.Entries.{Comes, ruleOf}
 use Rattle.engine.specs.declared.State.{State}
 use Rattle.engine.specs.declared.Turned.{Turned}
 use Rattle.engine.specs.Engine.{view, Starts, Turns}
 
--- what `start` promises is the start of the job's program, what `turn` promises is that program's turn, monitored or not, and `turn` may be asked for the nodes of the job's turns;
--- `past` are the commands of the job
+-- what `start` promises is the start of the job's program; what `turn` promises, given what `fetch` answers, is that program's turn, monitored
+-- or not; and `turn` may be asked for the nodes of the job's turns. `past` are the commands of the job
 pub record EngineMeets (job t w : List ℕ) (past : List Command) : Type 0 where
   pub start : (s : State) → Starts t s → view s ≡ initialState (programOf past)
   pub turn :
-      (s : State) (n : ℕ) (monitored : Bool) (turned : Turned) → Turns t w n monitored s turned
+      (s : State) (fetched : Fetched) (n : ℕ) (monitored : Bool) (turned : Turned)
+      → fetchedOf fetched ≡ commandIn (handlersIn t w n) (positionAt (view s) n) → Turns t fetched n monitored s turned
       → Comes (view s) (ruleOf monitored (programOf past) (view s) n) (turned .outcome) (view (turned .state))
   pub nodes : (k : ℕ) → k < length (turnsOf past) → turnIn job t k < maxNodes
 

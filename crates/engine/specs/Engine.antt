@@ -3,10 +3,12 @@ use Prim.Native.Nat.{ℕ}
 use mathlib.Core.Path.{_≡_}
 use mathlib.Core.Bool.{Bool, true}
 use mathlib.Core.List.{List}
-use Rattle.model.specs.State.{State as Meant, initialState}
-use Rattle.job.specs.Prepared.{programIn}
+use Rattle.model.specs.State.{State as Meant, positionAt, initialState}
+use Rattle.command.specs.declared.instruction.Fetched.{Fetched}
+use Rattle.command.specs.Instructions.{fetchedOf, commandIn}
+use Rattle.tables.specs.Programs.{Handlers, programIn}
 use Rattle.entries.specs.Entries.{Comes, isStop, ruleOf}
-use Rattle.queues.specs.Queues.{queues, BoundedCounts}
+use Rattle.memory.specs.Queues.{queues, BoundedCounts}
 use Rattle.engine.specs.declared.State.{State}
 use Rattle.engine.specs.declared.Turned.{Turned}
 
@@ -21,13 +23,16 @@ view s =
       variable = s .variable;
     }
 
--- no more messages wait at a node than it has slots, and the state stands for the start of the program in the tables, whatever the work buffer holds
+-- no more messages wait at a node than it has slots, and the state stands for the start of the program in the tables, whatever its handlers are
 pub record Starts (t : List ℕ) (s : State) : Type 0 where
   pub bounded : BoundedCounts (s .waiting)
-  pub start : (w : List ℕ) → view s ≡ initialState (programIn t w)
+  pub start : (hs : Handlers) → view s ≡ initialState (programIn t hs)
 
--- no more messages wait at a node than it has slots; outcome and state are what the turn of the program in tables and work buffer comes to; and a stop leaves the whole state, free slots included
-pub record Turns (t w : List ℕ) (n : ℕ) (monitored : Bool) (before : State) (turned : Turned) : Type 0 where
+-- a turn of node n: no more messages wait at a node than it has slots; outcome and state are what the turn of the program in the tables
+-- comes to, whatever its handlers are, if this stands in the node's own at its position; and a stop leaves the whole state, free slots included
+pub record Turns (t : List ℕ) (fetched : Fetched) (n : ℕ) (monitored : Bool) (before : State) (turned : Turned) : Type 0 where
   pub bounded : BoundedCounts (turned .state .waiting)
-  pub comes : Comes (view before) (ruleOf monitored (programIn t w) (view before) n) (turned .outcome) (view (turned .state))
+  pub comes :
+      (hs : Handlers) → fetchedOf fetched ≡ commandIn (hs n) (positionAt (view before) n)
+      → Comes (view before) (ruleOf monitored (programIn t hs) (view before) n) (turned .outcome) (view (turned .state))
   pub kept : isStop (turned .outcome) ≡ true → turned .state ≡ before

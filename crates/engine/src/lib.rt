@@ -1,15 +1,17 @@
 // The engine: the state of a run, its start, and one turn.
 ghost use Prim.Native.Nat.{_<_};
-ghost use Rattle.queues.specs.Queues.{BoundedCounts};
+ghost use lib.ListN.{getD};
+ghost use Rattle.memory.specs.Queues.{BoundedCounts};
 ghost use Rattle.engine.specs.Engine.{Starts, Turns};
+use command::instruction::Fetched;
 use command::numbers::NodeNum;
-use effects::Registers;
 use entries::Outcome;
-use memory::changes::change_queues;
-use memory::changes::change_variable;
-use memory::filling::fill_queues;
-use memory::filling::fill_variables;
-use plans::IDLE;
+use memory::IDLE;
+use memory::Registers;
+use memory::queues::change_queues;
+use memory::queues::fill_queues;
+use memory::variables::change_variable;
+use memory::variables::fill_variables;
 use plans::plan_turn;
 
 // The state of a run: of each node the position in its handler, the accumulator (01's "hand"), the message being handled and how many
@@ -49,11 +51,11 @@ pub fn start(tables: &[u32]) -> State
 }
 
 impl State {
-    // One turn of a node, by the program in tables and work buffer: planned first, and then carried out.
-    pub fn turn(mut self, tables: &[u32], work: &[u8], n: NodeNum, monitored: bool) -> Turned
+    // One turn of a node, by the tables and by what stands in its handler at its position: planned first, and then carried out.
+    pub fn turn(mut self, tables: &[u32], fetched: Fetched, n: NodeNum, monitored: bool) -> Turned
         requires { ⌜ BoundedCounts (self .waiting) ⌝ }
-        requires { ⌜ n .0 < 32 ⌝ }
-        ensures { λ r. ⌜ Turns (now (tables .entry)) (now (work .entry)) (n .0) monitored self r ⌝ }
+        requires { ⌜ (n .0 < 32) × (getD (self .position) (n .0) 0 < 256) ⌝ }
+        ensures { λ r. ⌜ Turns (now (tables .entry)) fetched (n .0) monitored self r ⌝ }
     {
         let i = n.0 as usize;
         let position = self.position[i];
@@ -67,7 +69,7 @@ impl State {
         };
         let plan = plan_turn(
             tables,
-            work,
+            fetched,
             n,
             monitored,
             registers,

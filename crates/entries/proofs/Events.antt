@@ -16,25 +16,25 @@ use Rattle.command.specs.declared.instruction.Instruction.the-variants as i
 use Rattle.command.specs.Instructions.{instructionOf}
 use Rattle.command.proofs.instruction.Instruction.{the-type as command}
 use Rattle.tables.specs.Tables.{sharedIn}
-use Rattle.job.specs.Prepared.{programIn}
+use Rattle.tables.specs.Programs.{Handlers, programIn}
 use Rattle.entries.specs.declared.Event.{Event}
 use Rattle.entries.specs.declared.Event.the-variants as e
 use Rattle.entries.specs.Entries.{entryFor}
 use Rattle.entries.proofs.Event.{the-type as event}
-use Rattle.entries.proofs.Keys.{one-of}
+use Rattle.command.proofs.Keys.{one-of}
 use Rattle.entries.proofs.Names.{shared-by}
 
-module _ (t w : List ℕ) (s : State) (n : ℕ) (x : VarNum) where
+module _ (t : List ℕ) (hs : Handlers) (s : State) (n : ℕ) (x : VarNum) where
   -- an access to a variable leaves an entry if the variable is shared
   accessed : (b : Bool) (kind value : ℕ) (shown : Event) → entryFor n shown ≡ entry n kind (x .0) value → entryFor n (cond b shown e.Other) ≡ cond b (entry n kind (x .0) value) (entry n 0 0 0)
   accessed true kind value shown h = h
   accessed false kind value shown h = refl
 
-  pub read-left : (xs : List ℕ) → s .variable ≡ xs → entryFor n (cond (sharedIn t (x .0)) (e.Read x (getD xs (x .0) 0)) e.Other) ≡ cond (isShared (programIn t w) (x .0)) (entry n 3 (x .0) (variableAt s (x .0))) (entry n 0 0 0)
-  read-left xs h = rw (← h, shared-by t w (x .0)) (accessed (sharedIn t (x .0)) 3 (variableAt s (x .0)) (e.Read x (variableAt s (x .0))) refl)
+  pub read-left : (xs : List ℕ) → s .variable ≡ xs → entryFor n (cond (sharedIn t (x .0)) (e.Read x (getD xs (x .0) 0)) e.Other) ≡ cond (isShared (programIn t hs) (x .0)) (entry n 3 (x .0) (variableAt s (x .0))) (entry n 0 0 0)
+  read-left xs h = rw (← h, shared-by t hs (x .0)) (accessed (sharedIn t (x .0)) 3 (variableAt s (x .0)) (e.Read x (variableAt s (x .0))) refl)
 
-  pub write-left : (a : ℕ) → accumulatorAt s n ≡ a → entryFor n (cond (sharedIn t (x .0)) (e.Write x a) e.Other) ≡ cond (isShared (programIn t w) (x .0)) (entry n 4 (x .0) (accumulatorAt s n)) (entry n 0 0 0)
-  write-left a h = rw (← h, shared-by t w (x .0)) (accessed (sharedIn t (x .0)) 4 (accumulatorAt s n) (e.Write x (accumulatorAt s n)) refl)
+  pub write-left : (a : ℕ) → accumulatorAt s n ≡ a → entryFor n (cond (sharedIn t (x .0)) (e.Write x a) e.Other) ≡ cond (isShared (programIn t hs) (x .0)) (entry n 4 (x .0) (accumulatorAt s n)) (entry n 0 0 0)
+  write-left a h = rw (← h, shared-by t hs (x .0)) (accessed (sharedIn t (x .0)) 4 (accumulatorAt s n) (e.Write x (accumulatorAt s n)) refl)
 
 -- the commands that leave kind 0, the events that need no permission, and those that a stop shows as they are
 abbrev pub plain : List ℕ

@@ -9,10 +9,12 @@ use Rattle.model.specs.Turn.{Entry as Meant, entry, entryOf, Turned, completed,
 use Rattle.model.specs.Permission.{permitted, redacted, monitoredTurn}
 use Rattle.command.specs.declared.instruction.Instruction.{Instruction}
 use Rattle.command.specs.Instructions.{instructionOf}
-use Rattle.job.specs.Prepared.{programIn}
+use Rattle.tables.specs.Programs.{Handlers, programIn}
 use Rattle.entries.specs.declared.Event.{Event}
 use Rattle.entries.specs.declared.Event.the-variants as e
 use Rattle.entries.specs.declared.Entry.{Entry}
+use Rattle.entries.specs.declared.Stop.{Stop}
+use Rattle.entries.specs.declared.Stop.the-variants as s
 use Rattle.entries.specs.declared.Outcome.{Outcome}
 use Rattle.entries.specs.declared.Outcome.the-variants as o
 
@@ -30,19 +32,26 @@ entryFor n (e.Send port value) = entry n 6 port value
 abbrev pub numbersOf : Entry → Meant
 numbersOf x = entryFor (x .node .0) (x .event)
 
--- what an outcome stands for, with the state after the turn: an entry made, or stop 1 (forbidden), 2 (idle, queue empty) or 3 (a target full) with the attempted entry
+-- the number of each stop: 1 (forbidden), 2 (idle, queue empty) or 3 (a target full); and the attempted entry
+abbrev pub stopNumber : Stop → ℕ
+stopNumber (s.Forbidden x) = 1
+stopNumber (s.Unready n) = 2
+stopNumber (s.Full x) = 3
+
+abbrev pub attemptedBy : Stop → Meant
+attemptedBy (s.Forbidden x) = numbersOf x
+attemptedBy (s.Unready n) = entry (n .0) 0 0 0
+attemptedBy (s.Full x) = numbersOf x
+
+-- what an outcome stands for, with the state after the turn
 abbrev pub turnedBy : Outcome → State → Turned
-turnedBy (o.Made x) s = completed (numbersOf x) s
-turnedBy (o.Forbidden x) s = stopped 1 (numbersOf x)
-turnedBy (o.Unready n) s = stopped 2 (entry (n .0) 0 0 0)
-turnedBy (o.Full x) s = stopped 3 (numbersOf x)
+turnedBy (o.Made x) after = completed (numbersOf x) after
+turnedBy (o.Stopped x) after = stopped (stopNumber x) (attemptedBy x)
 
 -- the outcome is a stop
 abbrev pub isStop : Outcome → Bool
 isStop (o.Made x) = false
-isStop (o.Forbidden x) = true
-isStop (o.Unready n) = true
-isStop (o.Full x) = true
+isStop (o.Stopped x) = true
 
 -- the state after a turn: a stopped turn leaves the state as it was
 abbrev pub stateAfter : State → Turned → State
@@ -58,14 +67,14 @@ pub record Comes (s : State) (turned : Turned) (outcome : Outcome) (after : Stat
 abbrev pub ruleOf : Bool → Program → State → ℕ → Turned
 ruleOf monitored P s n = cond monitored (monitoredTurn P s n) (turn P s n)
 
--- the event is the one that the handler command leaves, with this accumulator and these variables before it, at every node and whatever the work buffer holds
+-- the event is the one that the handler command leaves, with this accumulator and these variables before it, at every node and whatever the handlers are
 abbrev pub LeavesEvent : List ℕ → Instruction → ℕ → List ℕ → Event → Type 0
 LeavesEvent t i accumulator variables x =
-    (w : List ℕ) (s : State) (n : ℕ) → accumulatorAt s n ≡ accumulator → s .variable ≡ variables → entryFor n x ≡ entryOf (programIn t w) s n (instructionOf i)
+    (hs : Handlers) (s : State) (n : ℕ) → accumulatorAt s n ≡ accumulator → s .variable ≡ variables → entryFor n x ≡ entryOf (programIn t hs) s n (instructionOf i)
 
--- the answer says whether the lists permit a node's event, whatever the work buffer holds
+-- the answer says whether the lists permit a node's event, whatever the handlers are
 abbrev pub Judges : List ℕ → ℕ → Event → Bool → Type 0
-Judges t n x answer = (w : List ℕ) → answer ≡ permitted (programIn t w) (entryFor n x)
+Judges t n x answer = (hs : Handlers) → answer ≡ permitted (programIn t hs) (entryFor n x)
 
 -- the event is the other as a stop shows it
 abbrev pub Redacts : Event → Event → Type 0

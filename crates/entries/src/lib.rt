@@ -12,6 +12,7 @@ use command::numbers::FunNum;
 use command::numbers::NodeNum;
 use command::numbers::VarNum;
 use declared::is_shared;
+use memory::variables::variable_at;
 
 // What a turn does, each kind with its own numbers.
 pub enum Event {
@@ -30,20 +31,17 @@ pub struct Entry {
     pub event: Event,
 }
 
-// What a turn comes to: its entry, or the stop with what was attempted.
-pub enum Outcome {
-    Made(Entry),
+// A stop, with what was attempted: an entry that the lists do not permit, a node that is idle with an empty queue, a send with a full target.
+pub enum Stop {
     Forbidden(Entry),
     Unready(NodeNum),
     Full(Entry),
 }
 
-// The value of a variable.
-pub fn variable_at(variable: &[u32], x: VarNum) -> u32
-    ensures { λ r. ⌜ r ≡ getD (now (variable .entry)) (x .0) 0 ⌝ }
-{
-    let i = x.0 as usize;
-    if i < variable.len() { variable[i] } else { 0 }
+// What a turn comes to: its entry, or the stop.
+pub enum Outcome {
+    Made(Entry),
+    Stopped(Stop),
 }
 
 // The event of reading a variable: a shared one's shows.

@@ -3,6 +3,7 @@ use Prim.Native.Nat.{ℕ, _+_, _≤_, _<_}
 use mathlib.Core.Path.{_≡_, refl, sym, ap, _∙_}
 use mathlib.Core.Bool.{Bool, true, false}
 use mathlib.Core.List.{List}
+use mathlib.Core.Option.{none, some}
 use native.Mathlib.Omega.{arith}
 use lib.Dec.{ltb}
 use lib.ListN.{length, getD}
@@ -15,9 +16,12 @@ use Rattle.model.proofs.Growth.{length-handler}
 use Rattle.model.proofs.Ranges.{handler-outside, handler-named}
 use Rattle.model.proofs.Valid.{limits}
 use Rattle.model.proofs.Words.{CommandsFit}
-use Rattle.command.specs.Instructions.{recognised}
+use Rattle.model.proofs.Lists.{length-tabulate, getD-tabulate}
+use Rattle.command.specs.Instructions.{recognised, commandIn}
+use Rattle.command.proofs.Fetching.{command-inside, command-after}
+use Rattle.tables.specs.Tables.{lengthIn}
 use Rattle.command.proofs.Handled.{named-recognised}
-use Rattle.handlers.specs.Loading.{slotOf, loaded, fetchedIn}
+use Rattle.handlers.specs.Loading.{slotOf, loaded, fetchedIn, handlersIn}
 use Rattle.handlers.proofs.Slots.{length-loaded, handler-loaded}
 
 -- by the node, by the position, by the length, and from the slot
@@ -46,7 +50,7 @@ handler-inside past v n i h = by-range (ltb n 32) refl
     by-range true e = ltb-true n 32 e
     by-range false e = let z = ap length (handler-outside past v n (ltb-false n 32 e)) in absurd (omega arith)
 
--- what is fetched behind loading
+-- what is fetched after loading
 pub fetched-loaded :
     (w : List ℕ) (past : List Command) → 16384 ≤ length w → Valid past → CommandsFit past
     → (n i : ℕ) → i < length (handlerOf past n) → fetchedIn (loaded w past) n i ≡ getD (handlerOf past n) i (instruction 0 0)
@@ -55,3 +59,13 @@ fetched-loaded w past size v fit n i h =
     let same = handler-loaded w past size v fit n i (omega (arith, length-handler past n)) in
     from-slot (loaded w past) n i (handler-inside past v n i h) short (omega (arith, length-loaded w past))
     ∙ named-recognised _ _ (rw same (handler-named past v n i h)) ∙ same
+
+-- what stands at a position of the handlers in tables and work buffer
+module _ (t w : List ℕ) (n position : ℕ) where
+  pub handlers-inside : position < lengthIn t n → commandIn (handlersIn t w n) position ≡ some (fetchedIn w n position)
+  handlers-inside h =
+      let l = length-tabulate (lengthIn t n) (fetchedIn w n) in
+      command-inside (handlersIn t w n) position (omega (arith, l)) ∙ ap some (getD-tabulate (lengthIn t n) position (fetchedIn w n) (instruction 0 0) h)
+
+  pub handlers-after : lengthIn t n ≤ position → commandIn (handlersIn t w n) position ≡ none
+  handlers-after h = let l = length-tabulate (lengthIn t n) (fetchedIn w n) in command-after (handlersIn t w n) position (omega (arith, l))

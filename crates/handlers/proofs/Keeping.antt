@@ -21,10 +21,11 @@ use Rattle.model.proofs.Growth.{open-next, body-next}
 use Rattle.model.proofs.Ranges.{open-inside, body-fresh}
 use Rattle.model.proofs.Valid.{job-accepted, limits}
 use Rattle.command.specs.declared.read.Command.{Command as Code}
-use Rattle.command.specs.declared.read.Refusal.{Refusal}
+use Rattle.command.specs.declared.refusal.Refusal.{Refusal}
 use Rattle.command.specs.Rows.{isHandlerByte}
 use Rattle.command.specs.Reading.{commandOf, refusalOf, refusalAt}
-use Rattle.handlers.specs.Loading.{slotOf, stored, loaded, IsAccepted, commandsOf}
+use Rattle.handlers.specs.Loading.{slotOf, stored, loaded}
+use Rattle.model.specs.Refusal.{IsAccepted, commandsOf}
 
 -- an accepted job has its commands
 pub accepted-is : (d : Decoded) → IsAccepted d → d ≡ accepted (commandsOf d)

@@ -8,7 +8,10 @@ use Rattle.model.specs.Table.{SKIP, maxNodes, maxHandler}
 use Rattle.model.specs.Command.{Command, numberAt}
 use Rattle.model.specs.Declared.{Instruction, instruction, isHandler, openBody, bodyLength}
 use Rattle.model.specs.Refusal.{Decoded, accepted, rejected, workSize}
+use Rattle.model.specs.State.{tabulate}
 use Rattle.command.specs.Instructions.{recognised}
+use Rattle.tables.specs.Tables.{lengthIn}
+use Rattle.tables.specs.Programs.{Handlers}
 
 -- the place of a node's command: 64 commands a node, 8 bytes a command
 abbrev pub slotOf : ℕ → ℕ → ℕ
@@ -29,12 +32,6 @@ fetchedIn w n i =
     cond (ltb n maxNodes && (ltb i maxHandler && leb workSize (length w))) (recognised (getD w (slotOf n i) 0) (numberAt w (slotOf n i + 1) 4))
     (instruction SKIP 0)
 
--- the job is accepted
-abbrev pub IsAccepted : Decoded → Type 0
-IsAccepted (accepted past) = Unit {0}
-IsAccepted (rejected r) = ⊥
-
--- the commands of an accepted job; none for a refused one
-abbrev pub commandsOf : Decoded → List Command
-commandsOf (accepted past) = past
-commandsOf (rejected r) = []
+-- the handlers in the work buffer `w`, as long as the tables `t` say
+abbrev pub handlersIn : List ℕ → List ℕ → Handlers
+handlersIn t w n = tabulate (lengthIn t n) (fetchedIn w n)

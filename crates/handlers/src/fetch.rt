@@ -1,15 +1,17 @@
-// Fetching a command of a handler from the work buffer.
+// Fetching the commands of handlers from the work buffer.
 ghost use mathlib.Core.Path.{_≡_};
-ghost use Rattle.command.specs.Instructions.{instructionOf};
-ghost use Rattle.handlers.specs.Loading.{fetchedIn};
+ghost use Rattle.command.specs.Instructions.{instructionOf, fetchedOf, commandIn};
+ghost use Rattle.handlers.specs.Loading.{fetchedIn, handlersIn};
 use crate::slot_of;
+use command::instruction::Fetched;
 use command::instruction::Instruction;
 use command::instruction::instruction_of;
 use command::numbers::NodeNum;
 use command::read::operand;
+use declared::length_of;
 
 // What stands in the slot of a node's command, SKIP where there is no slot; inside the handlers of a loaded job, its command.
-pub fn fetch(work: &[u8], n: NodeNum, position: u32) -> Instruction
+fn read_slot(work: &[u8], n: NodeNum, position: u32) -> Instruction
     ensures { λ r. ⌜ instructionOf r ≡ fetchedIn (now (work .entry)) (n .0) position ⌝ }
 {
     if 32 <= n.0 {
@@ -25,4 +27,14 @@ pub fn fetch(work: &[u8], n: NodeNum, position: u32) -> Instruction
     let byte = work[at];
     let x = operand(work, at + 1, 4);
     instruction_of(byte, x)
+}
+
+// What stands at a position of a node's handler.
+pub fn fetch(tables: &[u32], work: &[u8], n: NodeNum, position: u32) -> Fetched
+    ensures { λ r. ⌜ fetchedOf r ≡ commandIn (handlersIn (now (tables .entry)) (now (work .entry)) (n .0)) position ⌝ }
+{
+    if position < length_of(tables, n) {
+        return Fetched::Command(read_slot(work, n, position));
+    }
+    Fetched::End
 }

@@ -11,7 +11,7 @@ use Rattle.model.specs.Valid.{Valid, Plain}
 use Rattle.model.proofs.Reading.{read-at}
 use Rattle.model.proofs.Decoding.{decode-end, decode-unknown, decode-short, decode-refused, decode-on, decoding-start, fuel-left}
 use Rattle.command.specs.declared.read.Command.{Command as Code}
-use Rattle.command.specs.declared.read.Refusal.{Refusal}
+use Rattle.command.specs.declared.refusal.Refusal.{Refusal}
 use Rattle.command.specs.Reading.{commandOf, refusalOf, refusalAt}
 use Rattle.tables.specs.Cells.{blank}
 use Rattle.tables.specs.Stands.{Stands}

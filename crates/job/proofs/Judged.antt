@@ -6,11 +6,11 @@ use native.Mathlib.Omega.{arith}
 use Rattle.model.specs.Command.{Command}
 use Rattle.model.specs.Refusal.{Decoded, accepted, rejected, decode, decodeJob, farJump}
 use Rattle.model.proofs.Results.{decode-job-rejected, decode-job-jump, decode-job-accepted}
-use Rattle.command.specs.declared.read.Refusal.{Refusal as Refused}
+use Rattle.command.specs.declared.refusal.Refusal.{Refusal as Refused}
 use Rattle.command.specs.Reading.{refusalOf}
 use Rattle.tables.specs.Cells.{blank}
 use Rattle.tables.specs.Stands.{Stands}
-use Rattle.handlers.specs.Loading.{IsAccepted}
+use Rattle.model.specs.Refusal.{IsAccepted}
 use Rattle.job.specs.declared.Verdict.{Verdict}
 use Rattle.job.specs.declared.Verdict.the-variants as v
 use Rattle.job.specs.Decoding.{verdictOf, Verdicts, Decides}

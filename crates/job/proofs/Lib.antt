@@ -3,3 +3,4 @@ pub mod Going
 pub mod Looking
 pub mod Schedule
 pub mod Prepared
+pub mod Buffered

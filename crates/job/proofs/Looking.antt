@@ -13,7 +13,7 @@ use Rattle.model.specs.Refusal.{refuse, accepted, decode, isFarJump, farJump}
 use Rattle.model.proofs.Growth.{open-next}
 use Rattle.model.proofs.Scanning.{Scanning, scanning-start, scanning-end, scanning-reads, scanning-found, scanning-on}
 use Rattle.command.specs.declared.read.Command.{Command as Code}
-use Rattle.command.specs.declared.read.Refusal.{Refusal}
+use Rattle.command.specs.declared.refusal.Refusal.{Refusal}
 use Rattle.command.specs.Reading.{commandOf, refusalOf, refusalAt}
 use Rattle.tables.specs.Tables.{lengthIn}
 use Rattle.tables.specs.Stands.{Stands}

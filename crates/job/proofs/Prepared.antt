@@ -19,10 +19,11 @@ use Rattle.model.proofs.Valid.{job-accepted, job-valid}
 use Rattle.model.proofs.Words.{CommandsFit, job-fit}
 use Rattle.tables.specs.Tables.{countIn, lengthIn}
 use Rattle.tables.specs.Stands.{Stands}
-use Rattle.handlers.specs.Loading.{fetchedIn, loaded}
+use Rattle.handlers.specs.Loading.{fetchedIn, handlersIn, loaded}
 use Rattle.handlers.proofs.Slots.{length-loaded, beyond-loaded}
 use Rattle.handlers.proofs.Fetched.{fetched-loaded}
-use Rattle.job.specs.Prepared.{programIn, PreparedHolds}
+use Rattle.tables.specs.Programs.{programIn}
+use Rattle.job.specs.Prepared.{PreparedHolds}
 use Rattle.job.proofs.Schedule.{turn-at}
 
 module _ (t w : List ℕ) (past : List Command) (s : Stands t past) (size : 16384 ≤ length w) (v : Valid past) (fit : CommandsFit past) where
@@ -35,10 +36,10 @@ module _ (t w : List ℕ) (past : List Command) (s : Stands t past) (size : 1638
       let l : i < lengthIn t n = omega (arith, length-tabulate (lengthIn t n) (fetchedIn (loaded w past) n)) in
       getD-tabulate (lengthIn t n) i (fetchedIn (loaded w past) n) (instruction 0 0) l ∙ fetched-loaded w past size v fit n i (omega arith))
 
-  pub same-program : programIn t (loaded w past) ≡ programOf past
+  pub same-program : programIn t (handlersIn t (loaded w past)) ≡ programOf past
   unfolding programIn programOf
   same-program =
-      agree (programIn t (loaded w past)) (programOf past)
+      agree (programIn t (handlersIn t (loaded w past))) (programOf past)
       (record {
         flows = s .counts FLOW (omega arith);
         nodes = s .counts NODE (omega arith);

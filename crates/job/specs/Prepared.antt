@@ -1,40 +1,19 @@
--- The program that tables and work buffer stand for.
+-- What tables and work buffer hold of an accepted job.
 use Prim.Native.Nat.{ℕ, _+_, _*_, _≤_, _-_, _<_}
 use mathlib.Core.Path.{_≡_}
 use mathlib.Core.List.{List}
 use lib.ListN.{length, getD}
-use Rattle.model.specs.Table.{FLOW, NODE, VAR, FUN, TURN}
+use Rattle.model.specs.Table.{TURN}
 use Rattle.model.specs.Command.{Command}
 use Rattle.model.specs.Declared.{turnsOf}
-use Rattle.model.specs.Program.{Program, programOf}
-use Rattle.model.specs.State.{tabulate}
+use Rattle.model.specs.Program.{programOf}
 use Rattle.model.specs.Turn.{instructionAt}
 use Rattle.model.specs.Refusal.{accepted, decodeJob, workSize}
 use Rattle.model.specs.Valid.{Bytes}
-use Rattle.tables.specs.Tables.{countIn, flowIn, scopeIn, ownerIn, startIn, funAnswerIn, wiredIn, callIn, readIn, writeIn, lengthIn, firstsIn}
+use Rattle.tables.specs.Tables.{countIn}
 use Rattle.tables.specs.Stands.{Stands}
-use Rattle.handlers.specs.Loading.{fetchedIn, loaded}
-
--- every name of a program, by the tables `t` and the work buffer `w`
-unfoldable pub programIn : List ℕ → List ℕ → Program
-programIn t w =
-    record {
-      flows = countIn t FLOW;
-      nodes = countIn t NODE;
-      variables = countIn t VAR;
-      functions = countIn t FUN;
-      flow = flowIn t;
-      scope = scopeIn t;
-      owner = ownerIn t;
-      startValue = startIn t;
-      answer = λ f argument. funAnswerIn t f;
-      wired = wiredIn t;
-      mayCall = callIn t;
-      mayRead = readIn t;
-      mayWrite = writeIn t;
-      handler = λ n. tabulate (lengthIn t n) (fetchedIn w n);
-      firstMessages = firstsIn t;
-    }
+use Rattle.tables.specs.Programs.{programIn}
+use Rattle.handlers.specs.Loading.{fetchedIn, handlersIn, loaded}
 
 -- turn k of a job, counted from 0: the turns are the last commands of a job, 2 bytes each
 abbrev pub turnIn : List ℕ → List ℕ → ℕ → ℕ
@@ -43,7 +22,7 @@ turnIn job t k = getD job (length job - 2 * countIn t TURN + 2 * k + 1) 0
 -- what decoding and loading leave of an accepted job: its program, every command of its handlers, its turns, and the bytes behind the slots;
 -- `before` is the work buffer before loading, `w` the one behind it
 pub record Prepared (job t before w : List ℕ) (past : List Command) : Type 0 where
-  pub program : programIn t w ≡ programOf past
+  pub program : programIn t (handlersIn t w) ≡ programOf past
   pub fetched : (n i : ℕ) → i < length (programOf past .handler n) → fetchedIn w n i ≡ instructionAt (programOf past) n i
   pub turns : countIn t TURN ≡ length (turnsOf past)
   pub turn : (k : ℕ) → k < length (turnsOf past) → turnIn job t k ≡ getD (turnsOf past) k 0

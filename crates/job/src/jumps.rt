@@ -13,9 +13,9 @@ use command::bytes;
 use command::numbers::NodeNum;
 use command::read::Command;
 use command::read::Parsed;
-use command::read::Refusal;
 use command::read::open_after;
 use command::read::read_command;
+use command::refusal::Refusal;
 use declared::length_of;
 
 // A jump whose target exceeds its handler's command count.

@@ -1,4 +1,5 @@
-// Decoding a job: the walk over all commands, the jumps, and the turns.
+// The tests of a job: the walk over all commands, the jumps, the buffers; and the turns of an accepted job.
+pub mod buffers;
 mod jumps;
 pub mod turns;
 mod walk;
@@ -8,7 +9,7 @@ ghost use lib.ListN.{length};
 ghost use Rattle.model.specs.Refusal.{decodeJob};
 ghost use Rattle.tables.specs.Cells.{cellCount};
 ghost use Rattle.job.specs.Decoding.{Verdicts, Decides};
-use command::read::Refusal;
+use command::refusal::Refusal;
 use jumps::check_jumps;
 use tables::cells::CELLS;
 use tables::cells::clear;

@@ -7,7 +7,7 @@ ghost use lib.ListN.{length};
 ghost use Rattle.writing.specs.Writing.{Writes};
 ghost use Rattle.turns.specs.Endings.{answerOf};
 ghost use Rattle.lines.specs.Lines.{partAt, endLine, runLines, refusedLine};
-use command::read::Refusal;
+use command::refusal::Refusal;
 use snapshot::put_snapshot_lines;
 use text::put_line;
 use trace::put_entry_lines;

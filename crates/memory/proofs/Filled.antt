@@ -9,8 +9,8 @@ use lib.Seq.{ext-getD, getD-set-same, getD-set-other, drop-set-add, take-suc-set
 use borrow.Author.Count.{below-more}
 use Rattle.model.specs.State.{tabulate}
 use Rattle.model.proofs.Lists.{length-tabulate, getD-tabulate, getD-each}
-use Rattle.queues.specs.Queues.{queues, Holds}
-use Rattle.queues.proofs.Queues.{length-queues, queues-change, part-set}
+use Rattle.memory.specs.Queues.{queues, Holds}
+use Rattle.memory.proofs.Waiting.{length-queues, queues-change, part-set}
 
 -- a list of k elements, the first n of which are a function's values
 pub record Filled {A : Type 0} (f : ℕ → A) (d : A) (k n : ℕ) (l : List A) : Type 0 where

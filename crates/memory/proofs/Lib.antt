@@ -1,2 +1,4 @@
+pub mod Waiting
+pub mod Sending
 pub mod Filled
 pub mod Unchanged

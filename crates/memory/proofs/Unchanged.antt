@@ -5,11 +5,11 @@ use mathlib.Core.Bool.{Bool}
 use mathlib.Core.List.{List, [], _∷_}
 use types.Run.{OneOf}
 use denote.Enum.Declared.{tagOf}
-use Rattle.entries.proofs.Keys.{one-of}
-use Rattle.effects.specs.declared.Change.{Change}
-use Rattle.effects.specs.declared.Change.the-variants as k
-use Rattle.effects.specs.Effects.{queuesAfter, variablesAfter}
-use Rattle.effects.proofs.Change.{the-type}
+use Rattle.command.proofs.Keys.{one-of}
+use Rattle.memory.specs.declared.Change.{Change}
+use Rattle.memory.specs.declared.Change.the-variants as k
+use Rattle.memory.specs.Changes.{queuesAfter, variablesAfter}
+use Rattle.memory.proofs.Change.{the-type}
 
 -- the changes that no message takes part in, and those that do not store
 abbrev silent : List ℕ

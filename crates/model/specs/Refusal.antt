@@ -178,6 +178,16 @@ farJump all = refuseFirst 9 (isFarJump all) all
 unfoldable pub decodeJob : List ℕ → Decoded
 decodeJob job = andThen farJump (decode job)
 
+-- the job is accepted
+abbrev pub IsAccepted : Decoded → Type 0
+IsAccepted (accepted past) = Unit {0}
+IsAccepted (rejected r) = ⊥
+
+-- the commands of an accepted job; none for a refused one
+abbrev pub commandsOf : Decoded → List Command
+commandsOf (accepted past) = past
+commandsOf (rejected r) = []
+
 -- the lengths of the three buffers
 pub record Sizes : Type 0 where
   pub trace : ℕ

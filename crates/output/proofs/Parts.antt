@@ -9,9 +9,9 @@ use lib.Seq.{length-take-le}
 use Rattle.model.specs.State.{variableAt}
 use Rattle.model.specs.Output.{bytes4, numbersBytes, nodeBytes, nodesBytes, variablesBytes}
 use Rattle.model.proofs.Bounds.{length-numbers, length-variables, nodes-next}
-use Rattle.queues.specs.Queues.{BoundedCounts}
-use Rattle.queues.proofs.Queues.{queue-at, count-at}
-use Rattle.effects.specs.declared.Registers.{Registers}
+use Rattle.memory.specs.Queues.{BoundedCounts}
+use Rattle.memory.proofs.Waiting.{queue-at, count-at}
+use Rattle.memory.specs.declared.Registers.{Registers}
 use Rattle.engine.specs.declared.State.{State}
 use Rattle.engine.specs.Engine.{view}
 use Rattle.writing.specs.Writing.{Writes}

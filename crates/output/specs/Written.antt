@@ -5,7 +5,7 @@ use lib.ListN.{take, drop, getD}
 use Rattle.model.specs.State.{State}
 use Rattle.model.specs.Turn.{Entry, entry}
 use Rattle.model.specs.Output.{bytes4, numbersBytes, nodesBytes, variablesBytes}
-use Rattle.effects.specs.declared.Registers.{Registers}
+use Rattle.memory.specs.declared.Registers.{Registers}
 use Rattle.engine.specs.declared.State.{State as Held}
 use Rattle.output.specs.declared.numbers.Numbers.{Numbers}
 

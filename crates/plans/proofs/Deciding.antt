@@ -17,25 +17,27 @@ use Rattle.command.specs.declared.instruction.Instruction.the-variants as i
 use Rattle.command.specs.Instructions.{instructionOf}
 use Rattle.command.proofs.instruction.Instruction.{the-type}
 use Rattle.tables.specs.Tables.{wiredIn}
-use Rattle.job.specs.Prepared.{programIn}
+use Rattle.tables.specs.Programs.{Handlers, programIn}
 use Rattle.entries.specs.declared.Event.{Event}
 use Rattle.entries.specs.declared.Outcome.{Outcome}
 use Rattle.entries.specs.declared.Outcome.the-variants as o
+use Rattle.entries.specs.declared.Stop.the-variants as st
 use Rattle.entries.specs.Entries.{entryFor, turnedBy, stateAfter, ruleOf}
-use Rattle.entries.proofs.Keys.{one-of}
+use Rattle.command.proofs.Keys.{one-of}
 use Rattle.entries.proofs.Names.{wired-by}
-use Rattle.queues.specs.Queues.{countAt, full}
-use Rattle.effects.specs.declared.Registers.{Registers}
-use Rattle.effects.specs.declared.Change.{Change}
-use Rattle.effects.specs.declared.Change.the-variants as c
+use Rattle.memory.specs.Queues.{countAt, full}
+use Rattle.memory.specs.declared.Registers.{Registers}
+use Rattle.memory.specs.declared.Change.{Change}
+use Rattle.memory.specs.declared.Change.the-variants as c
 use Rattle.effects.specs.declared.Effect.{Effect}
-use Rattle.effects.specs.Effects.{registersAt, carried, Possible, Does}
+use Rattle.effects.specs.Effects.{Does}
+use Rattle.memory.specs.Changes.{registersAt, carried, Possible}
 use Rattle.effects.proofs.Carrying.{stays}
 use Rattle.plans.specs.Plans.{entryBy, plan, Waits, judged, Plans}
 
 -- a full target by the tables and the counts is one of the program and the state
-pub full-blocks : (t w ws : List ℕ) (s : State) (n port : ℕ) → Waits s ws → full (wiredIn t n port) (countAt ws) ≡ blocked (programIn t w) s n (instructionOf (i.Send port))
-full-blocks t w ws s n port h = some-agree _ _ (λ k. rw (wired-by t w n port k, h k)) _
+pub full-blocks : (t : List ℕ) (hs : Handlers) (ws : List ℕ) (s : State) (n port : ℕ) → Waits s ws → full (wiredIn t n port) (countAt ws) ≡ blocked (programIn t hs) s n (instructionOf (i.Send port))
+full-blocks t hs ws s n port h = some-agree _ _ (λ k. rw (wired-by t hs n port k, h k)) _
 
 -- the commands but SEND
 abbrev pub silent : List ℕ
@@ -124,23 +126,23 @@ module _ (P : Program) (s : State) (node : NodeNum) where
 module _ (P : Program) (s : State) (node : NodeNum) (monitored : Bool) (k : Instruction) (event : Event) (left : entryFor (node .0) event ≡ entryOf P s (node .0) (instructionOf k)) where
   pub forbidden-planned :
       (l : Registers) → registersAt s (node .0) ≡ l → (monitored && not (permitted P (entryFor (node .0) event))) ≡ true → (shown : Event) → entryFor (node .0) shown ≡ redacted (entryFor (node .0) event)
-      → Plans P s (node .0) (judged monitored P (executed P s (node .0) (instructionOf k))) (plan l c.Nothing (o.Forbidden (entryBy node shown)))
+      → Plans P s (node .0) (judged monitored P (executed P s (node .0) (instructionOf k))) (plan l c.Nothing (o.Stopped (st.Forbidden (entryBy node shown))))
   forbidden-planned l own h shown same =
       let n = node .0 in
       let f : (monitored && not (permitted P (entryOf P s n (instructionOf k)))) ≡ true = rw (← left) h in
       let goes = forbidden-goes P s n k (not-permitted monitored _ f) in
       stop-planned P s node l own _ 1 (redacted (entryOf P s n (instructionOf k)))
       (ap (judged monitored P) (executed-done P s n (instructionOf k) goes) ∙ judged-forbidden monitored P _ (performed P s n (instructionOf k)) f)
-      (o.Forbidden (entryBy node shown)) (λ after. ap (stopped 1) (same ∙ ap redacted left))
+      (o.Stopped (st.Forbidden (entryBy node shown))) (λ after. ap (stopped 1) (same ∙ ap redacted left))
 
   pub full-planned :
       (l : Registers) → registersAt s (node .0) ≡ l → blocked P s (node .0) (instructionOf k) ≡ true
-      → Plans P s (node .0) (judged monitored P (executed P s (node .0) (instructionOf k))) (plan l c.Nothing (o.Full (entryBy node event)))
+      → Plans P s (node .0) (judged monitored P (executed P s (node .0) (instructionOf k))) (plan l c.Nothing (o.Stopped (st.Full (entryBy node event))))
   full-planned l own h =
       let n = node .0 in
       stop-planned P s node l own _ 3 (entryOf P s n (instructionOf k))
       (ap (judged monitored P) (executed-full P s n (instructionOf k) h) ∙ judged-stopped monitored P 3 (entryOf P s n (instructionOf k)))
-      (o.Full (entryBy node event)) (λ after. ap (stopped 3) left)
+      (o.Stopped (st.Full (entryBy node event))) (λ after. ap (stopped 3) left)
 
   pub made-by :
       (monitored && not (permitted P (entryFor (node .0) event))) ≡ false → blocked P s (node .0) (instructionOf k) ≡ false → (x : Effect) → Does P s (node .0) (instructionOf k) x

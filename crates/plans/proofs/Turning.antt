@@ -12,10 +12,11 @@ use Rattle.model.proofs.Turns.{turn-unready, turn-begun, turn-executed, turn-fi
 use Rattle.command.specs.declared.numbers.NodeNum.{NodeNum}
 use Rattle.entries.specs.declared.Event.the-variants as e
 use Rattle.entries.specs.declared.Outcome.the-variants as o
+use Rattle.entries.specs.declared.Stop.the-variants as st
 use Rattle.entries.specs.Entries.{ruleOf}
-use Rattle.effects.specs.declared.Registers.{Registers}
-use Rattle.effects.specs.declared.Change.the-variants as c
-use Rattle.effects.specs.Effects.{registers, registersAt}
+use Rattle.memory.specs.declared.Registers.{Registers}
+use Rattle.memory.specs.declared.Change.the-variants as c
+use Rattle.memory.specs.Changes.{registers, registersAt}
 use Rattle.plans.specs.declared.Plan.{Plan}
 use Rattle.plans.specs.Plans.{entryBy, plan, judged, Plans}
 use Rattle.plans.proofs.Deciding.{rule-judged, judged-stopped, judged-made, stop-planned, made-planned}
@@ -33,9 +34,9 @@ module _ (P : Program) (s : State) (node : NodeNum) (monitored : Bool) (l : Regi
   ruled : (turned : Turned) → turn P s (node .0) ≡ turned → ruleOf monitored P s (node .0) ≡ judged monitored P turned
   ruled turned h = rule-judged monitored P s (node .0) ∙ ap (judged monitored P) h
 
-  pub unready-planned : l .position ≡ 255 → waitingAt s (node .0) ≡ 0 → Plans P s (node .0) (ruleOf monitored P s (node .0)) (plan l c.Nothing (o.Unready node))
+  pub unready-planned : l .position ≡ 255 → waitingAt s (node .0) ≡ 0 → Plans P s (node .0) (ruleOf monitored P s (node .0)) (plan l c.Nothing (o.Stopped (st.Unready node)))
   unready-planned p none =
-      stop-planned P s node l own _ 2 (entry (node .0) 0 0 0) (ruled _ (turn-unready P s (node .0) (at ∙ p) none) ∙ judged-stopped monitored P 2 (entry (node .0) 0 0 0)) (o.Unready node) (λ after. refl)
+      stop-planned P s node l own _ 2 (entry (node .0) 0 0 0) (ruled _ (turn-unready P s (node .0) (at ∙ p) none) ∙ judged-stopped monitored P 2 (entry (node .0) 0 0 0)) (o.Stopped (st.Unready node)) (λ after. refl)
 
   pub begun-planned :
       l .position ≡ 255 → ¬ (waitingAt s (node .0) ≡ 0) → (first : ℕ) → oldest s (node .0) ≡ first

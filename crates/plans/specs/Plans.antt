@@ -9,17 +9,19 @@ use Rattle.model.specs.State.{State, waitingAt}
 use Rattle.model.specs.Turn.{Turned, blocked, executed, oldest}
 use Rattle.model.specs.Permission.{enforced}
 use Rattle.command.specs.declared.instruction.Instruction.{Instruction}
-use Rattle.command.specs.Instructions.{instructionOf}
+use Rattle.command.specs.declared.instruction.Fetched.{Fetched}
+use Rattle.command.specs.Instructions.{instructionOf, fetchedOf, commandIn}
 use Rattle.command.specs.declared.numbers.NodeNum.{NodeNum}
-use Rattle.job.specs.Prepared.{programIn}
+use Rattle.tables.specs.Programs.{Handlers, programIn}
 use Rattle.entries.specs.declared.Event.{Event}
 use Rattle.entries.specs.declared.Entry.{Entry}
 use Rattle.entries.specs.declared.Outcome.{Outcome}
 use Rattle.entries.specs.Entries.{Comes, isStop, ruleOf}
-use Rattle.effects.specs.declared.Registers.{Registers}
-use Rattle.effects.specs.declared.Change.{Change}
-use Rattle.effects.specs.declared.Change.the-variants as c
-use Rattle.effects.specs.Effects.{Shows, Possible, registersAt, carried}
+use Rattle.memory.specs.declared.Registers.{Registers}
+use Rattle.memory.specs.declared.Change.{Change}
+use Rattle.memory.specs.declared.Change.the-variants as c
+use Rattle.effects.specs.Effects.{Shows}
+use Rattle.memory.specs.Changes.{Possible, registersAt, carried}
 use Rattle.plans.specs.declared.Plan.{Plan}
 
 -- the entry of a node with an event
@@ -36,7 +38,7 @@ Waits s ws = (k : ℕ) → waitingAt s k ≡ getD ws k 0
 
 -- the answer says whether the handler command is a send with a full target
 abbrev pub Blocks : List ℕ → ℕ → Instruction → List ℕ → Bool → Type 0
-Blocks t n i ws answer = (w : List ℕ) (s : State) → Waits s ws → answer ≡ blocked (programIn t w) s n (instructionOf i)
+Blocks t n i ws answer = (hs : Handlers) (s : State) → Waits s ws → answer ≡ blocked (programIn t hs) s n (instructionOf i)
 
 -- what a turn comes to under the lists, or without them
 abbrev pub judged : Bool → Program → Turned → Turned
@@ -48,12 +50,15 @@ pub record Plans (P : Program) (s : State) (n : ℕ) (turned : Turned) (p : Plan
   pub possible : Possible (P .wired n) n (waitingAt s) (p .change)
   pub stays : isStop (p .outcome) ≡ true → (p .registers ≡ registersAt s n) × (p .change ≡ c.Nothing)
 
--- the plan is what the node's turn at the handler command comes to, in every state with these registers, counts and variables, whatever the work buffer holds
+-- the plan is what the node's turn at the handler command comes to, in every state with these registers, counts and variables, whatever the handlers are
 abbrev pub PlansCommand : List ℕ → NodeNum → Bool → Instruction → Registers → List ℕ → List ℕ → Plan → Type 0
 PlansCommand t n monitored i l ws variables p =
-    (w : List ℕ) (s : State) → Shows s (n .0) l variables → Waits s ws → Plans (programIn t w) s (n .0) (judged monitored (programIn t w) (executed (programIn t w) s (n .0) (instructionOf i))) p
+    (hs : Handlers) (s : State) → Shows s (n .0) l variables → Waits s ws → Plans (programIn t hs) s (n .0) (judged monitored (programIn t hs) (executed (programIn t hs) s (n .0) (instructionOf i))) p
 
--- the plan is the node's turn, in every state with these registers, counts and variables and, if a message waits, this oldest one
-abbrev pub PlansTurn : List ℕ → List ℕ → NodeNum → Bool → Registers → ℕ → List ℕ → List ℕ → Plan → Type 0
-PlansTurn t w n monitored l first ws variables p =
-    (s : State) → Shows s (n .0) l variables → Waits s ws → (1 ≤ waitingAt s (n .0) → oldest s (n .0) ≡ first) → Plans (programIn t w) s (n .0) (ruleOf monitored (programIn t w) s (n .0)) p
+-- the plan is the node's turn, in every state with these registers, counts and variables and, if a message waits, this oldest one,
+-- whatever the handlers are, if this stands in the node's own at its position
+abbrev pub PlansTurn : List ℕ → Fetched → NodeNum → Bool → Registers → ℕ → List ℕ → List ℕ → Plan → Type 0
+PlansTurn t fetched n monitored l first ws variables p =
+    (hs : Handlers) (s : State) → Shows s (n .0) l variables → Waits s ws → (1 ≤ waitingAt s (n .0) → oldest s (n .0) ≡ first)
+    → fetchedOf fetched ≡ commandIn (hs (n .0)) (l .position)
+    → Plans (programIn t hs) s (n .0) (ruleOf monitored (programIn t hs) s (n .0)) p

@@ -4,26 +4,24 @@ ghost use mathlib.Core.Bool.{not, _&&_};
 ghost use mathlib.Core.List.{List};
 ghost use Prim.Native.Nat.{ℕ, _<_};
 ghost use Rattle.model.specs.Permission.{permitted};
-ghost use Rattle.job.specs.Prepared.{programIn};
+ghost use Rattle.tables.specs.Programs.{Handlers, programIn};
 ghost use Rattle.entries.specs.Entries.{entryFor};
 ghost use Rattle.plans.specs.Plans.{plan, entryBy, Blocks, PlansCommand, PlansTurn};
+use command::instruction::Fetched;
 use command::instruction::Instruction;
 use command::numbers::NodeNum;
-use declared::length_of;
-use effects::Change;
-use effects::Registers;
 use effects::effect_of;
 use entries::Entry;
 use entries::Event;
 use entries::Outcome;
+use entries::Stop;
 use entries::event_of;
 use entries::is_permitted;
 use entries::redact;
-use handlers::fetch::fetch;
-use queues::has_full;
-
-// The position of a node that is idle.
-pub const IDLE: u32 = 255;
+use memory::Change;
+use memory::IDLE;
+use memory::Registers;
+use memory::queues::has_full;
 
 // A turn: the node's registers after it, its change and its outcome.
 pub struct Plan {
@@ -45,7 +43,7 @@ fn blocks(tables: &[u32], n: NodeNum, instruction: Instruction, waiting: &[u8; 3
 
 // Whether the run is monitored and the lists do not permit the event.
 fn is_forbidden(tables: &[u32], n: NodeNum, monitored: bool, event: Event) -> bool
-    ensures { λ r. ⌜ ((w : List ℕ) → r ≡ (monitored && not (permitted (programIn (now (tables .entry)) w) (entryFor (n .0) event)))) ⌝ }
+    ensures { λ r. ⌜ ((hs : Handlers) → r ≡ (monitored && not (permitted (programIn (now (tables .entry)) hs) (entryFor (n .0) event)))) ⌝ }
 {
     if monitored {
         let permitted = is_permitted(tables, n, event);
@@ -95,19 +93,28 @@ fn decide<'a>(
     if is_forbidden(tables, n, monitored, event) {
         let shown = redact(event);
         let entry = make_entry(n, shown);
-        return planned(registers, Change::Nothing, Outcome::Forbidden(entry));
+        return planned(
+            registers,
+            Change::Nothing,
+            Outcome::Stopped(Stop::Forbidden(entry)),
+        );
     }
     let entry = make_entry(n, event);
     if blocks(tables, n, instruction, waiting) {
-        return planned(registers, Change::Nothing, Outcome::Full(entry));
+        return planned(
+            registers,
+            Change::Nothing,
+            Outcome::Stopped(Stop::Full(entry)),
+        );
     }
     planned(effect.registers, change, Outcome::Made(entry))
 }
 
-// The turn of a node, by its registers, the message in its first slot, how many messages wait at each node, and the variables.
+// The turn of a node, by what stands in its handler at its position, its registers, the message in its first slot, how many messages wait
+// at each node, and the variables.
 pub fn plan_turn<'a>(
     tables: &[u32],
-    work: &[u8],
+    fetched: Fetched,
     n: NodeNum,
     monitored: bool,
     registers: Registers,
@@ -115,14 +122,17 @@ pub fn plan_turn<'a>(
     waiting: &'a [u8; 32],
     variable: &'a [u32],
 ) -> Plan
-    requires { ⌜ n .0 < 32 ⌝ }
-    ensures { λ r. ⌜ PlansTurn (now (tables .entry)) (now (work .entry)) n monitored registers oldest (now (waiting .entry)) (now (variable .entry)) r ⌝ }
+    requires { ⌜ (n .0 < 32) × (registers .position < 256) ⌝ }
+    ensures { λ r. ⌜ PlansTurn (now (tables .entry)) fetched n monitored registers oldest (now (waiting .entry)) (now (variable .entry)) r ⌝ }
 {
     let i = n.0 as usize;
-    let position = registers.position;
-    if position == IDLE {
+    if registers.position == IDLE {
         if waiting[i] == 0 {
-            return planned(registers, Change::Nothing, Outcome::Unready(n));
+            return planned(
+                registers,
+                Change::Nothing,
+                Outcome::Stopped(Stop::Unready(n)),
+            );
         }
         let entry = make_entry(n, Event::Begin(oldest));
         let begun = Registers {
@@ -132,23 +142,26 @@ pub fn plan_turn<'a>(
         };
         return planned(begun, Change::Take, Outcome::Made(entry));
     }
-    if position < length_of(tables, n) {
-        let instruction = fetch(work, n, position);
-        return decide(
-            tables,
-            n,
-            monitored,
-            instruction,
-            registers,
-            waiting,
-            variable,
-        );
+    match fetched {
+        Fetched::Command(instruction) => {
+            decide(
+                tables,
+                n,
+                monitored,
+                instruction,
+                registers,
+                waiting,
+                variable,
+            )
+        }
+        Fetched::End => {
+            let entry = make_entry(n, Event::Finish);
+            let idle = Registers {
+                position: IDLE,
+                accumulator: 0,
+                message: 0,
+            };
+            planned(idle, Change::Nothing, Outcome::Made(entry))
+        }
     }
-    let entry = make_entry(n, Event::Finish);
-    let idle = Registers {
-        position: IDLE,
-        accumulator: 0,
-        message: 0,
-    };
-    planned(idle, Change::Nothing, Outcome::Made(entry))
 }

@@ -5,11 +5,11 @@ use mathlib.Core.Bool.{Bool, true, false}
 use mathlib.Core.List.{List, _++_}
 use native.Mathlib.Omega.{arith}
 use lib.ListN.{length, drop, length-append, length-map}
-use Rattle.delivery.specs.declared.answer.Answer.{Answer}
-use Rattle.delivery.specs.declared.answer.Answer.the-variants as a
-use Rattle.delivery.specs.Answers.{resultFor, Delivers}
+use Rattle.run.specs.declared.answer.Answer.{Answer}
+use Rattle.run.specs.declared.answer.Answer.the-variants as a
+use Rattle.run.specs.Answers.{resultFor, Delivers}
 use Rattle.lines.specs.Lines.{partAt, runLines}
-use Rattle.delivery.proofs.Delivering.{and-then-accepted, result-ran, result-refused}
+use Rattle.run.proofs.Delivering.{and-then-accepted, result-ran, result-refused}
 use Rattle.model.specs.Table.{NODE, VAR}
 use Rattle.model.specs.Command.{Command}
 use Rattle.model.specs.Declared.{countOf, turnsOf}
@@ -23,9 +23,9 @@ use Rattle.model.specs.Valid.{Bytes, Valid}
 use Rattle.model.proofs.Valid.{job-valid, limits}
 use Rattle.model.proofs.Growth.{length-turns}
 use Rattle.model.proofs.Bounds.{length-trace, length-variables, RunBounded, monitored-fits, unmonitored-fits, snapshot-fits}
-use Rattle.command.specs.declared.read.Refusal.{Refusal as Refused}
+use Rattle.command.specs.declared.refusal.Refusal.{Refusal as Refused}
 use Rattle.command.specs.Reading.{refusalOf}
-use Rattle.handlers.specs.Loading.{IsAccepted, commandsOf}
+use Rattle.model.specs.Refusal.{IsAccepted, commandsOf}
 use Rattle.tables.specs.Stands.{Stands}
 use Rattle.job.specs.declared.Verdict.{Verdict}
 use Rattle.job.specs.Decoding.{Decides}

@@ -6,7 +6,7 @@ use Rattle.model.specs.Table.{NODE, VAR}
 use Rattle.model.specs.Declared.{countOf}
 use Rattle.model.specs.Refusal.{decodeJob}
 use Rattle.model.specs.Result.{Result, refused, ran}
-use Rattle.handlers.specs.Loading.{commandsOf}
+use Rattle.model.specs.Refusal.{commandsOf}
 
 -- how many nodes and variables a job declares
 abbrev pub nodesIn : List ℕ → ℕ

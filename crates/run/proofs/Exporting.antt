@@ -3,8 +3,8 @@ use Prim.Native.Nat.{ℕ}
 use mathlib.Core.Path.{_≡_, ap, _∙_}
 use mathlib.Core.List.{List}
 use Rattle.model.specs.Result.{Result, Buffers}
-use Rattle.delivery.specs.declared.answer.Answer.{Answer}
-use Rattle.delivery.specs.Answers.{toldBy, Delivers}
+use Rattle.run.specs.declared.answer.Answer.{Answer}
+use Rattle.run.specs.Answers.{toldBy, Delivers}
 use Rattle.run.specs.Exported.{numbersIn, Exports}
 
 -- the same, as eight numbers

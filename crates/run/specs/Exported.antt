@@ -3,7 +3,7 @@ use Prim.Native.Nat.{ℕ}
 use mathlib.Core.Path.{_≡_}
 use mathlib.Core.List.{List, [], _∷_}
 use Rattle.model.specs.Result.{Result, Buffers}
-use Rattle.delivery.specs.Answers.{Told, refusal, answer, toldIn, BuffersAfter}
+use Rattle.run.specs.Answers.{Told, refusal, answer, toldIn, BuffersAfter}
 
 -- what is told, as eight numbers: number and place of the refusal, stop, completed turns, and the attempted entry; 0 where there is none
 abbrev pub numbersIn : Told → List ℕ

@@ -1,1 +1,3 @@
+pub mod Answers
+pub mod Delivered
 pub mod Exported

@@ -1,11 +1,11 @@
 // The entry points for programs in C and Rust (include/leqsumir.h): the answer as eight numbers.
 ghost use mathlib.Core.Path.{_≡_};
 ghost use Rattle.model.specs.Result.{monitored, unmonitored, sizesOf};
-ghost use Rattle.delivery.specs.Answers.{toldBy, buffers};
+ghost use Rattle.run.specs.Answers.{toldBy, buffers};
 ghost use Rattle.run.specs.Exported.{numbersIn, Exports};
+use crate::answer::Answer;
 use crate::run_monitored;
 use crate::run_unmonitored;
-use delivery::answer::Answer;
 
 // The numbers of an answer.
 fn numbers_in(answer: Answer) -> [u64; 8]

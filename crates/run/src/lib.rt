@@ -1,9 +1,66 @@
-// The entry points: the run of a job, monitored (01's "watched") or unmonitored ("bare"). Any bytes and any buffers are allowed.
+// The run of a job with its buffers, monitored (01's "watched") or unmonitored ("bare"): any bytes and any buffers are allowed.
+pub mod answer;
 mod exports;
 
-ghost use Rattle.delivery.specs.Answers.{toldBy, buffers, call, Monitored, Unmonitored};
-use delivery::answer::Answer;
-use delivery::run;
+ghost use Rattle.model.specs.Result.{sizesOf};
+ghost use Rattle.run.specs.Answers.{toldBy, buffers, call, resultFor, Delivers, Monitored, Unmonitored};
+ghost use Rattle.run.specs.Delivered.{AcceptedWith, DeliversRun};
+use answer::Answer;
+use command::bytes;
+use declared::count_of;
+use handlers::load::load;
+use job::Verdict;
+use job::buffers::WORK;
+use job::buffers::judge;
+use output::snapshot::put_snapshot;
+use tables::cells::CELLS;
+use turns::ending::Ending;
+use turns::run_turns;
+use writing::put_zeros;
+
+// The run of an accepted job: how it ended; its trace and its snapshot (01's "picture") at the front of their buffers, zeros at that of the work buffer.
+fn run_accepted(
+    job: &[u8],
+    tables: &[u32; CELLS],
+    trace: &mut [u8],
+    snapshot: &mut [u8],
+    work: &mut [u8],
+    monitored: bool,
+) -> Ending
+    requires { ⌜ AcceptedWith (now job) (now tables) (sizesOf (buffers (now trace) (now snapshot) (now work))) ⌝ }
+    ensures { λ r. ⌜ DeliversRun monitored (now (job .entry)) (buffers (now (trace .entry)) (now (snapshot .entry)) (now (work .entry))) (buffers (now (trace .exit)) (now (snapshot .exit)) (now (work .exit))) r ⌝ }
+{
+    load(job, work);
+    let ran = run_turns(job, tables, work, trace, monitored);
+    let state = ran.state;
+    let ending = ran.ending;
+    let nodes = count_of(tables, bytes::NODE) as usize;
+    let variables = count_of(tables, bytes::VAR) as usize;
+    put_snapshot(snapshot, state, nodes, variables);
+    put_zeros(work, WORK);
+    ending
+}
+
+// The run of any job with any buffers, monitored or not.
+pub fn run(
+    job: &[u8],
+    trace: &mut [u8],
+    snapshot: &mut [u8],
+    work: &mut [u8],
+    monitored: bool,
+) -> Answer
+    ensures { λ r. ⌜ Delivers (resultFor monitored (now (job .entry)) (sizesOf (buffers (now (trace .entry)) (now (snapshot .entry)) (now (work .entry))))) (buffers (now (trace .entry)) (now (snapshot .entry)) (now (work .entry))) (buffers (now (trace .exit)) (now (snapshot .exit)) (now (work .exit))) r ⌝ }
+{
+    let mut tables = [0u32; CELLS];
+    let verdict = judge(job, &mut tables, trace.len(), snapshot.len(), work.len());
+    match verdict {
+        Verdict::Refused(r) => Answer::Refused(r),
+        Verdict::Accepted => {
+            let ending = run_accepted(job, &tables, trace, snapshot, work, monitored);
+            Answer::Ended(ending)
+        }
+    }
+}
 
 // The monitored run (01's "watched").
 pub fn run_monitored(job: &[u8], trace: &mut [u8], snapshot: &mut [u8], work: &mut [u8]) -> Answer

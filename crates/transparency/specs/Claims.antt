@@ -10,7 +10,7 @@ use Rattle.model.specs.Refusal.{Refusal}
 use Rattle.model.specs.Result.{refused, report, monitored, unmonitored, Buffers, sizesOf}
 use Rattle.model.specs.Conclusion.{Refuses, Accepts, unmonitoredOf}
 use Rattle.model.specs.Transparency.{AllPermitted, FirstForbidden, stoppedAt}
-use Rattle.delivery.specs.Answers.{Told, answer, Call, call, Gives, Monitored, Unmonitored}
+use Rattle.run.specs.Answers.{Told, answer, Call, call, Gives, Monitored, Unmonitored}
 use Rattle.run.specs.Exported.{numbersIn, Exports}
 
 -- both calls of a job with these commands; `unmonitoredOf past` is the run that the turn rules make, permissions ignored

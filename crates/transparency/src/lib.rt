@@ -1,7 +1,7 @@
 // Both runs of a job compared (01's "Watched beside bare"), each with buffers of its own.
-ghost use Rattle.delivery.specs.Answers.{toldBy, buffers, call};
+ghost use Rattle.run.specs.Answers.{toldBy, buffers, call};
 ghost use Rattle.transparency.specs.Claims.{Compares};
-use delivery::answer::Answer;
+use run::answer::Answer;
 use run::run_monitored;
 use run::run_unmonitored;
 

@@ -4,8 +4,6 @@ use mathlib.Core.Path.{_≡_, refl, sym, ap, subst, _∙_}
 use mathlib.Core.Bool.{Bool, true, false}
 use mathlib.Core.List.{List, [], _∷_, _++_}
 use native.Mathlib.Omega.{arith}
-use types.Run.{OneOf}
-use denote.Enum.Declared.{tagOf}
 use lib.ListN.{length, getD, drop, length-append, length-map}
 use Rattle.model.specs.Table.{TURN}
 use Rattle.model.specs.Command.{Command}
@@ -22,15 +20,17 @@ use Rattle.model.proofs.Runs.{trace-snoc, entries-snoc, behind, behind-none, be
 use Rattle.model.proofs.Valid.{job-valid, limits}
 use Rattle.model.proofs.Ways.{Keeps}
 use Rattle.tables.specs.Tables.{countIn}
-use Rattle.queues.specs.Queues.{BoundedCounts}
+use Rattle.memory.specs.Queues.{BoundedCounts}
+use Rattle.command.specs.declared.instruction.Fetched.{Fetched}
+use Rattle.command.specs.Instructions.{fetchedOf, commandIn}
+use Rattle.handlers.specs.Loading.{handlersIn}
 use Rattle.job.specs.Prepared.{turnIn, Prepared}
 use Rattle.job.proofs.Prepared.{prepared}
 use Rattle.entries.specs.declared.Entry.{Entry}
 use Rattle.entries.specs.declared.Outcome.{Outcome}
 use Rattle.entries.specs.declared.Outcome.the-variants as o
-use Rattle.entries.specs.Entries.{numbersOf, turnedBy, stateAfter, Comes, ruleOf}
-use Rattle.entries.proofs.Outcome.{the-type}
-use Rattle.entries.proofs.Keys.{one-of}
+use Rattle.entries.specs.declared.Stop.{Stop}
+use Rattle.entries.specs.Entries.{numbersOf, stopNumber, attemptedBy, turnedBy, stateAfter, Comes, ruleOf}
 use Rattle.engine.specs.declared.State.{State}
 use Rattle.engine.specs.declared.Turned.{Turned}
 use Rattle.engine.specs.Engine.{view, Starts, Turns}
@@ -41,9 +41,9 @@ use Rattle.writing.proofs.Placing.{writes-on, writes-nothing, placed-front}
 use Rattle.output.specs.Written.{Narrow}
 use Rattle.turns.specs.declared.Ran.{Ran}
 use Rattle.turns.specs.declared.ending.Ending.{Ending}
-use Rattle.turns.specs.declared.ending.Stop.{Stop}
-use Rattle.turns.specs.declared.ending.Stop.the-variants as v
-use Rattle.turns.specs.Endings.{answerOf, answerBy, answerAt}
+use Rattle.turns.specs.declared.ending.Halt.{Halt}
+use Rattle.turns.specs.declared.ending.Halt.the-variants as v
+use Rattle.turns.specs.Endings.{answerOf, answerAt}
 use Rattle.turns.specs.Runs.{runOf, Loaded, RunsAs}
 use Rattle.turns.proofs.Narrow.{rule-narrow, placed-narrow}
 
@@ -59,28 +59,12 @@ pub record Underway (monitored : Bool) (past : List Command) (before : List ℕ)
   pub placed : Placed (programOf past) (view s)
 
 -- what the loop keeps: while it goes on, the run behind k turns; when it is left, the run that is over
-pub record Reached (monitored : Bool) (past : List Command) (before : List ℕ) (turns : ℕ) (trace : List ℕ) (s : State) (stop : Stop) (last at k : ℕ) : Type 0 where
+pub record Reached (monitored : Bool) (past : List Command) (before : List ℕ) (turns : ℕ) (trace : List ℕ) (s : State) (halt : Halt) (last at k : ℕ) : Type 0 where
   pub size : length trace ≡ length before
   pub all : k < last → last ≡ turns
-  pub never : k < last → stop ≡ v.Never
+  pub never : k < last → halt ≡ v.RanOut
   pub going : k < last → Underway monitored past before s trace at k
-  pub ended : last ≤ k → (x : Ending) → ((after : Meant) → answerOf x ≡ answerAt k stop after) → RunsAs (runOf monitored past) before trace (record { state = s; ending = x })
-
--- the outcomes that are stops
-abbrev pub stops : List ℕ
-stops = 1 ∷ 2 ∷ 3 ∷ []
-
--- a turn that is stopped
-pub record Halts (turned : Rule) : Type 0 where
-  pub stop : ℕ
-  pub attempted : Numbered
-  pub same : turned ≡ stopped stop attempted
-
-halts : (x : Outcome) (after : Meant) → OneOf stops (tagOf the-type x) → Halts (turnedBy x after)
-halts (o.Made x) after h = absurd (one-of stops 0 h)
-halts (o.Forbidden x) after h = record { stop = 1; attempted = numbersOf x; same = refl }
-halts (o.Unready n) after h = record { stop = 2; attempted = entry (n .0) 0 0 0; same = refl }
-halts (o.Full x) after h = record { stop = 3; attempted = numbersOf x; same = refl }
+  pub ended : last ≤ k → (x : Ending) → answerOf x ≡ answerAt k halt → RunsAs (runOf monitored past) before trace (record { state = s; ending = x })
 
 module _ (monitored : Bool) (job t w : List ℕ) (ready : Loaded job t w) where
   abbrev past : List Command
@@ -121,6 +105,9 @@ module _ (monitored : Bool) (job t w : List ℕ) (ready : Loaded job t w) where
   pub node-inside : (k : ℕ) → k < countIn t TURN → turnIn job t k < 32
   node-inside k h = meets .nodes k (omega (arith, prepares .turns))
 
+  pub position-narrow : {before : List ℕ} {s : State} {trace : List ℕ} {at k : ℕ} → Underway monitored past before s trace at k → (n : ℕ) → positionAt (view s) n < 256
+  position-narrow {s = s} u n = placed-narrow past (valid .commands) (view s) (u .placed) n
+
   pub turns-few : countIn t TURN ≤ 4096
   turns-few = omega (arith, ready .stands .counts TURN (omega arith), limits past (valid .commands) .turns)
 
@@ -141,12 +128,14 @@ module _ (monitored : Bool) (job t w : List ℕ) (ready : Loaded job t w) where
       }
 
   -- turn k of the loop
-  module _ (before : List ℕ) (s : State) (trace : List ℕ) (at k : ℕ) (u : Underway monitored past before s trace at k) (more : k < countIn t TURN) (n : ℕ) (node : n ≡ turnIn job t k) (turned : Turned) (turns : Turns t w n monitored s turned) where
+  module _ (before : List ℕ) (s : State) (trace : List ℕ) (at k : ℕ) (u : Underway monitored past before s trace at k) (more : k < countIn t TURN) (n : ℕ) (node : n ≡ turnIn job t k)
+      (fetched : Fetched) (at-position : fetchedOf fetched ≡ commandIn (handlersIn t w n) (positionAt (view s) n))
+      (turned : Turned) (turns : Turns t fetched n monitored s turned) where
     inside : k < length (turnsOf past)
     inside = omega (arith, prepares .turns)
 
     comes : Comes (view s) (rule (view s) n) (turned .outcome) (view (turned .state))
-    comes = meets .turn s n monitored turned turns
+    comes = meets .turn s fetched n monitored turned at-position turns
 
     named : n ≡ getD (turnsOf past) k 0
     named = node ∙ prepares .turn k inside
@@ -190,21 +179,20 @@ module _ (monitored : Bool) (job t w : List ℕ) (ready : Loaded job t w) where
 
     -- it was stopped
     pub underway-stopped :
-        OneOf stops (tagOf the-type (turned .outcome)) → (x : Ending) → ((after : Meant) → answerOf x ≡ answerBy k (turnedBy (turned .outcome) after))
+        (stop : Stop) → turned .outcome ≡ o.Stopped stop → (x : Ending) → answerOf x ≡ answerAt k (v.Stopped stop)
         → RunsAs (runOf monitored past) before trace (record { state = turned .state; ending = x })
-    underway-stopped stop x told =
-        let h = halts (turned .outcome) (view (turned .state)) stop in
-        let e : rule (view s) n ≡ stopped (h .stop) (h .attempted) = sym (comes .tells) ∙ h .same in
-        over u (record { state = turned .state; ending = x }) (h .stop) (h .attempted)
-        (u .same ∙ behind-stopped rule (turnsOf past) (u .done) k (view s) (h .stop) (h .attempted) inside (ap (rule (view s)) (sym named) ∙ e))
-        (comes .leaves ∙ ap (stateAfter (view s)) e) (turns .bounded) (told (view (turned .state)) ∙ ap (answerBy k) (h .same))
+    underway-stopped stop is x told =
+        let e : rule (view s) n ≡ stopped (stopNumber stop) (attemptedBy stop) = sym (comes .tells) ∙ ap (λ (y : Outcome). turnedBy y (view (turned .state))) is in
+        over u (record { state = turned .state; ending = x }) (stopNumber stop) (attemptedBy stop)
+        (u .same ∙ behind-stopped rule (turnsOf past) (u .done) k (view s) (stopNumber stop) (attemptedBy stop) inside (ap (rule (view s)) (sym named) ∙ e))
+        (comes .leaves ∙ ap (stateAfter (view s)) e) (turns .bounded) told
 
   -- behind the last turn the run is over
   pub reached :
       (before : List ℕ) (s : State) (trace : List ℕ) (at k turns last : ℕ) → last ≡ turns → turns ≡ countIn t TURN → k ≤ turns → Underway monitored past before s trace at k
-      → (stop : Stop) → stop ≡ v.Never
-      → Reached monitored past before turns trace s stop last at k
-  reached before s trace at k turns last same counted inside u stop none =
+      → (halt : Halt) → halt ≡ v.RanOut
+      → Reached monitored past before turns trace s halt last at k
+  reached before s trace at k turns last same counted inside u halt none =
       record {
         size = u .size;
         all = λ h. same;
@@ -213,13 +201,13 @@ module _ (monitored : Bool) (job t w : List ℕ) (ready : Loaded job t w) where
         ended = λ h x told.
             over u (record { state = s; ending = x }) 0 (entry 0 0 0 0)
             (u .same ∙ behind-ended rule (turnsOf past) (u .done) k (view s) (omega (arith, prepares .turns)))
-            refl (u .bounded) (told (view s) ∙ ap (λ (y : Stop). answerAt k y (view s)) none);
+            refl (u .bounded) (told ∙ ap (answerAt k) none);
       }
 
 -- the run is over at a stop
 pub halted :
-    (monitored : Bool) (past : List Command) (before : List ℕ) (turns : ℕ) (trace : List ℕ) (s : State) (stop : Stop) (at k : ℕ) → length trace ≡ length before
-    → ((x : Ending) → ((after : Meant) → answerOf x ≡ answerAt k stop after) → RunsAs (runOf monitored past) before trace (record { state = s; ending = x }))
-    → Reached monitored past before turns trace s stop k at k
-halted monitored past before turns trace s stop at k size r =
+    (monitored : Bool) (past : List Command) (before : List ℕ) (turns : ℕ) (trace : List ℕ) (s : State) (halt : Halt) (at k : ℕ) → length trace ≡ length before
+    → ((x : Ending) → answerOf x ≡ answerAt k halt → RunsAs (runOf monitored past) before trace (record { state = s; ending = x }))
+    → Reached monitored past before turns trace s halt k at k
+halted monitored past before turns trace s halt at k size r =
     record { size = size; all = λ h. absurd (omega (arith, h)); never = λ h. absurd (omega (arith, h)); going = λ h. absurd (omega (arith, h)); ended = λ h. r }

@@ -15,7 +15,7 @@ use Rattle.model.specs.Result.{written}
 use Rattle.model.specs.Valid.{Bytes}
 use Rattle.handlers.specs.Loading.{loaded}
 use Rattle.tables.specs.Stands.{Stands}
-use Rattle.queues.specs.Queues.{BoundedCounts}
+use Rattle.memory.specs.Queues.{BoundedCounts}
 use Rattle.entries.specs.Entries.{ruleOf}
 use Rattle.engine.specs.Engine.{view}
 use Rattle.output.specs.Written.{NarrowPositions}

@@ -1,10 +1,7 @@
 // How a run ends.
 ghost use mathlib.Core.Path.{_≡_};
-ghost use Rattle.model.specs.State.{State};
-ghost use Rattle.model.specs.Turn.{entry, stopped};
-ghost use Rattle.entries.specs.Entries.{turnedBy};
-ghost use Rattle.turns.specs.Endings.{answerOf, answerBy, answerAt};
-use entries::Outcome;
+ghost use Rattle.turns.specs.Endings.{answerOf, answerAt, withoutEntry};
+use entries::Stop;
 use output::numbers::Numbers;
 use output::numbers::numbers_of;
 
@@ -15,15 +12,15 @@ pub struct Ending {
     pub attempted: Numbers,
 }
 
-// Whether a turn stopped the run, and what that turn came to.
-pub enum Stop {
-    Never,
-    At(Outcome),
+// Why a run is over: its turns ran out, or a turn was stopped.
+pub enum Halt {
+    RanOut,
+    Stopped(Stop),
 }
 
 // The ending with a stop; of the attempted entry there is no more than the node.
 fn without_entry(stop: u32, turns: u32, node: u32) -> Ending
-    ensures { λ r. ⌜ answerOf r ≡ answerBy turns (stopped stop (entry node 0 0 0)) ⌝ }
+    ensures { λ r. ⌜ answerOf r ≡ withoutEntry stop turns node ⌝ }
 {
     Ending {
         stop: stop,
@@ -37,19 +34,18 @@ fn without_entry(stop: u32, turns: u32, node: u32) -> Ending
     }
 }
 
-// How a run ends that a turn stopped so, behind so many turns. No run is stopped by a turn that made its entry: that case is told as stop 0.
-fn ending_by(outcome: Outcome, turns: u32) -> Ending
-    ensures { λ r. ⌜ ((after : State) → answerOf r ≡ answerBy turns (turnedBy outcome after)) ⌝ }
+// How a run ends that is stopped so, after this many completed turns.
+fn ending_by(stop: Stop, turns: u32) -> Ending
+    ensures { λ r. ⌜ answerOf r ≡ answerAt turns (Halt.Stopped stop) ⌝ }
 {
-    match outcome {
-        Outcome::Made(_) => without_entry(0, turns, 0),
-        Outcome::Forbidden(entry) => Ending {
+    match stop {
+        Stop::Forbidden(entry) => Ending {
             stop: 1,
             turns: turns,
             attempted: numbers_of(entry),
         },
-        Outcome::Unready(n) => without_entry(2, turns, n.0),
-        Outcome::Full(entry) => Ending {
+        Stop::Unready(n) => without_entry(2, turns, n.0),
+        Stop::Full(entry) => Ending {
             stop: 3,
             turns: turns,
             attempted: numbers_of(entry),
@@ -57,12 +53,12 @@ fn ending_by(outcome: Outcome, turns: u32) -> Ending
     }
 }
 
-// How a run ends behind so many turns.
-pub fn ending_of(stop: Stop, turns: u32) -> Ending
-    ensures { λ r. ⌜ ((after : State) → answerOf r ≡ answerAt turns stop after) ⌝ }
+// How a run ends after this many completed turns.
+pub fn ending_of(halt: Halt, turns: u32) -> Ending
+    ensures { λ r. ⌜ answerOf r ≡ answerAt turns halt ⌝ }
 {
-    match stop {
-        Stop::Never => without_entry(0, turns, 0),
-        Stop::At(outcome) => ending_by(outcome, turns),
+    match halt {
+        Halt::RanOut => without_entry(0, turns, 0),
+        Halt::Stopped(stop) => ending_by(stop, turns),
     }
 }

@@ -13,11 +13,12 @@ ghost use Rattle.turns.specs.Runs.{Loaded, runOf, RunsAs};
 use command::bytes;
 use declared::count_of;
 use ending::Ending;
-use ending::Stop;
+use ending::Halt;
 use ending::ending_of;
 use engine::State;
 use engine::start;
 use entries::Outcome;
+use handlers::fetch::fetch;
 use job::turns::turn_at;
 use output::numbers::numbers_of;
 use output::trace::put_entry;
@@ -36,25 +37,30 @@ pub fn run_turns(job: &[u8], tables: &[u32], work: &[u8], trace: &mut [u8], moni
 {
     let turns = count_of(tables, bytes::TURN);
     let mut s = start(tables);
-    let mut stop = Stop::Never;
+    let mut halt = Halt::RanOut;
     let mut last = turns;
     let mut at: usize = 0;
     let mut k: u32 = 0;
     while k < last {
         let n = turn_at(job, tables, k);
-        let turned = s.turn(tables, work, n, monitored);
+        let i = n.0 as usize;
+        let fetched = fetch(tables, work, n, s.position[i]);
+        let turned = s.turn(tables, fetched, n, monitored);
         s = turned.state;
         let outcome = turned.outcome;
-        if let Outcome::Made(entry) = outcome {
-            at = put_entry(trace, at, numbers_of(entry));
-            k += 1;
-        } else {
-            stop = Stop::At(outcome);
-            last = k;
+        match outcome {
+            Outcome::Made(entry) => {
+                at = put_entry(trace, at, numbers_of(entry));
+                k += 1;
+            }
+            Outcome::Stopped(stop) => {
+                halt = Halt::Stopped(stop);
+                last = k;
+            }
         }
     }
     Ran {
         state: s,
-        ending: ending_of(stop, k),
+        ending: ending_of(halt, k),
     }
 }

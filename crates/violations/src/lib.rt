@@ -136,7 +136,7 @@ fn is_repeated(tables: &[u32], c: Command) -> bool
     let n = NodeNum(c.first);
     let b = c.byte;
     match b {
-        bytes::WIRE => allowlists::is_wired(tables, n, c.second, NodeNum(c.third)),
+        bytes::WIRE => declared::is_wired(tables, n, c.second, NodeNum(c.third)),
         bytes::ANY => allowlists::may_call_any(tables, n, FunNum(c.second)),
         bytes::ARG => allowlists::may_call_with(tables, n, FunNum(c.second), c.third),
         bytes::READ => allowlists::may_read(tables, n, VarNum(c.second)),

@@ -1,7 +1,7 @@
 -- `engine::start` meets its contract.
 use borrow.Author.Needs.{needs}
 use Rattle.model.specs.State.{initialState}
-use Rattle.job.specs.Prepared.{programIn}
+use Rattle.tables.specs.Programs.{programIn}
 use Rattle.engine.proofs.start.Statement.{statement}
 use Rattle.engine.proofs.start.Tie as tie
 
@@ -15,7 +15,7 @@ returns : tie.Need-returns
 unfolding initialState programIn
 returns c =
     let q = c .before .before .fill-queues .ensures in
-    record { bounded = q .bounded; start = λ w. rw (q .same, c .fill-variables .ensures) }
+    record { bounded = q .bounded; start = λ hs. rw (q .same, c .fill-variables .ensures) }
 
 pub start-spec : {M : Type 1} → statement M
 start-spec = tie.close (tie.spec fill-queues-requires fill-variables-requires returns)

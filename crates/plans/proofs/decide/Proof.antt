@@ -2,8 +2,8 @@
 use mathlib.Core.Path.{sym, _∙_, ap}
 use denote.Ref.{now}
 use borrow.Author.Needs.{needs}
-use Rattle.job.specs.Prepared.{programIn}
-use Rattle.effects.specs.declared.Registers.{Registers}
+use Rattle.tables.specs.Programs.{programIn}
+use Rattle.memory.specs.declared.Registers.{Registers}
 use Rattle.effects.proofs.Carrying.{does-at}
 use Rattle.plans.proofs.Deciding.{forbidden-planned, full-planned, made-by}
 use Rattle.plans.proofs.decide.Statement.{statement}
@@ -28,11 +28,11 @@ planned-requires : tie.Need-planned-requires
 planned-requires c κs = search needs
 
 returns : tie.Need-returns
-returns c w s h counts =
+returns c hs s h counts =
     let a = c .before .before .before .before .before .before .before .before .before .args in
-    let left = c .before .before .before .before .before .before .event-of .ensures w s (a .n .0) (ap (λ (o : Registers). o .accumulator) (h .own)) (h .variables) in
+    let left = c .before .before .before .before .before .before .event-of .ensures hs s (a .n .0) (ap (λ (o : Registers). o .accumulator) (h .own)) (h .variables) in
     rw (c .planned .ensures, c .before .make-entry .ensures)
-    (forbidden-planned (programIn (now (a .tables)) w) s (a .n) (a .monitored) (a .instruction) (c .before .before .before .before .before .before .event-of .result) left (a .registers) (h .own) (sym (c .before .before .before .before .is-forbidden .ensures w) ∙ c .before .before .before .if1 .taken) (c .before .before .redact .result) (c .before .before .redact .ensures (a .n .0)))
+    (forbidden-planned (programIn (now (a .tables)) hs) s (a .n) (a .monitored) (a .instruction) (c .before .before .before .before .before .before .event-of .result) left (a .registers) (h .own) (sym (c .before .before .before .before .is-forbidden .ensures hs) ∙ c .before .before .before .if1 .taken) (c .before .before .redact .result) (c .before .before .redact .ensures (a .n .0)))
 
 make-entry-requires-2 : tie.Need-make-entry-requires-2
 make-entry-requires-2 c κs = search needs
@@ -44,21 +44,21 @@ planned-requires-2 : tie.Need-planned-requires-2
 planned-requires-2 c κs = search needs
 
 returns-2 : tie.Need-returns-2
-returns-2 c w s h counts =
+returns-2 c hs s h counts =
     let a = c .before .before .before .before .before .before .before .before .before .before .args in
-    let left = c .before .before .before .before .before .before .before .event-of .ensures w s (a .n .0) (ap (λ (o : Registers). o .accumulator) (h .own)) (h .variables) in
+    let left = c .before .before .before .before .before .before .before .event-of .ensures hs s (a .n .0) (ap (λ (o : Registers). o .accumulator) (h .own)) (h .variables) in
     rw (c .planned2 .ensures, c .before .before .before .make-entry2 .ensures)
-    (full-planned (programIn (now (a .tables)) w) s (a .n) (a .monitored) (a .instruction) (c .before .before .before .before .before .before .before .event-of .result) left (a .registers) (h .own) (sym (c .before .before .blocks2 .ensures w s counts) ∙ c .before .if2 .taken))
+    (full-planned (programIn (now (a .tables)) hs) s (a .n) (a .monitored) (a .instruction) (c .before .before .before .before .before .before .before .event-of .result) left (a .registers) (h .own) (sym (c .before .before .blocks2 .ensures hs s counts) ∙ c .before .if2 .taken))
 
 planned-requires-3 : tie.Need-planned-requires-3
 planned-requires-3 c κs = search needs
 
 returns-3 : tie.Need-returns-3
-returns-3 c w s h counts =
+returns-3 c hs s h counts =
     let a = c .before .before .before .before .before .before .before .before .before .before .args in
-    let left = c .before .before .before .before .before .before .before .event-of .ensures w s (a .n .0) (ap (λ (o : Registers). o .accumulator) (h .own)) (h .variables) in
+    let left = c .before .before .before .before .before .before .before .event-of .ensures hs s (a .n .0) (ap (λ (o : Registers). o .accumulator) (h .own)) (h .variables) in
     rw (c .planned3 .ensures, c .before .before .before .make-entry2 .ensures)
-    (made-by (programIn (now (a .tables)) w) s (a .n) (a .monitored) (a .instruction) (c .before .before .before .before .before .before .before .event-of .result) left (sym (c .before .before .before .before .before .is-forbidden .ensures w) ∙ c .before .before .before .before .if1 .left) (sym (c .before .before .blocks2 .ensures w s counts) ∙ c .before .if2 .left) (c .before .before .before .before .before .before .effect-of .result) (does-at _ _ _ _ _ (c .before .before .before .before .before .before .effect-of .ensures) w s (a .n .0) h))
+    (made-by (programIn (now (a .tables)) hs) s (a .n) (a .monitored) (a .instruction) (c .before .before .before .before .before .before .before .event-of .result) left (sym (c .before .before .before .before .before .is-forbidden .ensures hs) ∙ c .before .before .before .before .if1 .left) (sym (c .before .before .blocks2 .ensures hs s counts) ∙ c .before .if2 .left) (c .before .before .before .before .before .before .effect-of .result) (does-at _ _ _ _ _ (c .before .before .before .before .before .before .effect-of .ensures) hs s (a .n .0) h))
 
 pub decide-spec : {M : Type 1} → statement M
 decide-spec =

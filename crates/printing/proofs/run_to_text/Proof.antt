@@ -3,7 +3,7 @@ use mathlib.Core.Path.{ap}
 use native.Mathlib.Omega.{arith}
 use denote.Ref.{now}
 use borrow.Author.Needs.{needs}
-use Rattle.delivery.specs.Answers.{buffers}
+use Rattle.run.specs.Answers.{buffers}
 use Rattle.printing.specs.Printing.{resultLines}
 use Rattle.printing.proofs.Outcomes.{refused-result, ended-as, is-accepted, trace-inside, snapshot-inside, lines-short, lines-same}
 use Rattle.printing.proofs.Short.{refused-short}

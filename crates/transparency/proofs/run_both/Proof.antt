@@ -1,7 +1,7 @@
 -- `transparency::run_both` meets its contract.
 use denote.Ref.{now}
 use borrow.Author.Needs.{needs}
-use Rattle.delivery.specs.Answers.{buffers, call}
+use Rattle.run.specs.Answers.{buffers, call}
 use Rattle.transparency.proofs.Claims.{compares}
 use Rattle.transparency.proofs.run_both.Statement.{statement}
 use Rattle.transparency.proofs.run_both.Tie as tie

@@ -10,15 +10,17 @@ use Rattle.model.specs.Command.{Command}
 use Rattle.tables.specs.Tables.{countIn}
 use Rattle.output.specs.Written.{entryWith, Narrow}
 use Rattle.turns.specs.Runs.{Loaded, runOf, RunsAs}
-use Rattle.turns.proofs.Running.{Reached, underway-none, node-inside, turns-few, made-narrow, underway-next, underway-stopped, reached, halted}
+use Rattle.turns.proofs.Running.{Reached, underway-none, node-inside, position-narrow, turns-few, made-narrow, underway-next, underway-stopped}
+use Rattle.turns.proofs.Running.{reached, halted}
 use Rattle.turns.proofs.run_turns.Statement.{statement}
 use Rattle.turns.proofs.run_turns.Tie as tie
 
 abbrev Inv-loop : tie.InvT-loop
-Inv-loop job t work trace₀ monitored turns s₀ stop₀ last₀ at₀ k₀ trace s stop last at k = (ready : Loaded job t work) → Reached monitored (ready .past) trace₀ turns trace s stop last at k
+Inv-loop job t work trace₀ monitored turns s₀ halt₀ last₀ at₀ k₀ trace s halt last at k =
+    (ready : Loaded job t work) → Reached monitored (ready .past) trace₀ turns trace s halt last at k
 
 abbrev μ-loop : tie.MeasureT-loop
-μ-loop job t work trace₀ monitored turns s₀ stop₀ last₀ at₀ k₀ trace s stop last at k = last - k
+μ-loop job t work trace₀ monitored turns s₀ halt₀ last₀ at₀ k₀ trace s halt last at k = last - k
 
 count-of-requires : tie.Need-count-of-requires Inv-loop μ-loop
 count-of-requires c κs = search needs
@@ -36,13 +38,32 @@ loop-holds c =
 turn-at-requires : tie.Need-turn-at-requires Inv-loop μ-loop
 turn-at-requires c κs = search needs
 
+cast-i : tie.Need-cast-i Inv-loop μ-loop
+cast-i c = search needs
+
+mul-fetch : tie.Need-mul-fetch Inv-loop μ-loop
+mul-fetch c = search needs
+
+element-copy-out-fetch : tie.Need-element-copy-out-fetch Inv-loop μ-loop
+element-copy-out-fetch c =
+    let a = c .before .before .before .before .before .before .before .before .before .before .args in
+    let ready = c .before .before .before .before .before .before .before .before .before .before .pre .0 in
+    let l = c .before .before .before .loop in
+    let h : l .k < l .last = omega (arith, c .before .before .loop-test .taken) in
+    omega (arith, c .before .turn-at .ensures, node-inside (a .monitored) (now (a .job)) (now (a .tables)) (now (a .work)) ready (l .k) (omega (arith, h, l .inv ready .all h, c .before .before .before .before .before .count-of .ensures)))
+
+fetch-requires : tie.Need-fetch-requires Inv-loop μ-loop
+fetch-requires c κs = search needs
+
 turn-requires : tie.Need-turn-requires Inv-loop μ-loop
 turn-requires c κs =
-    let a = c .before .before .before .before .before .before .before .before .before .args in
-    let ready = c .before .before .before .before .before .before .before .before .before .pre .0 in
-    let l = c .before .before .loop in
-    let h : l .k < l .last = omega (arith, c .before .loop-test .taken) in
-    (l .inv ready .going h .bounded, omega (arith, c .turn-at .ensures, node-inside (a .monitored) (now (a .job)) (now (a .tables)) (now (a .work)) ready (l .k) (omega (arith, h, l .inv ready .all h, c .before .before .before .before .count-of .ensures))))
+    let a = c .before .before .before .before .before .before .before .before .before .before .before .before .args in
+    let ready = c .before .before .before .before .before .before .before .before .before .before .before .before .pre .0 in
+    let l = c .before .before .before .before .before .loop in
+    let h : l .k < l .last = omega (arith, c .before .before .before .before .loop-test .taken) in
+    let u = l .inv ready .going h in
+    let inside = node-inside (a .monitored) (now (a .job)) (now (a .tables)) (now (a .work)) ready (l .k) (omega (arith, h, l .inv ready .all h, c .before .before .before .before .before .before .before .count-of .ensures)) in
+    (u .bounded, (omega (arith, c .before .before .before .turn-at .ensures, inside), position-narrow (a .monitored) (now (a .job)) (now (a .tables)) (now (a .work)) ready u _))
 
 enum-known-outcome : tie.Need-enum-known-outcome Inv-loop μ-loop
 enum-known-outcome c = search needs
@@ -52,51 +73,60 @@ numbers-of-requires c κs = search needs
 
 put-entry-requires : tie.Need-put-entry-requires Inv-loop μ-loop
 put-entry-requires c κs =
-    let a = c .before .before .before .before .before .before .before .before .before .before .before .before .before .before .before .before .args in
-    let ready = c .before .before .before .before .before .before .before .before .before .before .before .before .before .before .before .before .pre .0 in
-    let l = c .before .before .before .before .before .before .before .before .before .loop in
-    let h : l .k < l .last = omega (arith, c .before .before .before .before .before .before .before .before .loop-test .taken) in
-    let u = l .inv ready .going h in
-    let more : l .k < countIn (now (a .tables)) TURN = omega (arith, h, l .inv ready .all h, c .before .before .before .before .before .before .before .before .before .before .before .count-of .ensures) in
-    let e = c .numbers-of .ensures in
-    (omega (arith, more, u .place, u .size, c .before .before .before .before .before .before .before .before .before .before .before .before .before .before .before .before .pre .1), subst Narrow (sym e) (made-narrow (a .monitored) (now (a .job)) (now (a .tables)) (now (a .work)) ready _ (l .s) (l .trace) (l .at) (l .k) u more _ (c .before .before .before .before .before .before .before .turn-at .ensures) (c .before .before .before .before .before .before .turn .result) (c .before .before .before .before .before .before .turn .ensures) _ (c .before .before .before .outcome .given .1)))
-
-add-k : tie.Need-add-k Inv-loop μ-loop
-add-k c =
     let a = c .before .before .before .before .before .before .before .before .before .before .before .before .before .before .before .before .before .before .before .args in
     let ready = c .before .before .before .before .before .before .before .before .before .before .before .before .before .before .before .before .before .before .before .pre .0 in
     let l = c .before .before .before .before .before .before .before .before .before .before .before .before .loop in
     let h : l .k < l .last = omega (arith, c .before .before .before .before .before .before .before .before .before .before .before .loop-test .taken) in
-    omega (arith, h, l .inv ready .all h, c .before .before .before .before .before .before .before .before .before .before .before .before .before .before .count-of .ensures, turns-few (a .monitored) (now (a .job)) (now (a .tables)) (now (a .work)) ready)
+    let u = l .inv ready .going h in
+    let more : l .k < countIn (now (a .tables)) TURN = omega (arith, h, l .inv ready .all h, c .before .before .before .before .before .before .before .before .before .before .before .before .before .before .count-of .ensures) in (
+      omega (arith, more, u .place, u .size, c .before .before .before .before .before .before .before .before .before .before .before .before .before .before .before .before .before .before .before .pre .1),
+      subst Narrow (sym (c .numbers-of .ensures))
+          (made-narrow (a .monitored) (now (a .job)) (now (a .tables)) (now (a .work)) ready _ (l .s) (l .trace) (l .at) (l .k) u more _ (c .before .before .before .before .before .before .before .before .before .before .turn-at .ensures)
+          (c .before .before .before .before .before .before .before .fetch .result) (c .before .before .before .before .before .before .before .fetch .ensures) (c .before .before .before .before .before .before .turn .result) (c .before .before .before .before .before .before .turn .ensures) _ (c .before .before .before .outcome .given .1)),
+    )
+
+add-k : tie.Need-add-k Inv-loop μ-loop
+add-k c =
+    let a = c .before .before .before .before .before .before .before .before .before .before .before .before .before .before .before .before .before .before .before .before .before .before .args in
+    let ready = c .before .before .before .before .before .before .before .before .before .before .before .before .before .before .before .before .before .before .before .before .before .before .pre .0 in
+    let l = c .before .before .before .before .before .before .before .before .before .before .before .before .before .before .before .loop in
+    let h : l .k < l .last = omega (arith, c .before .before .before .before .before .before .before .before .before .before .before .before .before .before .loop-test .taken) in
+    omega (arith, h, l .inv ready .all h, c .before .before .before .before .before .before .before .before .before .before .before .before .before .before .before .before .before .count-of .ensures, turns-few (a .monitored) (now (a .job)) (now (a .tables)) (now (a .work)) ready)
 
 loop-less : tie.Need-loop-less Inv-loop μ-loop
 loop-less c = search needs
 
 loop-again : tie.Need-loop-again Inv-loop μ-loop
 loop-again c =
-    let a = c .before .before .before .before .before .before .before .before .before .before .before .before .before .before .before .before .before .before .before .args in
-    let l = c .before .before .before .before .before .before .before .before .before .before .before .before .loop in
-    let h : l .k < l .last = omega (arith, c .before .before .before .before .before .before .before .before .before .before .before .loop-test .taken) in
-    let e = c .before .before .before .numbers-of .ensures in
+    let a = c .before .before .before .before .before .before .before .before .before .before .before .before .before .before .before .before .before .before .before .before .before .before .args in
+    let l = c .before .before .before .before .before .before .before .before .before .before .before .before .before .before .before .loop in
+    let h : l .k < l .last = omega (arith, c .before .before .before .before .before .before .before .before .before .before .before .before .before .before .loop-test .taken) in
+    let counted = c .before .before .before .before .before .before .before .before .before .before .before .before .before .before .before .before .before .count-of .ensures in
     λ ready.
     let r = l .inv ready in
-    let more : l .k < countIn (now (a .tables)) TURN = omega (arith, h, r .all h, c .before .before .before .before .before .before .before .before .before .before .before .before .before .before .count-of .ensures) in
-    reached (a .monitored) (now (a .job)) (now (a .tables)) (now (a .work)) ready _ _ _ _ _ _ (l .last) (r .all h) (c .before .before .before .before .before .before .before .before .before .before .before .before .before .before .count-of .ensures) (omega (arith, h, r .all h))
-    (underway-next (a .monitored) (now (a .job)) (now (a .tables)) (now (a .work)) ready _ (l .s) (l .trace) (l .at) (l .k) (r .going h) more _ (c .before .before .before .before .before .before .before .before .before .before .turn-at .ensures) (c .before .before .before .before .before .before .before .before .before .turn .result) (c .before .before .before .before .before .before .before .before .before .turn .ensures) _ (c .before .before .before .before .before .before .outcome .given .1) (entryWith (c .before .before .before .numbers-of .result)) e _ _ (c .before .before .before .before .before .before .before .before .before .before .before .before .before .before .before .before .before .before .before .pre .1) (search needs) (c .before .before .put-entry .ensures)) _ (r .never h)
+    let more : l .k < countIn (now (a .tables)) TURN = omega (arith, h, r .all h, counted) in
+    reached (a .monitored) (now (a .job)) (now (a .tables)) (now (a .work)) ready _ _ _ _ _ _ (l .last) (r .all h) counted (omega (arith, h, r .all h))
+    (underway-next (a .monitored) (now (a .job)) (now (a .tables)) (now (a .work)) ready _ (l .s) (l .trace) (l .at) (l .k) (r .going h) more _ (c .before .before .before .before .before .before .before .before .before .before .before .before .before .turn-at .ensures)
+    (c .before .before .before .before .before .before .before .before .before .before .fetch .result) (c .before .before .before .before .before .before .before .before .before .before .fetch .ensures) (c .before .before .before .before .before .before .before .before .before .turn .result) (c .before .before .before .before .before .before .before .before .before .turn .ensures) _ (c .before .before .before .before .before .before .outcome .given .1)
+    (entryWith (c .before .before .before .numbers-of .result)) (c .before .before .before .numbers-of .ensures) _ _ (c .before .before .before .before .before .before .before .before .before .before .before .before .before .before .before .before .before .before .before .before .before .before .pre .1) (search needs) (c .before .before .put-entry .ensures)) _ (r .never h)
+
+enum-known-outcome-2 : tie.Need-enum-known-outcome-2 Inv-loop μ-loop
+enum-known-outcome-2 c = search needs
 
 loop-less-2 : tie.Need-loop-less-2 Inv-loop μ-loop
-loop-less-2 c = omega (arith, c .before .before .before .before .loop-test .taken)
+loop-less-2 c = omega (arith, c .before .before .before .before .before .before .before .before .before .loop-test .taken)
 
 loop-again-2 : tie.Need-loop-again-2 Inv-loop μ-loop
 loop-again-2 c =
-    let a = c .before .before .before .before .before .before .before .before .before .before .before .before .args in
-    let l = c .before .before .before .before .before .loop in
-    let h : l .k < l .last = omega (arith, c .before .before .before .before .loop-test .taken) in
+    let a = c .before .before .before .before .before .before .before .before .before .before .before .before .before .before .before .before .before .args in
+    let l = c .before .before .before .before .before .before .before .before .before .before .loop in
+    let h : l .k < l .last = omega (arith, c .before .before .before .before .before .before .before .before .before .loop-test .taken) in
     λ ready.
     let r = l .inv ready in
-    let more : l .k < countIn (now (a .tables)) TURN = omega (arith, h, r .all h, c .before .before .before .before .before .before .before .count-of .ensures) in
+    let more : l .k < countIn (now (a .tables)) TURN = omega (arith, h, r .all h, c .before .before .before .before .before .before .before .before .before .before .before .before .count-of .ensures) in
     halted (a .monitored) _ _ _ _ _ _ _ _ (r .size)
-    (underway-stopped (a .monitored) (now (a .job)) (now (a .tables)) (now (a .work)) ready _ (l .s) (l .trace) (l .at) (l .k) (r .going h) more _ (c .before .before .before .turn-at .ensures) (c .before .before .turn .result) (c .before .before .turn .ensures) (c .match .keys2))
+    (underway-stopped (a .monitored) (now (a .job)) (now (a .tables)) (now (a .work)) ready _ (l .s) (l .trace) (l .at) (l .k) (r .going h) more _ (c .before .before .before .before .before .before .before .before .turn-at .ensures)
+    (c .before .before .before .before .before .fetch .result) (c .before .before .before .before .before .fetch .ensures) (c .before .before .before .before .turn .result) (c .before .before .before .before .turn .ensures) _ (c .before .outcome2 .given .1))
 
 ending-of-requires : tie.Need-ending-of-requires Inv-loop μ-loop
 ending-of-requires c κs = search needs
@@ -124,6 +154,10 @@ run-turns-spec =
     start-requires
     loop-holds
     turn-at-requires
+    cast-i
+    mul-fetch
+    element-copy-out-fetch
+    fetch-requires
     turn-requires
     enum-known-outcome
     numbers-of-requires
@@ -131,6 +165,7 @@ run-turns-spec =
     add-k
     loop-less
     loop-again
+    enum-known-outcome-2
     loop-less-2
     loop-again-2
     ending-of-requires

@@ -7,7 +7,7 @@ use borrow.Author.Needs.{needs}
 use Rattle.model.specs.Refusal.{decodeJob}
 use Rattle.model.proofs.Reading.{read-at}
 use Rattle.command.proofs.Taken.{reads-whole, reads-refused}
-use Rattle.handlers.specs.Loading.{commandsOf}
+use Rattle.model.specs.Refusal.{commandsOf}
 use Rattle.handlers.proofs.Slots.{length-loaded}
 use Rattle.handlers.proofs.Keeping.{accepted-is, Keeping, keeping-start, keeping-end, keeping-open, keeping-position, keeping-reads, keeping-on}
 use Rattle.handlers.proofs.load.load.Statement.{statement}

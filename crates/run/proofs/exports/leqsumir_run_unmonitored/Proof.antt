@@ -1,6 +1,6 @@
 -- `run::exports::leqsumir_run_unmonitored` meets its contract.
 use borrow.Author.Needs.{needs}
-use Rattle.delivery.specs.Answers.{buffers}
+use Rattle.run.specs.Answers.{buffers}
 use Rattle.run.proofs.Exporting.{exports-numbers}
 use Rattle.run.proofs.exports.leqsumir_run_unmonitored.Statement.{statement}
 use Rattle.run.proofs.exports.leqsumir_run_unmonitored.Tie as tie

@@ -10,17 +10,17 @@ enum-told c = search needs
 without-entry-requires : tie.Need-without-entry-requires
 without-entry-requires c κs = search needs
 
-enum-known-stop : tie.Need-enum-known-stop
-enum-known-stop c = search needs
+enum-known-halt : tie.Need-enum-known-halt
+enum-known-halt c = search needs
 
 ending-by-requires : tie.Need-ending-by-requires
 ending-by-requires c κs = search needs
 
 returns : tie.Need-returns
-returns c after = c .without-entry .ensures ∙ rw (c .before .enum-told .given .1)
+returns c = c .without-entry .ensures ∙ rw (c .before .enum-told .given .1)
 
 returns-2 : tie.Need-returns-2
-returns-2 c after = c .ending-by .ensures after ∙ rw (c .before .before .stop .given .1)
+returns-2 c = c .ending-by .ensures ∙ rw (c .before .before .halt .given .1)
 
 pub ending-of-spec : {M : Type 1} → statement M
 ending-of-spec =
@@ -28,7 +28,7 @@ ending-of-spec =
     (tie.spec
     enum-told
     without-entry-requires
-    enum-known-stop
+    enum-known-halt
     ending-by-requires
     returns
     returns-2)

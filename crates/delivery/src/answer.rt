@@ -1,9 +1,0 @@
-// What a run answers.
-use command::read::Refusal;
-use turns::ending::Ending;
-
-// The answer to a job: its refusal, or how its run ended.
-pub enum Answer {
-    Refused(Refusal),
-    Ended(Ending),
-}

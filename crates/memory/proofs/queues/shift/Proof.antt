@@ -1,0 +1,72 @@
+-- `memory::queues::shift` meets its contract.
+use Prim.Native.Nat.{_-_, _≤_}
+use mathlib.Core.Path.{_≡_, _∙_, ap}
+use native.Mathlib.Omega.{arith}
+use denote.Ref.{now}
+use borrow.Author.Needs.{needs}
+use Rattle.memory.specs.Queues.{shifted}
+use Rattle.memory.proofs.Waiting.{shifted-none, shifted-more}
+use Rattle.memory.proofs.queues.shift.Statement.{statement}
+use Rattle.memory.proofs.queues.shift.Tie as tie
+
+abbrev Inv-loop : tie.InvT-loop
+Inv-loop queue₀ base k₀ queue k = (k ≤ 15) × (queue ≡ shifted queue₀ base k)
+
+abbrev μ-loop : tie.MeasureT-loop
+μ-loop queue₀ base k₀ queue k = 15 - k
+
+loop-holds : tie.Need-loop-holds Inv-loop μ-loop
+loop-holds c = (omega arith, shifted-none _ _)
+
+add-at : tie.Need-add-at Inv-loop μ-loop
+add-at c = search needs
+
+add-queue : tie.Need-add-queue Inv-loop μ-loop
+add-queue c = search needs
+
+mul-queue : tie.Need-mul-queue Inv-loop μ-loop
+mul-queue c = search needs
+
+element-copy-out-queue : tie.Need-element-copy-out-queue Inv-loop μ-loop
+element-copy-out-queue c = search needs
+
+mul-queue-2 : tie.Need-mul-queue-2 Inv-loop μ-loop
+mul-queue-2 c = search needs
+
+element-write-queue : tie.Need-element-write-queue Inv-loop μ-loop
+element-write-queue c = search needs
+
+add-k : tie.Need-add-k Inv-loop μ-loop
+add-k c = search needs
+
+loop-less : tie.Need-loop-less Inv-loop μ-loop
+loop-less c = search needs
+
+loop-again : tie.Need-loop-again Inv-loop μ-loop
+loop-again c =
+    let a = c .before .before .before .args in
+    let l = c .before .before .loop in
+    (omega arith, rw (l .inv .1) (shifted-more (now (a .queue)) (a .base) (l .k) (omega arith)))
+
+returns : tie.Need-returns Inv-loop μ-loop
+returns c =
+    let a = c .before .before .args in
+    c .before .loop .inv .1 ∙ ap (shifted (now (a .queue)) (a .base)) (omega arith)
+
+pub shift-spec : {M : Type 1} → statement M
+shift-spec =
+    tie.close
+    (tie.spec
+    Inv-loop
+    μ-loop
+    loop-holds
+    add-at
+    add-queue
+    mul-queue
+    element-copy-out-queue
+    mul-queue-2
+    element-write-queue
+    add-k
+    loop-less
+    loop-again
+    returns)

@@ -1,0 +1,68 @@
+-- The code's answers in document 01's numbers, and what an entry point leaves.
+use Prim.Native.Nat.{ℕ}
+use mathlib.Core.Path.{_≡_}
+use mathlib.Core.Bool.{Bool, true, false}
+use mathlib.Core.List.{List}
+use Rattle.model.specs.Output.{Answer as Meant}
+use Rattle.model.specs.Refusal.{Refusal, Sizes}
+use Rattle.model.specs.Result.{Result, refused, ran, monitored, unmonitored, Buffers, sizesOf, traceAfter, snapshotAfter, workAfter}
+use Rattle.command.specs.Reading.{refusalOf}
+use Rattle.turns.specs.Endings.{answerOf}
+use Rattle.run.specs.declared.answer.Answer.{Answer}
+use Rattle.run.specs.declared.answer.Answer.the-variants as a
+
+-- what is told: number and place of a refusal, or stop, completed turns and attempted entry
+pub data Told : Type 0 where
+  refusal : Refusal → Told
+  answer : Meant → Told
+
+-- what each of the code's answers tells
+abbrev pub toldBy : Answer → Told
+toldBy (a.Refused r) = refusal (refusalOf r)
+toldBy (a.Ended x) = answer (answerOf x)
+
+-- what the model's result tells
+abbrev pub toldIn : Result → Told
+toldIn (refused r) = refusal r
+toldIn (ran x trace snapshot) = answer x
+
+-- the model's result of a job with buffers of these lengths, monitored ("watched") or not ("bare")
+abbrev pub resultFor : Bool → List ℕ → Sizes → Result
+resultFor true job b = monitored job b
+resultFor false job b = unmonitored job b
+
+-- the three buffers with what they hold
+abbrev pub buffers : List ℕ → List ℕ → List ℕ → Buffers
+buffers trace snapshot work = record { trace = trace; snapshot = snapshot; work = work }
+
+-- the three buffers afterwards are those of a result
+pub record BuffersAfter (result : Result) (before after : Buffers) : Type 0 where
+  pub trace : after .trace ≡ traceAfter result (before .trace)
+  pub snapshot : after .snapshot ≡ snapshotAfter result (before .snapshot)
+  pub work : after .work ≡ workAfter result (before .work)
+
+-- a call: the buffers before and after it, and what it tells
+pub record Call : Type 0 where
+  pub before : Buffers
+  pub after : Buffers
+  pub told : Told
+
+-- the call with these
+abbrev pub call : Buffers → Buffers → Told → Call
+call before after x = record { before = before; after = after; told = x }
+
+-- what a call tells and the buffers after it are those of a result
+pub record Gives (result : Result) (c : Call) : Type 0 where
+  pub told : c .told ≡ toldIn result
+  pub left : BuffersAfter result (c .before) (c .after)
+
+-- the same of an answer of the code
+abbrev pub Delivers : Result → Buffers → Buffers → Answer → Type 0
+Delivers result before after x = Gives result (call before after (toldBy x))
+
+-- what the entry points promise: the monitored ("watched") and the unmonitored ("bare") run of a job
+abbrev pub Monitored : List ℕ → Call → Type 0
+Monitored job c = Gives (monitored job (sizesOf (c .before))) c
+
+abbrev pub Unmonitored : List ℕ → Call → Type 0
+Unmonitored job c = Gives (unmonitored job (sizesOf (c .before))) c

@@ -1,0 +1,9 @@
+// What a run answers.
+use command::refusal::Refusal;
+use turns::ending::Ending;
+
+// The answer to a job: its refusal, or how its run ended.
+pub enum Answer {
+    Refused(Refusal),
+    Ended(Ending),
+}
