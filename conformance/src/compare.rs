@@ -6,11 +6,8 @@ use flow_reference::{hex, Mode};
 use crate::guarded::Guarded;
 use crate::{library, reference};
 
-/// A number that no answer has.
-const UNWRITTEN: u64 = 0xDEAD_BEEF_DEAD_BEEF;
-
-/// Runs a job in these buffers and writes the answer.
-type Side = fn(&[u8], Mode, [&mut [u8]; 3], &mut [u64; 8]);
+/// Runs a job in these buffers: trace, snapshot, work. It gives the answer.
+type Side = fn(&[u8], Mode, [&mut [u8]; 3]) -> [u64; 8];
 
 /// What a side left.
 struct Left {
@@ -22,10 +19,9 @@ struct Left {
 const NAMES: [&str; 4] = ["job", "trace", "snapshot", "work"];
 
 fn left_by(side: Side, run: &Run) -> Left {
-    let mut answer = [UNWRITTEN; 8];
     let mut job = Guarded::holding(&run.job, run.seed);
     let [mut trace, mut snapshot, mut work] = run.lengths.map(|length| Guarded::dirty(run.seed, length));
-    side(job.slice(), run.mode, [trace.slice(), snapshot.slice(), work.slice()], &mut answer);
+    let answer = side(job.slice(), run.mode, [trace.slice(), snapshot.slice(), work.slice()]);
     Left { answer, bytes: [job, trace, snapshot, work] }
 }
 

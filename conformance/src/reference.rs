@@ -1,4 +1,4 @@
-//! The second implementation, with its answer as the library's 8 numbers.
+//! The second implementation, with its answer as the library's eight numbers.
 
 use flow_reference::{Answer, Mode, Outcome};
 
@@ -19,8 +19,7 @@ fn numbers(outcome: &Outcome) -> [u64; 8] {
     }
 }
 
-/// Runs a job.
-pub fn run(job: &[u8], mode: Mode, buffers: [&mut [u8]; 3], answer: &mut [u64; 8]) {
-    let [trace, snapshot, work] = buffers;
-    *answer = numbers(&flow_reference::run(job, mode, trace, snapshot, work));
+/// Runs a job; the eight numbers of the answer.
+pub fn run(job: &[u8], mode: Mode, [trace, snapshot, work]: [&mut [u8]; 3]) -> [u64; 8] {
+    numbers(&flow_reference::run(job, mode, trace, snapshot, work))
 }

@@ -2,39 +2,10 @@
 
 use std::process::ExitCode;
 
-/// Lengths that are enough for every job; `include/leqsumir.h` says what the functions promise.
-const TRACE_BYTES: usize = 28_672;
-const PICTURE_BYTES: usize = 2_624;
-const WORK_BYTES: usize = 16_384;
-const ENTRY_BYTES: usize = 7;
+use leqsumir::{ENTRY_BYTES, SNAPSHOT_BYTES, TRACE_BYTES, WORK_BYTES};
 
-/// Job, trace, picture and work buffer, each with its length, and the eight numbers of the answer.
-type Run = unsafe extern "C" fn(*const u8, usize, *mut u8, usize, *mut u8, usize, *mut u8, usize, *mut u64);
-
-extern "C" {
-    fn leqsumir_run_monitored(
-        job: *const u8,
-        job_len: usize,
-        trace: *mut u8,
-        trace_len: usize,
-        picture: *mut u8,
-        picture_len: usize,
-        work: *mut u8,
-        work_len: usize,
-        answer: *mut u64,
-    );
-    fn leqsumir_run_unmonitored(
-        job: *const u8,
-        job_len: usize,
-        trace: *mut u8,
-        trace_len: usize,
-        picture: *mut u8,
-        picture_len: usize,
-        work: *mut u8,
-        work_len: usize,
-        answer: *mut u64,
-    );
-}
+/// Job, trace, snapshot and work; the eight numbers of the answer.
+type Run = fn(&[u8], &mut [u8], &mut [u8], &mut [u8]) -> [u64; 8];
 
 /// What a run hands over: the answer and the entries made.
 struct Rerun {
@@ -43,13 +14,8 @@ struct Rerun {
 }
 
 fn rerun(run: Run, job: &[u8]) -> Rerun {
-    let (mut trace, mut picture, mut work) = ([0; TRACE_BYTES], [0; PICTURE_BYTES], [0; WORK_BYTES]);
-    let (t, p, w) = (trace.as_mut_ptr(), picture.as_mut_ptr(), work.as_mut_ptr());
-    let mut answer = [0; 8];
-    // SAFETY: every pointer comes with the length of its buffer, and the answer has eight numbers.
-    unsafe {
-        run(job.as_ptr(), job.len(), t, TRACE_BYTES, p, PICTURE_BYTES, w, WORK_BYTES, answer.as_mut_ptr());
-    }
+    let (mut trace, mut snapshot, mut work) = ([0; TRACE_BYTES], [0; SNAPSHOT_BYTES], [0; WORK_BYTES]);
+    let answer = run(job, &mut trace, &mut snapshot, &mut work);
     let entries = trace.chunks_exact(ENTRY_BYTES).take(answer[3] as usize);
     Rerun { answer, entries: entries.map(|bytes| bytes.try_into().expect("7 bytes")).collect() }
 }
@@ -88,8 +54,8 @@ fn main() -> ExitCode {
         eprintln!("rerun: cannot read {}", file.display());
         return ExitCode::FAILURE;
     };
-    let monitored = rerun(leqsumir_run_monitored, &job);
-    let unmonitored = rerun(leqsumir_run_unmonitored, &job);
+    let monitored = rerun(leqsumir::run_monitored, &job);
+    let unmonitored = rerun(leqsumir::run_unmonitored, &job);
     print_answer("monitored", monitored.answer);
     print_answer("unmonitored", unmonitored.answer);
     print_parting(&monitored, &unmonitored);

@@ -1,10 +1,10 @@
-//! Links the proved run.
+//! Links the proved static library, which `rt staticlib run` writes.
 
 use std::path::Path;
 
 fn main() {
-    let here = std::env::var("CARGO_MANIFEST_DIR").expect("set by cargo");
-    let folder = Path::new(&here).join("../target/staticlib");
+    let library = std::env::var("CARGO_MANIFEST_DIR").expect("set by cargo");
+    let folder = Path::new(&library).join("../target/staticlib");
     println!("cargo:rerun-if-changed=build.rs");
     println!("cargo:rerun-if-changed={}", folder.join("librun.a").display());
     println!("cargo:rustc-link-search=native={}", folder.display());

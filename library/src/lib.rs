@@ -1,0 +1,86 @@
+//! Running a job, monitored or not, from Rust: the functions of the proved static library librun.a.
+//!
+//! Document 01 says what a job is, what a run does and when a job is refused; `include/leqsumir.h`
+//! says what the functions promise. The lengths below are enough for every job.
+
+/// The longest job that is accepted.
+pub const JOB_BYTES: usize = 16_384;
+
+/// An entry of the trace: node 1 byte, kind 1, number 1, value 4, lowest first.
+pub const ENTRY_BYTES: usize = 7;
+
+/// 4,096 entries. A trace needs only an entry for each TURN of its job.
+pub const TRACE_BYTES: usize = 28_672;
+
+/// Asked of every job. The snapshot is 01's "end picture".
+pub const SNAPSHOT_BYTES: usize = 2_624;
+
+/// Asked of every job.
+pub const WORK_BYTES: usize = 16_384;
+
+/// Job, trace, snapshot and work, each as pointer and length, and the eight numbers of the answer.
+type Run = unsafe extern "C" fn(*const u8, usize, *mut u8, usize, *mut u8, usize, *mut u8, usize, *mut u64);
+
+extern "C" {
+    fn leqsumir_run_monitored(
+        job: *const u8,
+        job_len: usize,
+        trace: *mut u8,
+        trace_len: usize,
+        snapshot: *mut u8,
+        snapshot_len: usize,
+        work: *mut u8,
+        work_len: usize,
+        answer: *mut u64,
+    );
+    fn leqsumir_run_unmonitored(
+        job: *const u8,
+        job_len: usize,
+        trace: *mut u8,
+        trace_len: usize,
+        snapshot: *mut u8,
+        snapshot_len: usize,
+        work: *mut u8,
+        work_len: usize,
+        answer: *mut u64,
+    );
+}
+
+/// Runs a job and stops before the first turn whose entry its lists do not permit.
+///
+/// The slices may have any length and hold anything before; one that is too short is a refusal, and
+/// a refusal changes none of them. The answer: refusal (0: the job ran) and its place; stop and
+/// completed turns; node, kind, number and value of the attempted entry.
+#[inline]
+pub fn run_monitored(job: &[u8], trace: &mut [u8], snapshot: &mut [u8], work: &mut [u8]) -> [u64; 8] {
+    call(leqsumir_run_monitored, job, trace, snapshot, work)
+}
+
+/// The same without the lists: a run that ignores them, with the same refusals.
+#[inline]
+pub fn run_unmonitored(job: &[u8], trace: &mut [u8], snapshot: &mut [u8], work: &mut [u8]) -> [u64; 8] {
+    call(leqsumir_run_unmonitored, job, trace, snapshot, work)
+}
+
+/// Inlined as its callers are: they then cost no more than the C function.
+#[inline]
+fn call(run: Run, job: &[u8], trace: &mut [u8], snapshot: &mut [u8], work: &mut [u8]) -> [u64; 8] {
+    // No answer has this number: one of the eight that is not written would be seen.
+    let mut answer = [u64::MAX; 8];
+    // SAFETY: `run` is one of the two functions above, which keep no pointer. Every slice is passed
+    // with its length, those that are written overlap no other, and the answer has eight numbers.
+    unsafe {
+        run(
+            job.as_ptr(),
+            job.len(),
+            trace.as_mut_ptr(),
+            trace.len(),
+            snapshot.as_mut_ptr(),
+            snapshot.len(),
+            work.as_mut_ptr(),
+            work.len(),
+            answer.as_mut_ptr(),
+        );
+    }
+    answer
+}
