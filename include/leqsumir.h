@@ -1,7 +1,7 @@
 /* Running a job, monitored or not: the C functions of the static library librun.a.
  *
  * Document 01 says what a job is, what a run does and when a job is refused. "Monitored" is 01's "watched", "unmonitored" its "bare",
- * "picture" its "end picture". Both functions are proved to do what the definitions of 01 say, for any bytes and any lengths. */
+ * "snapshot" its "end picture". Both functions are proved to do what the definitions of 01 say, for any bytes and any lengths. */
 #ifndef LEQSUMIR_H
 #define LEQSUMIR_H
 
@@ -16,7 +16,7 @@ extern "C" {
 #define LEQSUMIR_JOB_BYTES 16384     /* the longest job that is accepted */
 #define LEQSUMIR_ENTRY_BYTES 7       /* an entry: node 1 byte, kind 1, number 1, value 4, lowest first */
 #define LEQSUMIR_TRACE_BYTES 28672   /* 4,096 turns of 7 bytes */
-#define LEQSUMIR_PICTURE_BYTES 2624  /* asked of every job */
+#define LEQSUMIR_SNAPSHOT_BYTES 2624 /* asked of every job; the snapshot is 01's "end picture" */
 #define LEQSUMIR_WORK_BYTES 16384    /* asked of every job */
 
 /* The numbers of the answer. All eight are always written. */
@@ -42,24 +42,24 @@ enum {
 
 /* Runs a job and stops before the first turn whose entry its lists do not permit.
  *
- *   job, job_len          the job's bytes; only read
- *   trace, trace_len      gets 7 bytes for each completed turn
- *   picture, picture_len  gets the state that the run left: each node in order with position (1 byte, 255 idle), accumulator (4),
- *                         message (4), waiting count (1), waiting messages, oldest first (4 each); then each variable (4)
- *   work, work_len        room for the handlers; after a run its first 16,384 bytes are 0
- *   answer                gets the eight numbers: for a refusal the last six are 0, for a run the first two
+ *   job, job_len            the job's bytes; only read
+ *   trace, trace_len        gets 7 bytes for each completed turn
+ *   snapshot, snapshot_len  gets the state that the run left: each node in order with position (1 byte, 255 idle), accumulator (4),
+ *                           message (4), waiting count (1), waiting messages, oldest first (4 each); then each variable (4)
+ *   work, work_len          room for the handlers; after a run its first 16,384 bytes are 0
+ *   answer                  gets the eight numbers: for a refusal the last six are 0, for a run the first two
  *
  * Any bytes and any lengths are allowed, 0 included, and the buffers may hold anything before. A short buffer is a refusal (10 trace,
- * 11 picture, 12 work). A refusal changes none of the three buffers. Bytes beyond those named stay unchanged.
+ * 11 snapshot, 12 work). A refusal changes none of the three buffers. Bytes beyond those named stay unchanged.
  *
  * Of the caller: each pointer is to memory of its length, none is NULL (with length 0 it may point anywhere else), and the five do not
  * overlap. No pointer is kept. */
-void leqsumir_run_monitored(const uint8_t *job, size_t job_len, uint8_t *trace, size_t trace_len, uint8_t *picture,
-                            size_t picture_len, uint8_t *work, size_t work_len, uint64_t answer[8]);
+void leqsumir_run_monitored(const uint8_t *job, size_t job_len, uint8_t *trace, size_t trace_len, uint8_t *snapshot,
+                            size_t snapshot_len, uint8_t *work, size_t work_len, uint64_t answer[8]);
 
 /* The same without the lists: a run that ignores them, with the same refusals. */
-void leqsumir_run_unmonitored(const uint8_t *job, size_t job_len, uint8_t *trace, size_t trace_len, uint8_t *picture,
-                              size_t picture_len, uint8_t *work, size_t work_len, uint64_t answer[8]);
+void leqsumir_run_unmonitored(const uint8_t *job, size_t job_len, uint8_t *trace, size_t trace_len, uint8_t *snapshot,
+                              size_t snapshot_len, uint8_t *work, size_t work_len, uint64_t answer[8]);
 
 #ifdef __cplusplus
 }

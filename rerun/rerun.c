@@ -13,12 +13,12 @@ typedef void run(const uint8_t *, size_t, uint8_t *, size_t, uint8_t *, size_t, 
 
 /* What a run hands over. */
 struct rerun {
-    uint8_t trace[LEQSUMIR_TRACE_BYTES], picture[LEQSUMIR_PICTURE_BYTES], work[LEQSUMIR_WORK_BYTES];
+    uint8_t trace[LEQSUMIR_TRACE_BYTES], snapshot[LEQSUMIR_SNAPSHOT_BYTES], work[LEQSUMIR_WORK_BYTES];
     uint64_t answer[LEQSUMIR_ANSWER];
 };
 
 static void rerun(run *run, const uint8_t *job, size_t length, struct rerun *to) {
-    run(job, length, to->trace, sizeof to->trace, to->picture, sizeof to->picture, to->work, sizeof to->work, to->answer);
+    run(job, length, to->trace, sizeof to->trace, to->snapshot, sizeof to->snapshot, to->work, sizeof to->work, to->answer);
 }
 
 static void print_answer(const char *name, const uint64_t *answer) {
