@@ -8,3 +8,4 @@ pub mod proved;
 pub mod reference;
 pub mod runs;
 pub mod script;
+pub mod stack;

@@ -1,12 +1,15 @@
-//! Runs the script's job, takes the time, compares both implementations, or tells what the script is.
+//! Runs the script's job, takes the time, compares both implementations, or tells what the script
+//! is and how much stack its runs take.
 
 use std::process::ExitCode;
 
-use flow_bench::arguments;
 use flow_bench::compare::compare;
+use flow_bench::runs::Engine;
 use flow_bench::script::Script;
+use flow_bench::{arguments, stack};
 
-const USAGE: &str = "usage: bench ENGINE MODE SCHEDULE RUNS | bench time ENGINE MODE SCHEDULE RUNS | bench compare | bench mix";
+const USAGE: &str = "usage: bench ENGINE MODE SCHEDULE RUNS | bench time ENGINE MODE SCHEDULE RUNS |
+    bench compare | bench mix | bench stack";
 
 /// The completed turns of all runs.
 fn print_turns(words: &[&str]) -> Option<()> {
@@ -33,6 +36,12 @@ fn print_mix() {
     println!();
 }
 
+/// Bytes of stack that a whole run takes.
+fn print_stack() {
+    let [proved, reference] = [Engine::Proved, Engine::Reference].map(stack::most);
+    println!("bytes of stack: proved {proved}, reference {reference}");
+}
+
 fn print_comparison() -> ExitCode {
     match compare() {
         Ok(()) => {
@@ -51,6 +60,7 @@ fn execute(words: &[&str]) -> Option<ExitCode> {
     match words {
         ["compare"] => return Some(print_comparison()),
         ["mix"] => print_mix(),
+        ["stack"] => print_stack(),
         ["time", words @ ..] => print_time(words)?,
         _ => print_turns(words)?,
     }

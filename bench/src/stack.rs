@@ -1,0 +1,60 @@
+//! How much stack a run takes: it runs on a stack of its own, painted with one byte before, and the
+//! lowest byte that changed tells how deep it went. For x86-64.
+//!
+//! The harness's own frames count too, less than 300 bytes. What the deepest function reserves
+//! below all that it writes does not.
+
+use std::arch::asm;
+use std::hint::black_box;
+
+use flow_reference::Mode;
+
+use crate::runs::{Bench, Engine, Schedule};
+
+/// Far more than a run takes.
+const BYTES: usize = 1 << 20;
+
+/// The bytes that a whole run of the script's job takes, the larger of monitored and bare. Each is
+/// run on two paints, as a byte that it writes may be that of one paint.
+pub fn most(engine: Engine) -> usize {
+    let deepest = |mode| {
+        let mut bench = Bench::new(engine, mode, Schedule::Turns, 0);
+        painted(&mut bench, 0x5A).max(painted(&mut bench, 0xA5))
+    };
+    deepest(Mode::Monitored).max(deepest(Mode::Unmonitored))
+}
+
+/// The bytes that a run changes on a stack with this paint, from its top to the lowest.
+fn painted(bench: &mut Bench, paint: u8) -> usize {
+    let mut stack = vec![paint; BYTES];
+    let end = stack.as_mut_ptr_range().end;
+    let above = end as usize % 16;
+    // SAFETY: the top is aligned and has `BYTES` less at most 15 below it, which nothing else uses.
+    unsafe { run_below(end.sub(above), bench) };
+    let untouched = stack.iter().take_while(|&&byte| byte == paint).count();
+    assert!(untouched > 0, "the run takes more stack than there is");
+    BYTES - above - untouched
+}
+
+extern "C" fn run(bench: &mut Bench) {
+    black_box(bench.run());
+}
+
+/// Runs once, with the stack below `top`.
+///
+/// # Safety
+/// The top is aligned to 16 bytes; the memory below it is long enough and used for nothing else.
+unsafe fn run_below(top: *mut u8, bench: &mut Bench) {
+    // The callee keeps r12.
+    asm!(
+        "mov r12, rsp",
+        "mov rsp, {top}",
+        "call {run}",
+        "mov rsp, r12",
+        top = in(reg) top,
+        run = sym run,
+        in("rdi") bench,
+        out("r12") _,
+        clobber_abi("C"),
+    );
+}
