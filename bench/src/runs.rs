@@ -74,12 +74,12 @@ impl Bench {
         }
     }
 
-    /// Runs so many times; the completed turns of all runs.
+    /// Runs `count` times; the completed turns of all runs.
     pub fn runs(&mut self, count: u32) -> u64 {
         on_new_page(|| (0..count).map(|_| self.run()[3]).sum())
     }
 
-    /// The time of the quickest of so many runs.
+    /// The time of the quickest of `count` runs.
     pub fn quickest(&mut self, count: u32) -> Duration {
         let mut timed = || {
             let start = Instant::now();

@@ -45,7 +45,7 @@ impl Default for Script {
     }
 }
 
-/// Gives a turn to the next node behind `last` whose turn completes: it is at work or a message waits,
+/// Gives a turn to the next node after `last` whose turn completes: it is at work or a message waits,
 /// and no target of a send is full. A stopped turn changes nothing.
 fn next(program: &Program, state: &mut State, last: u8) -> Option<Entry> {
     let nodes = program.nodes.len() as u8;

@@ -48,8 +48,8 @@ impl Guarded {
     }
 }
 
-/// How many bytes differ, and the first of them. Its place is counted from the slice's start: below 0 it lies
-/// before the slice, from the slice's length on behind it.
+/// How many bytes differ, and the first of them. Its place is counted from the slice's start: below 0 it
+/// lies before the slice, at the slice's length or above after it.
 pub struct Difference {
     count: usize,
     place: isize,

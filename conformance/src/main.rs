@@ -33,7 +33,7 @@ fn check(run: &Run, tally: &mut Tally) {
     }
 }
 
-/// So many valid jobs and a tenth as many damaged ones, in both modes.
+/// `count` valid jobs and a tenth as many damaged ones, in both modes.
 fn random(count: u64, seed: u64) -> Tally {
     let mut tally = Tally::default();
     for (kind, count) in [(Kind::Valid, count), (Kind::Damaged, count / 10)] {
