@@ -15,14 +15,14 @@ use Rattle.model.proofs.Reading.{number-one}
 use Rattle.model.proofs.Bounds.{length-node}
 
 -- texts that are the same one by one
-same-first : (f g : ℕ → List ℕ) (n : ℕ) → ((k : ℕ) → k < n → f k ≡ g k) → joined f n ≡ joined g n
+pub same-first : (f g : ℕ → List ℕ) (n : ℕ) → ((k : ℕ) → k < n → f k ≡ g k) → joined f n ≡ joined g n
 unfolding joined
 same-first f g zero same = refl
 same-first f g (suc n) same =
     ap (λ (l : List ℕ). l ++ f n) (same-first f g n (λ k h. same k (omega arith))) ∙ ap (λ (l : List ℕ). joined g n ++ l) (same n (omega arith))
 
 module _ (xs ys : List ℕ) where
-  number-front : (at w : ℕ) → at + w ≤ length xs → numberAt (xs ++ ys) at w ≡ numberAt xs at w
+  pub number-front : (at w : ℕ) → at + w ≤ length xs → numberAt (xs ++ ys) at w ≡ numberAt xs at w
   unfolding numberAt
   number-front at zero h = refl
   number-front at (suc w) h =

@@ -2,3 +2,4 @@ pub mod Fronts
 pub mod Short
 pub mod Outcomes
 pub mod Worked
+pub mod Meaning

@@ -1,2 +1,3 @@
 pub mod Example
 pub mod Printing
+pub mod Meaning

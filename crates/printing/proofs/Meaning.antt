@@ -1,0 +1,279 @@
+-- The printed lines are those of the run's entries and last state: what is written of a run is read back unchanged.
+use Prim.Native.Nat.{ℕ, zero, suc, _+_, _*_, _^_, _≤_, _<_}
+use mathlib.Core.Path.{_≡_, refl, sym, ap, subst, _∙_}
+use mathlib.Core.Bool.{cond}
+use mathlib.Core.List.{List, [], _∷_, _++_, append-assoc, append-nil}
+use native.Mathlib.Nat.{mul-suc}
+use native.Mathlib.Omega.{arith}
+use lib.Dec.{eqb}
+use lib.ListN.{length, getD, length-append, length-map, List·getD-eq-default}
+use lib.Seq.{getD-append-seam, getD-append-add}
+use Rattle.text.specs.Text.{joined}
+use Rattle.text.proofs.Putting.{bytes-each}
+use Rattle.lines.specs.Lines.{entryLine, messagesAt, waitingAt as waitingIn, nodeLine, variableLine, nodeLines, snapshotLines, runLines}
+use Rattle.lines.proofs.Texts.{entry-same, variable-same}
+use Rattle.model.specs.Table.{GET, PUT, PLUS, SEND, CALL}
+use Rattle.model.specs.Command.{Command, numberAt}
+use Rattle.model.specs.Declared.{Instruction, turnsOf}
+use Rattle.model.specs.Program.{Program, sharedIn, programOf}
+use Rattle.model.specs.State.{State, positionAt, accumulatorAt, messageAt, queueAt, waitingAt, variableAt}
+use Rattle.model.specs.Turn.{Entry, entry, Turned, entryOf, instructionAt, turn}
+use Rattle.model.specs.Permission.{monitoredTurn}
+use Rattle.model.specs.Run.{Run, entriesOf, statesOf, entryAt, stateAt, monitoredRun, unmonitoredRun}
+use Rattle.model.specs.Output.{answerIn, bytes4, entryBytes, traceBytes, traceIn}
+use Rattle.model.specs.Output.{numbersBytes, nodeBytes, nodesBytes, variablesBytes, snapshotBytes}
+use Rattle.model.specs.Refusal.{Decoded, accepted, rejected, decodeJob, Sizes, shortBuffer, decodeFor}
+use Rattle.model.specs.Result.{report, resultOf, monitored, unmonitored}
+use Rattle.model.specs.Conclusion.{Refuses, Accepts}
+use Rattle.model.specs.Following.{Follows}
+use Rattle.model.specs.Valid.{Fits}
+use Rattle.model.proofs.Reading.{number-one}
+use Rattle.model.proofs.Bounds.{length-numbers, length-variables}
+use Rattle.model.proofs.Following.{demand2}
+use Rattle.model.proofs.Walking.{Decides, decode-for-walked}
+use Rattle.model.proofs.Ways.{either, turn-by, monitored-by}
+use Rattle.model.proofs.Words.{unmonitored-words, monitored-words, bytes-spell}
+use Rattle.turns.proofs.Narrow.{Makes}
+use Rattle.delivery.proofs.Delivering.{and-then-accepted}
+use Rattle.printing.specs.Printing.{resultLines}
+use Rattle.printing.specs.Meaning.{lineOfEntry, lineOfNode, lineOfVariable}
+use Rattle.printing.specs.Meaning.{linesOfEntries, linesOfState, linesOfRun, linesOfJob, LinesHold}
+use Rattle.printing.proofs.Fronts.{same-first, number-front, parts-of}
+
+-- a number past the first bytes
+number-past : (xs ys : List ℕ) (at w : ℕ) → numberAt (xs ++ ys) (length xs + at) w ≡ numberAt ys at w
+unfolding numberAt
+number-past xs ys at zero = refl
+number-past xs ys at (suc w) =
+    let p : length xs + at + 1 ≡ length xs + (at + 1) = omega arith in
+    rw (getD-append-add xs ys at 0, p, number-past xs ys (at + 1) w)
+
+-- the 4 bytes of a number, first of what stands past the first bytes
+word-past : (xs ys : List ℕ) (at v : ℕ) → at ≡ length xs → v < 2 ^ 32 → numberAt (xs ++ (bytes4 v ++ ys)) at 4 ≡ v
+word-past xs ys at v e h =
+    let here : at ≡ length xs + 0 = omega arith in
+    ap (λ (p : ℕ). numberAt (xs ++ (bytes4 v ++ ys)) p 4) here
+    ∙ number-past xs (bytes4 v ++ ys) 0 4 ∙ number-front (bytes4 v) ys 0 4 (omega arith) ∙ bytes-spell v h
+
+-- a number inside element k of elements of one size, one after the other
+module _
+    {A : Type 0} (d : A) (size : ℕ) (one : A → List ℕ) (sized : (a : A) → length (one a) ≡ size)
+    (all : List A → List ℕ) (next : (a : A) (l : List A) → all (a ∷ l) ≡ one a ++ all l)
+  where
+    element :
+        (l : List A) (k : ℕ) → k < length l → (at w : ℕ) → at + w ≤ size
+        → numberAt (all l) (size * k + at) w ≡ numberAt (one (getD l k d)) at w
+    element [] k h at w i = absurd (omega arith)
+    element (a ∷ l) zero h at w i =
+        let here : size * 0 + at ≡ at = omega arith in
+        rw (next a l, here) (number-front (one a) (all l) at w (omega (arith, sized a)))
+    element (a ∷ l) (suc k) h at w i =
+        let there : size * suc k + at ≡ length (one a) + (size * k + at) = omega (arith, sized a, mul-suc size k) in
+        rw (next a l, there) (number-past (one a) (all l) (size * k + at) w ∙ element l k (omega arith) at w i)
+
+-- an entry
+trace-cons : (e : Entry) (es : List Entry) → traceBytes (e ∷ es) ≡ entryBytes e ++ traceBytes es
+unfolding traceBytes
+trace-cons e es = refl
+
+module _ (es : List Entry) (k : ℕ) (h : k < length es) where
+  abbrev zeros : Entry
+  zeros = entry 0 0 0 0
+
+  abbrev e : Entry
+  e = getD es k zeros
+
+  part : (at w : ℕ) → at + w ≤ 7 → numberAt (traceBytes es) (7 * k + at) w ≡ numberAt (entryBytes e) at w
+  part = element zeros 7 entryBytes (λ x. refl) traceBytes trace-cons es k h
+
+  byte : (at : ℕ) → at < 7 → numberAt (traceBytes es) (7 * k + at) 1 ≡ getD (entryBytes e) at 0
+  byte at i = part at 1 (omega arith) ∙ number-one (entryBytes e) at
+
+  entry-read : e .value < 2 ^ 32 → entryLine (traceBytes es) k ≡ lineOfEntry e
+  unfolding lineOfEntry
+  entry-read small =
+      let first : 7 * k ≡ 7 * k + 0 = omega arith in
+      entry-same (traceBytes es) k (e .node) (e .kind) (e .number) (e .value)
+      (sym (ap (λ (p : ℕ). numberAt (traceBytes es) p 1) first ∙ byte 0 (omega arith)))
+      (sym (byte 1 (omega arith)))
+      (sym (byte 2 (omega arith)))
+      (sym (part 3 4 (omega arith) ∙ word-past (e .node ∷ e .kind ∷ e .number ∷ []) [] 3 (e .value) refl small))
+
+-- a node
+numbers-cons : (v : ℕ) (vs : List ℕ) → numbersBytes (v ∷ vs) ≡ bytes4 v ++ numbersBytes vs
+unfolding numbersBytes
+numbers-cons v vs = refl
+
+messages-read :
+    (xs q rest : List ℕ) (place : ℕ) → place ≡ length xs → ((i : ℕ) → getD q i 0 < 2 ^ 32)
+    → messagesAt (xs ++ (numbersBytes q ++ rest)) place (length q) ≡ q
+unfolding messagesAt
+messages-read xs q rest place e small =
+    same-first (λ i. numberAt (xs ++ (numbersBytes q ++ rest)) (place + 4 * i) 4 ∷ []) (λ i. getD q i 0 ∷ []) (length q)
+    (λ i h. ap (λ (v : ℕ). v ∷ []) (one i h))
+    ∙ bytes-each q
+  where
+    one : (i : ℕ) → i < length q → numberAt (xs ++ (numbersBytes q ++ rest)) (place + 4 * i) 4 ≡ getD q i 0
+    one i h =
+        let here : place + 4 * i ≡ length xs + (4 * i + 0) = omega arith in
+        rw here
+        (number-past xs (numbersBytes q ++ rest) (4 * i + 0) 4
+        ∙ number-front (numbersBytes q) rest (4 * i + 0) 4 (omega (arith, length-numbers q))
+        ∙ element 0 4 bytes4 (λ v. refl) numbersBytes numbers-cons q i h 0 4 (omega arith)
+        ∙ bytes-spell (getD q i 0) (small i))
+
+module _ (s : State) (fits : Fits s) where
+  module _ (xs rest : List ℕ) (n : ℕ) where
+    abbrev all : List ℕ
+    all = xs ++ (nodeBytes s n ++ rest)
+
+    past : (at w : ℕ) → numberAt all (length xs + at) w ≡ numberAt (nodeBytes s n ++ rest) at w
+    past = number-past xs (nodeBytes s n ++ rest)
+
+    position : numberAt all (length xs) 1 ≡ positionAt s n
+    position = number-one all (length xs) ∙ getD-append-seam xs (positionAt s n) _ 0
+
+    accumulator : numberAt all (length xs + 1) 4 ≡ accumulatorAt s n
+    accumulator = past 1 4 ∙ word-past (positionAt s n ∷ []) _ 1 (accumulatorAt s n) refl (fits .accumulator n)
+
+    message : numberAt all (length xs + 5) 4 ≡ messageAt s n
+    message = past 5 4 ∙ word-past (positionAt s n ∷ bytes4 (accumulatorAt s n)) _ 5 (messageAt s n) refl (fits .message n)
+
+    waiting : waitingIn all (length xs) ≡ waitingAt s n
+    waiting = past 9 1 ∙ number-one (nodeBytes s n ++ rest) 9
+
+    messages : messagesAt all (length xs + 10) (waitingAt s n) ≡ queueAt s n
+    messages =
+        let ten = positionAt s n ∷ bytes4 (accumulatorAt s n) ++ bytes4 (messageAt s n) ++ (waitingAt s n ∷ []) in
+        ap (λ (l : List ℕ). messagesAt l (length xs + 10) (waitingAt s n)) (sym (append-assoc xs ten (numbersBytes (queueAt s n) ++ rest)))
+        ∙ messages-read (xs ++ ten) (queueAt s n) rest (length xs + 10) (omega (arith, length-append xs ten)) (fits .queue n)
+
+    node-read : nodeLine all (length xs) n ≡ lineOfNode s n
+    unfolding nodeLine lineOfNode
+    node-read = rw (position, accumulator, message, waiting, messages)
+
+  nodes-read : (k : ℕ) (rest : List ℕ) → nodeLines (nodesBytes s k ++ rest) k ≡ joined (lineOfNode s) k
+  unfolding joined nodesBytes
+  nodes-read zero rest = refl
+  nodes-read (suc k) rest =
+      let nodes = nodesBytes s k in
+      let last = nodeBytes s k ++ rest in
+      rw (append-assoc nodes (nodeBytes s k) rest, nodes-read k last, parts-of s k last, node-read nodes rest k)
+
+  -- a variable
+  module _ (xs : List ℕ) where
+    abbrev followed : ℕ → List ℕ → List ℕ
+    followed k rest = xs ++ (variablesBytes s k ++ rest)
+
+    variable-read :
+        (k : ℕ) (rest : List ℕ) → variableLine (followed k (bytes4 (variableAt s k) ++ rest)) (length xs) k ≡ lineOfVariable s k
+    unfolding lineOfVariable
+    variable-read k rest =
+        let front = variablesBytes s k in
+        let last = bytes4 (variableAt s k) ++ rest in
+        let here : length xs + 4 * k ≡ length (xs ++ front) = omega (arith, length-append xs front, length-variables s k) in
+        let value = word-past (xs ++ front) rest (length xs + 4 * k) (variableAt s k) here (fits .variable k) in
+        variable-same (followed k last) (length xs) k (variableAt s k) (sym (rw append-assoc at value))
+
+    variables-read : (k : ℕ) (rest : List ℕ) → joined (variableLine (followed k rest) (length xs)) k ≡ joined (lineOfVariable s) k
+    unfolding joined variablesBytes
+    variables-read zero rest = refl
+    variables-read (suc k) rest =
+        let last = bytes4 (variableAt s k) ++ rest in
+        rw (append-assoc (variablesBytes s k) (bytes4 (variableAt s k)) rest, variables-read k last, variable-read k rest)
+
+  -- a state
+  state-read : (P : Program) → snapshotLines (snapshotBytes P s) (P .nodes) (P .variables) ≡ linesOfState P s
+  unfolding snapshotLines snapshotBytes
+  state-read P =
+      let nodes = nodesBytes s (P .nodes) in
+      let variables = variablesBytes s (P .variables) in
+      rw (nodes-read (P .nodes) variables, parts-of s (P .nodes) variables, ← append-nil variables, variables-read nodes (P .variables) [])
+
+-- a run whose values are below 2^32
+record Readable (r : Run) : Type 0 where
+  values : (k : ℕ) → k < length (r .steps) → entryAt r k .value < 2 ^ 32
+  final : Fits (r .final)
+
+run-read :
+    (P : Program) (r : Run) → Readable r
+    → runLines (answerIn r) (traceIn r) (snapshotBytes P (r .final)) (P .nodes) (P .variables) ≡ linesOfRun P r
+unfolding runLines linesOfRun
+run-read P r fits =
+    rw (entries (length-map (r .steps) (λ t. t .made)), state-read (r .final) (fits .final) P)
+  where
+    entries : length (entriesOf (r .steps)) ≡ length (r .steps) → joined (entryLine (traceIn r)) (length (r .steps)) ≡ linesOfEntries r
+    entries size =
+        same-first (entryLine (traceIn r)) (λ k. lineOfEntry (entryAt r k)) (length (r .steps))
+        (λ k h. entry-read (entriesOf (r .steps)) k (omega arith) (fits .values k h))
+
+-- the value of an entry that a turn makes is below 2^32
+abbrev Small : Entry → Type 0
+Small e = e .value < 2 ^ 32
+
+module _ (P : Program) (s : State) (n : ℕ) (fits : Fits s) where
+  shared-small : (x kind value : ℕ) → value < 2 ^ 32 → Small (cond (sharedIn P x) (entry n kind x value) (entry n 0 0 0))
+  shared-small x kind value h = either Small (sharedIn P x) _ _ (λ _. h) (λ _. omega arith)
+
+  left-small : (i : Instruction) → Small (entryOf P s n i)
+  left-small i =
+      let x = i .operand in
+      either Small (eqb (i .byte) GET) _ _ (λ _. shared-small x 3 (variableAt s x) (fits .variable x)) λ _.
+      either Small (eqb (i .byte) PLUS) _ _ (λ _. shared-small x 3 (variableAt s x) (fits .variable x)) λ _.
+      either Small (eqb (i .byte) PUT) _ _ (λ _. shared-small x 4 (accumulatorAt s n) (fits .accumulator n)) λ _.
+      either Small (eqb (i .byte) CALL) _ _ (λ _. fits .accumulator n) λ _.
+      either Small (eqb (i .byte) SEND) _ _ (λ _. fits .accumulator n) (λ _. omega arith)
+
+  turn-small : Makes Small (turn P s n)
+  turn-small =
+      turn-by (Makes Small) P s n (λ p w. tt) (λ p w. fits .queue n 0) (λ l b. tt)
+      (λ l b. left-small (instructionAt P n (positionAt s n)))
+      (λ l. omega arith)
+
+  monitored-small : Makes Small (monitoredTurn P s n)
+  monitored-small = monitored-by (Makes Small) P s n turn-small (λ e. tt)
+
+-- a run that goes by such turns, on states whose values are
+readable :
+    {rule : State → ℕ → Turned} {turns : List ℕ} {s : State} {r : Run} → ((s : State) (n : ℕ) → Fits s → Makes Small (rule s n))
+    → Follows rule turns s r → ((k : ℕ) → Fits (stateAt r k)) → Readable r
+readable {rule} {turns} {s} {r} small follows fits =
+    let size = length-map (r .steps) (λ t. t .before) in
+    record {
+      values = λ k h. rw (follows .goesOn k h) at (small (stateAt r k) (getD turns k 0) (fits k));
+      final = subst Fits (List·getD-eq-default (statesOf (r .steps)) (r .final) (omega (arith, size))) (fits (length (r .steps)));
+    }
+
+-- a job, by the way its turns are run
+module _
+    (job : List ℕ) (b : Sizes) (run : Program → List ℕ → Run)
+    (fits : (past : List Command) → Accepts job b past → Readable (run (programOf past) (turnsOf past)))
+  where
+    job-read : resultLines job (resultOf run (decodeFor job b)) ≡ linesOfJob run (decodeFor job b)
+    unfolding report programOf decodeFor
+    job-read = by-decoded (decodeFor job b) refl (decode-for-walked job b)
+      where
+        by-decoded :
+            (d : Decoded) → decodeFor job b ≡ d → Decides (Accepts job b) (Refuses job b) d
+            → resultLines job (resultOf run d) ≡ linesOfJob run d
+        by-decoded (accepted past) e a =
+            let P = programOf past in
+            let decoded = and-then-accepted (shortBuffer job b) (decodeJob job) past e .0 in
+            rw decoded (run-read P (run P (turnsOf past)) (fits past a))
+        by-decoded (rejected r) e a = refl
+
+pub lines-hold : LinesHold
+unfolding monitored unmonitored
+lines-hold job b bytes =
+    record {
+      monitoredPrints =
+          job-read job b monitoredRun
+          (λ past a.
+          let follows = demand2 (programOf past) (turnsOf past) .monitoredFollows in
+          readable (monitored-small (programOf past)) follows (monitored-words job b past bytes a));
+      unmonitoredPrints =
+          job-read job b unmonitoredRun
+          (λ past a.
+          let follows = demand2 (programOf past) (turnsOf past) .unmonitoredFollows in
+          readable (turn-small (programOf past)) follows (unmonitored-words job b past bytes a));
+    }

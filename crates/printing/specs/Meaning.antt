@@ -1,0 +1,55 @@
+-- What the printed lines mean ("Jobs worked by hand"): the lines of a run by its entries and its last state, without the bytes handed over.
+use Prim.Native.Nat.{ℕ}
+use mathlib.Core.Path.{_≡_}
+use mathlib.Core.List.{List, [], _∷_, _++_}
+use lib.ListN.{length}
+use Rattle.text.specs.Text.{decimal, line, joined}
+use Rattle.lines.specs.Lines.{nodeWord, varWord, endLine, refusedLine}
+use Rattle.model.specs.Declared.{turnsOf}
+use Rattle.model.specs.Program.{Program, programOf}
+use Rattle.model.specs.State.{State, positionAt, accumulatorAt, messageAt, queueAt, waitingAt, variableAt}
+use Rattle.model.specs.Turn.{Entry}
+use Rattle.model.specs.Run.{Run, entryAt, monitoredRun, unmonitoredRun}
+use Rattle.model.specs.Output.{answerIn}
+use Rattle.model.specs.Refusal.{Decoded, accepted, rejected, Sizes, decodeFor}
+use Rattle.model.specs.Result.{monitored, unmonitored}
+use Rattle.model.specs.Valid.{Bytes}
+use Rattle.printing.specs.Printing.{resultLines}
+
+-- an entry: node, kind, number, value
+unfoldable pub lineOfEntry : Entry → List ℕ
+lineOfEntry e = line (decimal (e .node)) (e .kind ∷ e .number ∷ e .value ∷ [])
+
+-- node n of a state: `node`, number, position, accumulator ("hand"), message, waiting count, then the waiting messages, oldest first
+unfoldable pub lineOfNode : State → ℕ → List ℕ
+lineOfNode s n = line nodeWord (n ∷ positionAt s n ∷ accumulatorAt s n ∷ messageAt s n ∷ waitingAt s n ∷ queueAt s n)
+
+-- variable x of a state: `var`, number, value
+unfoldable pub lineOfVariable : State → ℕ → List ℕ
+lineOfVariable s x = line varWord (x ∷ variableAt s x ∷ [])
+
+-- the entries of a run, in order
+abbrev pub linesOfEntries : Run → List ℕ
+linesOfEntries r = joined (λ k. lineOfEntry (entryAt r k)) (length (r .steps))
+
+-- a state of a program: its nodes, then its variables
+abbrev pub linesOfState : Program → State → List ℕ
+linesOfState P s = joined (lineOfNode s) (P .nodes) ++ joined (lineOfVariable s) (P .variables)
+
+-- a run of a program: its entries, its answer, its last state
+unfoldable pub linesOfRun : Program → Run → List ℕ
+linesOfRun P r = linesOfEntries r ++ (endLine (answerIn r) ++ linesOfState P (r .final))
+
+-- a job, by the way its turns are run: the lines of its run, or that of its refusal
+abbrev pub linesOfJob : (Program → List ℕ → Run) → Decoded → List ℕ
+linesOfJob run (accepted past) = linesOfRun (programOf past) (run (programOf past) (turnsOf past))
+linesOfJob run (rejected r) = refusedLine (r .number) (r .place)
+
+-- what is printed by the bytes handed over is what the run means, monitored ("watched") and unmonitored ("bare")
+pub record PrintsRuns (job : List ℕ) (b : Sizes) : Type 0 where
+  pub monitoredPrints : resultLines job (monitored job b) ≡ linesOfJob monitoredRun (decodeFor job b)
+  pub unmonitoredPrints : resultLines job (unmonitored job b) ≡ linesOfJob unmonitoredRun (decodeFor job b)
+
+-- it is so for every job of bytes and all buffers
+abbrev pub LinesHold : Type 0
+LinesHold = (job : List ℕ) (b : Sizes) → Bytes job → PrintsRuns job b
