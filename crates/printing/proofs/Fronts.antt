@@ -6,7 +6,8 @@ use native.Mathlib.Omega.{arith}
 use lib.ListN.{length, getD, length-append, List·getD-append}
 use lib.Seq.{getD-append-add}
 use Rattle.text.specs.Text.{joined}
-use Rattle.lines.specs.Lines.{entryLine, messagesAt, waitingAt, nextPart, partAt, nodeLine, variableLine, nodeLines, snapshotLines, runLines}
+use Rattle.lines.specs.Lines.{entryLine, messagesAt, waitingAt, nextPart, partAt}
+use Rattle.lines.specs.Lines.{nodeLine, variableLine, nodeLines, snapshotLines, runLines}
 use Rattle.lines.proofs.Parts.{part-inside, partLine}
 use Rattle.model.specs.Command.{numberAt}
 use Rattle.model.specs.Output.{Answer, nodeBytes, nodesBytes}
@@ -19,7 +20,8 @@ pub same-first : (f g : ℕ → List ℕ) (n : ℕ) → ((k : ℕ) → k < n →
 unfolding joined
 same-first f g zero same = refl
 same-first f g (suc n) same =
-    ap (λ (l : List ℕ). l ++ f n) (same-first f g n (λ k h. same k (omega arith))) ∙ ap (λ (l : List ℕ). joined g n ++ l) (same n (omega arith))
+    ap (λ (l : List ℕ). l ++ f n) (same-first f g n (λ k h. same k (omega arith)))
+    ∙ ap (λ (l : List ℕ). joined g n ++ l) (same n (omega arith))
 
 module _ (xs ys : List ℕ) where
   pub number-front : (at w : ℕ) → at + w ≤ length xs → numberAt (xs ++ ys) at w ≡ numberAt xs at w
@@ -33,7 +35,12 @@ module _ (xs ys : List ℕ) where
   entry-front : (k : ℕ) → 7 * k + 7 ≤ length xs → entryLine (xs ++ ys) k ≡ entryLine xs k
   unfolding entryLine
   entry-front k h =
-      rw (number-front (7 * k) 1 (omega arith), number-front (7 * k + 1) 1 (omega arith), number-front (7 * k + 2) 1 (omega arith), number-front (7 * k + 3) 4 (omega arith))
+      rw (
+        number-front (7 * k) 1 (omega arith),
+        number-front (7 * k + 1) 1 (omega arith),
+        number-front (7 * k + 2) 1 (omega arith),
+        number-front (7 * k + 3) 4 (omega arith),
+      )
 
   pub entries-front : (n : ℕ) → 7 * n ≤ length xs → joined (entryLine (xs ++ ys)) n ≡ joined (entryLine xs) n
   entries-front n h = same-first (entryLine (xs ++ ys)) (entryLine xs) n (λ k i. entry-front k (omega arith))
@@ -55,7 +62,13 @@ module _ (xs ys : List ℕ) where
   node-front : (place n : ℕ) → nextPart xs place ≤ length xs → nodeLine (xs ++ ys) place n ≡ nodeLine xs place n
   unfolding nodeLine
   node-front place n h =
-      rw (number-front place 1 (omega arith), number-front (place + 1) 4 (omega arith), number-front (place + 5) 4 (omega arith), number-front (place + 9) 1 (omega arith), messages-front (place + 10) (waitingAt xs place) (omega arith))
+      rw (
+        number-front place 1 (omega arith),
+        number-front (place + 1) 4 (omega arith),
+        number-front (place + 5) 4 (omega arith),
+        number-front (place + 9) 1 (omega arith),
+        messages-front (place + 10) (waitingAt xs place) (omega arith),
+      )
 
   variable-front : (place x : ℕ) → place + 4 * x + 4 ≤ length xs → variableLine (xs ++ ys) place x ≡ variableLine xs place x
   unfolding variableLine
@@ -73,17 +86,21 @@ module _ (xs ys : List ℕ) where
     pub snapshot-front : snapshotLines (xs ++ ys) nodes variables ≡ snapshotLines xs nodes variables
     unfolding snapshotLines
     snapshot-front =
-        ap (λ (l : List ℕ). l ++ joined (variableLine (xs ++ ys) (partAt (xs ++ ys) nodes)) variables) (same-first (partLine (xs ++ ys)) (partLine xs) nodes parts-front)
+        ap (λ (l : List ℕ). l ++ joined (variableLine (xs ++ ys) (partAt (xs ++ ys) nodes)) variables)
+        (same-first (partLine (xs ++ ys)) (partLine xs) nodes parts-front)
         ∙ ap (λ (p : ℕ). nodeLines xs nodes ++ joined (variableLine (xs ++ ys) p) variables) parts-end
         ∙ ap (λ (l : List ℕ). nodeLines xs nodes ++ l)
-        (same-first (variableLine (xs ++ ys) (partAt xs nodes)) (variableLine xs (partAt xs nodes)) variables (λ x h. variable-front (partAt xs nodes) x (omega arith)))
+        (same-first (variableLine (xs ++ ys) (partAt xs nodes)) (variableLine xs (partAt xs nodes)) variables
+        (λ x h. variable-front (partAt xs nodes) x (omega arith)))
 
 -- a run
 pub run-front :
-    (a : Answer) (trace more snapshot rest : List ℕ) (nodes variables : ℕ) → 7 * (a .turns) ≤ length trace → partAt snapshot nodes + 4 * variables ≤ length snapshot
+    (a : Answer) (trace more snapshot rest : List ℕ) (nodes variables : ℕ)
+    → 7 * (a .turns) ≤ length trace → partAt snapshot nodes + 4 * variables ≤ length snapshot
     → runLines a (trace ++ more) (snapshot ++ rest) nodes variables ≡ runLines a trace snapshot nodes variables
 unfolding runLines
-run-front a trace more snapshot rest nodes variables h i = rw (entries-front trace more (a .turns) h, snapshot-front snapshot rest nodes variables i)
+run-front a trace more snapshot rest nodes variables h i =
+    rw (entries-front trace more (a .turns) h, snapshot-front snapshot rest nodes variables i)
 
 -- the parts of the nodes of a state begin where the definition says
 pub parts-of : (s : State) (k : ℕ) (rest : List ℕ) → partAt (nodesBytes s k ++ rest) k ≡ length (nodesBytes s k)
