@@ -1,2 +1,1 @@
 pub mod Delivering
-pub mod Exporting

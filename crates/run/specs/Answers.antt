@@ -3,8 +3,9 @@ use Prim.Native.Nat.{ℕ}
 use mathlib.Core.Path.{_≡_}
 use mathlib.Core.Bool.{Bool, true, false}
 use mathlib.Core.List.{List}
+use lib.ListN.{length}
 use Rattle.model.specs.Output.{Answer as Meant}
-use Rattle.model.specs.Refusal.{Refusal, Sizes}
+use Rattle.model.specs.Refusal.{Refusal, Sizes, sizes}
 use Rattle.model.specs.Result.{Result, refused, ran, monitored, unmonitored, Buffers, sizesOf, traceAfter, snapshotAfter, workAfter}
 use Rattle.command.specs.Reading.{refusalOf}
 use Rattle.turns.specs.Endings.{answerOf}
@@ -30,6 +31,17 @@ toldIn (ran x trace snapshot) = answer x
 abbrev pub resultFor : Bool → List ℕ → Sizes → Result
 resultFor true job b = monitored job b
 resultFor false job b = unmonitored job b
+
+-- the same, with these three buffers
+abbrev pub resultWith : Bool → List ℕ → List ℕ → List ℕ → List ℕ → Result
+resultWith m job trace snapshot work = resultFor m job (sizes (length trace) (length snapshot) (length work))
+
+-- the model's result of the monitored ("watched") run of a job with these three buffers, and of the unmonitored ("bare") one
+abbrev pub monitoredWith : List ℕ → List ℕ → List ℕ → List ℕ → Result
+monitoredWith = resultWith true
+
+abbrev pub unmonitoredWith : List ℕ → List ℕ → List ℕ → List ℕ → Result
+unmonitoredWith = resultWith false
 
 -- the three buffers with what they hold
 abbrev pub buffers : List ℕ → List ℕ → List ℕ → Buffers

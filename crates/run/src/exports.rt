@@ -1,8 +1,8 @@
 // The entry points for programs in C and Rust (include/leqsumir.h): the answer as eight numbers.
 ghost use mathlib.Core.Path.{_≡_};
-ghost use Rattle.model.specs.Result.{monitored, unmonitored, sizesOf};
-ghost use Rattle.run.specs.Answers.{toldBy, buffers};
-ghost use Rattle.run.specs.Exported.{numbersIn, Exports};
+ghost use Rattle.model.specs.Result.{traceAfter, snapshotAfter, workAfter};
+ghost use Rattle.run.specs.Answers.{toldBy, toldIn, monitoredWith, unmonitoredWith};
+ghost use Rattle.run.specs.Exported.{numbersIn};
 use crate::answer::Answer;
 use crate::run_monitored;
 use crate::run_unmonitored;
@@ -38,7 +38,14 @@ pub extern "C" fn leqsumir_run_monitored(
     work: &mut [u8],
     answer: &mut [u64; 8],
 )
-    ensures { λ _. ⌜ Exports (monitored (now (job .entry)) (sizesOf (buffers (now (trace .entry)) (now (snapshot .entry)) (now (work .entry))))) (buffers (now (trace .entry)) (now (snapshot .entry)) (now (work .entry))) (buffers (now (trace .exit)) (now (snapshot .exit)) (now (work .exit))) (now (answer .exit)) ⌝ }
+    ensures told { λ _. ⌜ now (answer .exit) ≡ numbersIn
+        (toldIn (monitoredWith (now (job .entry)) (now (trace .entry)) (now (snapshot .entry)) (now (work .entry)))) ⌝ }
+    ensures trace { λ _. ⌜ now (trace .exit) ≡ traceAfter
+        (monitoredWith (now (job .entry)) (now (trace .entry)) (now (snapshot .entry)) (now (work .entry))) (now (trace .entry)) ⌝ }
+    ensures snapshot { λ _. ⌜ now (snapshot .exit) ≡ snapshotAfter
+        (monitoredWith (now (job .entry)) (now (trace .entry)) (now (snapshot .entry)) (now (work .entry))) (now (snapshot .entry)) ⌝ }
+    ensures work { λ _. ⌜ now (work .exit) ≡ workAfter
+        (monitoredWith (now (job .entry)) (now (trace .entry)) (now (snapshot .entry)) (now (work .entry))) (now (work .entry)) ⌝ }
 {
     *answer = numbers_in(run_monitored(job, trace, snapshot, work));
 }
@@ -52,7 +59,14 @@ pub extern "C" fn leqsumir_run_unmonitored(
     work: &mut [u8],
     answer: &mut [u64; 8],
 )
-    ensures { λ _. ⌜ Exports (unmonitored (now (job .entry)) (sizesOf (buffers (now (trace .entry)) (now (snapshot .entry)) (now (work .entry))))) (buffers (now (trace .entry)) (now (snapshot .entry)) (now (work .entry))) (buffers (now (trace .exit)) (now (snapshot .exit)) (now (work .exit))) (now (answer .exit)) ⌝ }
+    ensures told { λ _. ⌜ now (answer .exit) ≡ numbersIn
+        (toldIn (unmonitoredWith (now (job .entry)) (now (trace .entry)) (now (snapshot .entry)) (now (work .entry)))) ⌝ }
+    ensures trace { λ _. ⌜ now (trace .exit) ≡ traceAfter
+        (unmonitoredWith (now (job .entry)) (now (trace .entry)) (now (snapshot .entry)) (now (work .entry))) (now (trace .entry)) ⌝ }
+    ensures snapshot { λ _. ⌜ now (snapshot .exit) ≡ snapshotAfter
+        (unmonitoredWith (now (job .entry)) (now (trace .entry)) (now (snapshot .entry)) (now (work .entry))) (now (snapshot .entry)) ⌝ }
+    ensures work { λ _. ⌜ now (work .exit) ≡ workAfter
+        (unmonitoredWith (now (job .entry)) (now (trace .entry)) (now (snapshot .entry)) (now (work .entry))) (now (work .entry)) ⌝ }
 {
     *answer = numbers_in(run_unmonitored(job, trace, snapshot, work));
 }

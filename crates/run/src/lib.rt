@@ -2,8 +2,9 @@
 pub mod answer;
 mod exports;
 
-ghost use Rattle.model.specs.Result.{sizesOf};
-ghost use Rattle.run.specs.Answers.{toldBy, buffers, call, resultFor, Delivers, Monitored, Unmonitored};
+ghost use mathlib.Core.Path.{_≡_};
+ghost use Rattle.model.specs.Result.{sizesOf, traceAfter, snapshotAfter, workAfter};
+ghost use Rattle.run.specs.Answers.{toldBy, toldIn, buffers, resultWith, monitoredWith, unmonitoredWith};
 ghost use Rattle.run.specs.Delivered.{AcceptedWith, DeliversRun};
 use answer::Answer;
 use command::bytes;
@@ -28,7 +29,9 @@ fn run_accepted(
     monitored: bool,
 ) -> Ending
     requires { ⌜ AcceptedWith (now job) (now tables) (sizesOf (buffers (now trace) (now snapshot) (now work))) ⌝ }
-    ensures { λ r. ⌜ DeliversRun monitored (now (job .entry)) (buffers (now (trace .entry)) (now (snapshot .entry)) (now (work .entry))) (buffers (now (trace .exit)) (now (snapshot .exit)) (now (work .exit))) r ⌝ }
+    ensures { λ r. ⌜ DeliversRun monitored (now (job .entry))
+        (buffers (now (trace .entry)) (now (snapshot .entry)) (now (work .entry)))
+        (buffers (now (trace .exit)) (now (snapshot .exit)) (now (work .exit))) r ⌝ }
 {
     load(job, work);
     let ran = run_turns(job, tables, work, trace, monitored);
@@ -49,7 +52,14 @@ pub fn run(
     work: &mut [u8],
     monitored: bool,
 ) -> Answer
-    ensures { λ r. ⌜ Delivers (resultFor monitored (now (job .entry)) (sizesOf (buffers (now (trace .entry)) (now (snapshot .entry)) (now (work .entry))))) (buffers (now (trace .entry)) (now (snapshot .entry)) (now (work .entry))) (buffers (now (trace .exit)) (now (snapshot .exit)) (now (work .exit))) r ⌝ }
+    ensures told { λ r. ⌜ toldBy r ≡
+        toldIn (resultWith monitored (now (job .entry)) (now (trace .entry)) (now (snapshot .entry)) (now (work .entry))) ⌝ }
+    ensures trace { λ _. ⌜ now (trace .exit) ≡ traceAfter
+        (resultWith monitored (now (job .entry)) (now (trace .entry)) (now (snapshot .entry)) (now (work .entry))) (now (trace .entry)) ⌝ }
+    ensures snapshot { λ _. ⌜ now (snapshot .exit) ≡ snapshotAfter
+        (resultWith monitored (now (job .entry)) (now (trace .entry)) (now (snapshot .entry)) (now (work .entry))) (now (snapshot .entry)) ⌝ }
+    ensures work { λ _. ⌜ now (work .exit) ≡ workAfter
+        (resultWith monitored (now (job .entry)) (now (trace .entry)) (now (snapshot .entry)) (now (work .entry))) (now (work .entry)) ⌝ }
 {
     let mut tables = [0u32; CELLS];
     let verdict = judge(job, &mut tables, trace.len(), snapshot.len(), work.len());
@@ -64,14 +74,28 @@ pub fn run(
 
 // The monitored run (01's "watched").
 pub fn run_monitored(job: &[u8], trace: &mut [u8], snapshot: &mut [u8], work: &mut [u8]) -> Answer
-    ensures { λ r. ⌜ Monitored (now (job .entry)) (call (buffers (now (trace .entry)) (now (snapshot .entry)) (now (work .entry))) (buffers (now (trace .exit)) (now (snapshot .exit)) (now (work .exit))) (toldBy r)) ⌝ }
+    ensures told { λ r. ⌜ toldBy r ≡
+        toldIn (monitoredWith (now (job .entry)) (now (trace .entry)) (now (snapshot .entry)) (now (work .entry))) ⌝ }
+    ensures trace { λ _. ⌜ now (trace .exit) ≡ traceAfter
+        (monitoredWith (now (job .entry)) (now (trace .entry)) (now (snapshot .entry)) (now (work .entry))) (now (trace .entry)) ⌝ }
+    ensures snapshot { λ _. ⌜ now (snapshot .exit) ≡ snapshotAfter
+        (monitoredWith (now (job .entry)) (now (trace .entry)) (now (snapshot .entry)) (now (work .entry))) (now (snapshot .entry)) ⌝ }
+    ensures work { λ _. ⌜ now (work .exit) ≡ workAfter
+        (monitoredWith (now (job .entry)) (now (trace .entry)) (now (snapshot .entry)) (now (work .entry))) (now (work .entry)) ⌝ }
 {
     run(job, trace, snapshot, work, true)
 }
 
 // The unmonitored run (01's "bare").
 pub fn run_unmonitored(job: &[u8], trace: &mut [u8], snapshot: &mut [u8], work: &mut [u8]) -> Answer
-    ensures { λ r. ⌜ Unmonitored (now (job .entry)) (call (buffers (now (trace .entry)) (now (snapshot .entry)) (now (work .entry))) (buffers (now (trace .exit)) (now (snapshot .exit)) (now (work .exit))) (toldBy r)) ⌝ }
+    ensures told { λ r. ⌜ toldBy r ≡
+        toldIn (unmonitoredWith (now (job .entry)) (now (trace .entry)) (now (snapshot .entry)) (now (work .entry))) ⌝ }
+    ensures trace { λ _. ⌜ now (trace .exit) ≡ traceAfter
+        (unmonitoredWith (now (job .entry)) (now (trace .entry)) (now (snapshot .entry)) (now (work .entry))) (now (trace .entry)) ⌝ }
+    ensures snapshot { λ _. ⌜ now (snapshot .exit) ≡ snapshotAfter
+        (unmonitoredWith (now (job .entry)) (now (trace .entry)) (now (snapshot .entry)) (now (work .entry))) (now (snapshot .entry)) ⌝ }
+    ensures work { λ _. ⌜ now (work .exit) ≡ workAfter
+        (unmonitoredWith (now (job .entry)) (now (trace .entry)) (now (snapshot .entry)) (now (work .entry))) (now (work .entry)) ⌝ }
 {
     run(job, trace, snapshot, work, false)
 }

@@ -15,7 +15,7 @@ use Rattle.model.specs.Conclusion.{unmonitoredOf}
 use Rattle.model.specs.Transparency.{AllPermitted, FirstForbidden, stoppedAt}
 use Rattle.model.proofs.Conclusion.{demand1}
 use Rattle.model.proofs.Transparency.{demand3}
-use Rattle.transparency.specs.Claims.{TransparencyHolds, ExportsTransparent, Compares}
+use Rattle.transparency.specs.Claims.{TransparencyHolds, ExportsTransparent}
 
 -- only a refused job tells a refusal
 told-refused : (result : Result) (r : Refusal) → toldIn result ≡ refusal r → result ≡ refused r
@@ -83,7 +83,3 @@ exports-transparency job before after before′ after′ numbers numbers′ em e
     let m = toldIn (monitored job (sizesOf before)) in
     let u = toldIn (unmonitored job (sizesOf before′)) in
     (m, u, em .told, eu .told, transparency job (call before after m) (call before′ after′ u) (record { told = refl; left = em .left }) (record { told = refl; left = eu .left }))
-
--- both calls made
-pub compares : (job : List ℕ) (m u : Call) → Monitored job m → Unmonitored job u → Compares job m u
-compares job m u gm gu = record { monitors = gm; runs = gu; transparency = transparency job m u gm gu }

@@ -46,9 +46,3 @@ ExportsTransparent =
     (job : List ℕ) (before after before′ after′ : Buffers) (numbers numbers′ : List ℕ)
     → Exports (monitored job (sizesOf before)) before after numbers → Exports (unmonitored job (sizesOf before′)) before′ after′ numbers′
     → (m : Told) × (u : Told) × (numbers ≡ numbersIn m) × (numbers′ ≡ numbersIn u) × Transparent job (call before after m) (call before′ after′ u)
-
--- what a function promises that makes both calls; the third follows from the first two by `TransparencyHolds`
-pub record Compares (job : List ℕ) (m u : Call) : Type 0 where
-  pub monitors : Monitored job m
-  pub runs : Unmonitored job u
-  pub transparency : Transparent job m u

@@ -24,7 +24,8 @@ run-accepted-requires c κs =
 returns : tie.Need-returns
 returns c =
     let z = c .before .before .before .before .before .before .before .before .before .args in
-    delivers-refused (z .monitored) (now (z .job)) (buffers (now (z .trace)) (now (z .snapshot)) (now (z .work))) _ (is-refused _ _ _ _ (c .before .before .before .judge .ensures .judged) (c .before .verdict .given .1))
+    let d = delivers-refused (z .monitored) (now (z .job)) (buffers (now (z .trace)) (now (z .snapshot)) (now (z .work))) _ (is-refused _ _ _ _ (c .before .before .before .judge .ensures .judged) (c .before .verdict .given .1)) in
+    (d .told, (d .left .trace, (d .left .snapshot, d .left .work)))
 
 same-length : tie.Need-same-length
 same-length c = search needs
@@ -39,7 +40,8 @@ returns-2 : tie.Need-returns-2
 returns-2 c =
     let z = c .before .before .before .before .before .before .before .before .before .before .before .before .before .before .before .before .before .before .before .args in
     let a = is-accepted _ _ _ (c .before .before .before .before .before .before .before .before .before .before .before .before .before .judge .ensures .judged) (c .before .before .before .before .before .before .before .before .before .before .before .enum-told .given .1) in
-    delivers-ran (z .monitored) (now (z .job)) (buffers (now (z .trace)) (now (z .snapshot)) (now (z .work))) (buffers _ _ _) _ (a .past) (a .decoded) (c .before .before .before .before .before .before .run-accepted .ensures)
+    let d = delivers-ran (z .monitored) (now (z .job)) (buffers (now (z .trace)) (now (z .snapshot)) (now (z .work))) (buffers _ _ _) _ (a .past) (a .decoded) (c .before .before .before .before .before .before .run-accepted .ensures) in
+    (d .told, (d .left .trace, (d .left .snapshot, d .left .work)))
 
 pub run-spec : {M : Type 1} → statement M
 run-spec =

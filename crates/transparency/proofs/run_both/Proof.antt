@@ -1,8 +1,8 @@
 -- `transparency::run_both` meets its contract.
 use denote.Ref.{now}
 use borrow.Author.Needs.{needs}
-use Rattle.run.specs.Answers.{buffers, call}
-use Rattle.transparency.proofs.Claims.{compares}
+use Rattle.run.specs.Answers.{buffers, call, Monitored, Unmonitored}
+use Rattle.transparency.proofs.Claims.{transparency}
 use Rattle.transparency.proofs.run_both.Statement.{statement}
 use Rattle.transparency.proofs.run_both.Tie as tie
 
@@ -33,7 +33,13 @@ same-length-6 c = search needs
 returns : tie.Need-returns
 returns c =
     let a = c .before .before .before .before .before .before .before .before .before .before .before .before .before .before .before .before .before .before .before .before .before .before .before .before .before .before .before .args in
-    compares (now (a .job)) (call (buffers (now (a .trace)) (now (a .snapshot)) (now (a .work))) (buffers _ _ _) _) (call (buffers (now (a .unmonitored-trace)) (now (a .unmonitored-snapshot)) (now (a .unmonitored-work))) (buffers _ _ _) _) (c .before .before .before .before .before .before .before .before .before .before .before .before .before .before .before .before .run-monitored .ensures) (c .before .before .before .before .before .before .run-unmonitored .ensures)
+    let m = call (buffers (now (a .trace)) (now (a .snapshot)) (now (a .work))) (buffers _ _ _) _ in
+    let u = call (buffers (now (a .unmonitored-trace)) (now (a .unmonitored-snapshot)) (now (a .unmonitored-work))) (buffers _ _ _) _ in
+    let e = c .before .before .before .before .before .before .before .before .before .before .before .before .before .before .before .before .run-monitored .ensures in
+    let f = c .before .before .before .before .before .before .run-unmonitored .ensures in
+    let gm : Monitored (now (a .job)) m = record { told = e .0; left = record { trace = e .1 .0; snapshot = e .1 .1 .0; work = e .1 .1 .1 } } in
+    let gu : Unmonitored (now (a .job)) u = record { told = f .0; left = record { trace = f .1 .0; snapshot = f .1 .1 .0; work = f .1 .1 .1 } } in
+    (gm, (gu, transparency (now (a .job)) m u gm gu))
 
 pub run-both-spec : {M : Type 1} → statement M
 run-both-spec =

@@ -1,7 +1,7 @@
 -- `run::exports::leqsumir_run_unmonitored` meets its contract.
+use mathlib.Core.Path.{ap, _∙_}
 use borrow.Author.Needs.{needs}
-use Rattle.run.specs.Answers.{buffers}
-use Rattle.run.proofs.Exporting.{exports-numbers}
+use Rattle.run.specs.Exported.{numbersIn}
 use Rattle.run.proofs.exports.leqsumir_run_unmonitored.Statement.{statement}
 use Rattle.run.proofs.exports.leqsumir_run_unmonitored.Tie as tie
 
@@ -21,7 +21,9 @@ same-length-3 : tie.Need-same-length-3
 same-length-3 c = search needs
 
 returns : tie.Need-returns
-returns c = exports-numbers _ _ (buffers _ _ _) (c .before .before .before .before .before .before .before .run-unmonitored .result) _ (c .before .before .before .before .before .before .before .run-unmonitored .ensures) (c .numbers-in .ensures)
+returns c =
+    let e = c .before .before .before .before .before .before .before .run-unmonitored .ensures in
+    (c .numbers-in .ensures ∙ ap numbersIn (e .0), e .1)
 
 pub leqsumir-run-unmonitored-spec : {M : Type 1} → statement M
 leqsumir-run-unmonitored-spec =
