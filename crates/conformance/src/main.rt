@@ -13,6 +13,7 @@ use input::TRACE;
 use input::WORK;
 use input::read_run;
 use libc::STDOUT_FILENO;
+use printing::Printed;
 use printing::run_to_text;
 use text::put;
 ghost use mathlib.Core.Path.{_≡_};
@@ -52,10 +53,13 @@ fn conform(
     let seed = head.seed;
     fill_all(trace, snapshot, work, seed);
     let printed = run_to_text(text, at, job, trace, snapshot, work, head.monitored);
-    let next = printed.next;
-    let answer = printed.answer;
-    let keeps = kept(answer, job, trace, snapshot, work, seed);
-    put_verdict(text, next, keeps)
+    match printed {
+        Printed::Put(next, answer) => {
+            let keeps = kept(answer, job, trace, snapshot, work, seed);
+            put_verdict(text, next, keeps)
+        }
+        Printed::NoRoom => at,
+    }
 }
 
 // Writes the text out if that of one more run may not fit behind it, and answers where that goes.
@@ -70,8 +74,8 @@ fn make_room(text: &[u8], at: usize) -> usize
     0
 }
 
-// Runs one job after another, with room for the largest lengths, and answers where the text that still waits ends. A proved loop has to end,
-// and nothing says that the input does: the rounds are counted down from a number that no input uses up.
+// Runs one job after another, with room for the largest lengths, and answers where the text that still waits ends. A proved loop has to
+// end, and nothing says that the input does: the rounds are counted down from a number that no input uses up.
 fn conform_all(text: &mut [u8]) -> usize
     requires { ⌜ length (now text) ≡ 262144 ⌝ }
     ensures { λ r. ⌜ r ≤ 262144 ⌝ }

@@ -1,8 +1,17 @@
-// Reads a job from standard input, runs it monitored (01's "watched"), or unmonitored with the argument `bare`, and prints the lines of its run.
+// Reads a job from standard input, runs it monitored (01's "watched"), or unmonitored with the argument `bare`, and prints the lines of
+// its run.
 use libc::STDERR_FILENO;
 use libc::STDIN_FILENO;
 use libc::STDOUT_FILENO;
+use printing::Printed;
+use printing::TEXT;
 use printing::run_to_text;
+ghost use Prim.Native.Nat.{_≤_};
+ghost use lib.ListN.{length};
+ghost use Rattle.model.specs.Refusal.{sizes};
+ghost use Rattle.writing.specs.Writing.{Writes};
+ghost use Rattle.run.specs.Answers.{resultFor};
+ghost use Rattle.printing.specs.Printing.{resultLines, textSize};
 
 // The bytes that are read at most: one more than a job may have, so that a longer one is refused for its length.
 const JOB: usize = 16385;
@@ -13,9 +22,6 @@ const TRACE: usize = 28672;
 const SNAPSHOT: usize = 2624;
 
 const WORK: usize = 16384;
-
-// The bytes of text that a run prints at most.
-const TEXT: usize = 131072;
 
 // What the program is started for.
 enum Order {
@@ -46,24 +52,38 @@ fn asked() -> Order {
     Order::Unknown
 }
 
-// Runs the job on standard input and prints its lines.
-fn print(monitored: bool) {
-    let mut job = [0u8; JOB];
+// Puts the lines of a job's run at the front of the text, and answers the place after them.
+fn put_lines(text: &mut [u8], job: &[u8], monitored: bool) -> usize
+    requires { ⌜ textSize ≤ length (now text) ⌝ }
+    ensures end { λ r. ⌜ r ≤ textSize ⌝ }
+    ensures text { λ r. ⌜ Writes
+        (resultLines (now (job .entry)) (resultFor monitored (now (job .entry)) (sizes 28672 2624 16384)))
+        (now (text .entry)) 0 (now (text .exit)) r ⌝ }
+{
     let mut trace = [0u8; TRACE];
     let mut snapshot = [0u8; SNAPSHOT];
     let mut work = [0u8; WORK];
-    let mut text = [0u8; TEXT];
-    let size = io::read_full(STDIN_FILENO, &mut job);
     let printed = run_to_text(
-        &mut text,
+        text,
         0,
-        &job[..size],
+        job,
         &mut trace,
         &mut snapshot,
         &mut work,
         monitored,
     );
-    let end = printed.next;
+    match printed {
+        Printed::Put(next, _) => next,
+        Printed::NoRoom => 0,
+    }
+}
+
+// Runs the job on standard input and prints its lines.
+fn print(monitored: bool) {
+    let mut job = [0u8; JOB];
+    let mut text = [0u8; TEXT];
+    let size = io::read_full(STDIN_FILENO, &mut job);
+    let end = put_lines(&mut text, &job[..size], monitored);
     io::write_all(STDOUT_FILENO, &text[..end]);
 }
 

@@ -3,3 +3,4 @@ pub mod Short
 pub mod Outcomes
 pub mod Worked
 pub mod Meaning
+pub mod Room

@@ -1,13 +1,14 @@
 -- What a run delivers can be printed, and what is printed of it is the text of the model's result.
 use Prim.Native.Nat.{ℕ, _+_, _*_, _≤_}
 use mathlib.Core.Path.{_≡_, refl, ap, _∙_, subst}
-use mathlib.Core.Bool.{Bool, true, false}
+use mathlib.Core.Bool.{Bool, true, false, cond}
 use mathlib.Core.List.{List, _++_}
 use native.Mathlib.Omega.{arith}
 use lib.ListN.{length, drop, length-append, length-map}
 use Rattle.run.specs.declared.answer.Answer.{Answer}
 use Rattle.run.specs.declared.answer.Answer.the-variants as a
 use Rattle.run.specs.Answers.{resultFor, Delivers}
+use Rattle.writing.specs.Writing.{Writes, placed}
 use Rattle.lines.specs.Lines.{partAt, runLines}
 use Rattle.run.proofs.Delivering.{and-then-accepted, result-ran, result-refused}
 use Rattle.model.specs.Table.{NODE, VAR}
@@ -18,7 +19,7 @@ use Rattle.model.specs.State.{State}
 use Rattle.model.specs.Run.{Run, monitoredRun, unmonitoredRun, entriesOf}
 use Rattle.model.specs.Output.{answerIn, traceIn, nodesBytes, variablesBytes, snapshotBytes}
 use Rattle.model.specs.Refusal.{Decoded, accepted, rejected, decodeJob, shortBuffer, decodeFor}
-use Rattle.model.specs.Result.{Result, refused, ran, report, Buffers, sizesOf, written}
+use Rattle.model.specs.Result.{Result, refused, ran, report, Buffers, sizesOf, written, traceAfter, snapshotAfter, workAfter}
 use Rattle.model.specs.Valid.{Bytes, Valid}
 use Rattle.model.proofs.Valid.{job-valid, limits}
 use Rattle.model.proofs.Growth.{length-turns}
@@ -32,7 +33,8 @@ use Rattle.job.specs.Decoding.{Decides}
 use Rattle.turns.specs.declared.ending.Ending.{Ending}
 use Rattle.turns.specs.Endings.{answerOf}
 use Rattle.turns.specs.Runs.{runOf}
-use Rattle.printing.specs.Printing.{nodesIn, variablesIn, resultLines}
+use Rattle.printing.specs.declared.Printed.the-variants as p
+use Rattle.printing.specs.Printing.{nodesIn, variablesIn, resultLines, textSize, noRoom, saidBy, saidOf}
 use Rattle.printing.proofs.Fronts.{parts-end, run-front, parts-of}
 use Rattle.printing.proofs.Short.{run-short}
 
@@ -42,9 +44,11 @@ stands-of (accepted past) t r h is = h .judged .tables past refl
 stands-of (rejected q) t r h is = absurd is
 
 -- a refusal
-pub refused-result : (r : Result) (before after : Buffers) (x : Answer) (q : Refused) → Delivers r before after x → x ≡ a.Refused q → r ≡ refused (refusalOf q)
+pub refused-result : (r : Result) (before after : Buffers) (x : Answer) (q : Refused) → Delivers r before after x → x ≡ a.Refused q → r ≡
+    refused (refusalOf q)
 refused-result (refused p) before after x q d e = let told = rw e at (d .told) in cc
-refused-result (ran y trace snapshot) before after x q d e = let told = rw e at (d .told) in let w : _≡_ {A = ℕ} 0 1 = cc in absurd (omega arith)
+refused-result (ran y trace snapshot) before after x q d e = let told = rw e at (d .told) in let w : _≡_ {A = ℕ} 0 1 = cc in absurd (omega
+    arith)
 
 -- a run that ended is the model's run of the commands of an accepted job
 pub record EndedAs (m : Bool) (job : List ℕ) (before after : Buffers) (x : Ending) : Type 0 where
@@ -64,7 +68,8 @@ ended-as m job before after x y d e = by-decoded (decodeFor job (sizesOf before)
     by-decoded : (f : Decoded) → decodeFor job (sizesOf before) ≡ f → EndedAs m job before after y
     by-decoded (accepted past) p =
         let same = result-ran m job (sizesOf before) past p in
-        let given : Delivers (report (programOf past) (runOf m past)) before after (a.Ended y) = subst (λ (z : Answer). Delivers (report (programOf past) (runOf m past)) before after z) e (subst (λ (r : Result). Delivers r before after x) same d) in
+        let given : Delivers (report (programOf past) (runOf m past)) before after (a.Ended y) = subst (λ (z : Answer). Delivers (report
+        (programOf past) (runOf m past)) before after z) e (subst (λ (r : Result). Delivers r before after x) same d) in
         let told = given .told in
         record {
           past = past;
@@ -76,7 +81,8 @@ ended-as m job before after x y d e = by-decoded (decodeFor job (sizesOf before)
         }
     by-decoded (rejected r) p =
         let same = result-refused m job (sizesOf before) r p in
-        let given : Delivers (refused r) before after (a.Ended y) = subst (λ (z : Answer). Delivers (refused r) before after z) e (subst (λ (q : Result). Delivers q before after x) same d) in
+        let given : Delivers (refused r) before after (a.Ended y) = subst (λ (z : Answer). Delivers (refused r) before after z) e (subst
+        (λ (q : Result). Delivers q before after x) same d) in
         let told = given .told in
         let w : _≡_ {A = ℕ} 0 1 = cc in absurd (omega arith)
 
@@ -146,13 +152,39 @@ module _ (m : Bool) (job : List ℕ) (before after : Buffers) (x : Ending) (e : 
 
   pub lines-short :
       Bytes (after .trace) → Bytes (after .snapshot)
-      → length (runLines (answerOf x) (after .trace) (after .snapshot) (nodesIn job) (variablesIn job)) ≤ 131072
+      → length (runLines (answerOf x) (after .trace) (after .snapshot) (nodesIn job) (variablesIn job)) ≤ textSize
   lines-short b c =
-      omega (arith, run-short (answerOf x) (after .trace) (after .snapshot) b c (nodesIn job) (variablesIn job), turns-most, parts, snapshot-fits past (job-valid job past (e .decoded) .commands) (turnsOf past) (run .final) (bounded .final))
+      omega (
+        arith,
+        run-short (answerOf x) (after .trace) (after .snapshot) b c (nodesIn job) (variablesIn job),
+        turns-most,
+        parts,
+        snapshot-fits past (job-valid job past (e .decoded) .commands) (turnsOf past) (run .final) (bounded .final),
+      )
 
-  pub lines-same : runLines (answerOf x) (after .trace) (after .snapshot) (nodesIn job) (variablesIn job) ≡ resultLines job (resultFor m job (sizesOf before))
+  pub lines-same : runLines (answerOf x) (after .trace) (after .snapshot) (nodesIn job) (variablesIn job) ≡ resultLines job (resultFor m
+      job (sizesOf before))
   unfolding report
   lines-same =
       let fits = parts-fit past (run .final) in
       rw (e .result, e .trace, e .snapshot, ← e .answered)
-      (run-front (answerOf x) (traceIn run) (drop (length (traceIn run)) (before .trace)) snapshot (drop (length snapshot) (before .snapshot)) (nodesIn job) (variablesIn job) (omega (arith, trace-size)) (rw (nodes-same, variables-same) (omega (arith, fits))))
+      (run-front (answerOf x) (traceIn run) (drop (length (traceIn run)) (before .trace)) snapshot (drop (length snapshot) (before
+      .snapshot)) (nodesIn job) (variablesIn job) (omega (arith, trace-size)) (rw (nodes-same, variables-same) (omega (
+        arith,
+        fits,
+      ))))
+
+-- what a call with room says and leaves: the lines of the result, and its buffers
+pub put-as :
+    (room : Bool) (job text : List ℕ) (at : ℕ) (printed : List ℕ) (next : ℕ) (r : Result) (before after : Buffers) (x : Answer)
+    → room ≡ true → Writes (resultLines job r) text at printed next → Delivers r before after x
+    → (saidBy (p.Put next x) ≡ cond room (saidOf at job r) noRoom)
+    × ((printed ≡ cond room (placed text at (resultLines job r)) text)
+    × ((after .trace ≡ cond room (traceAfter r (before .trace)) (before .trace))
+    × ((after .snapshot ≡ cond room (snapshotAfter r (before .snapshot)) (before .snapshot))
+    × (after .work ≡ cond room (workAfter r (before .work)) (before .work)))))
+put-as true job text at printed next r before after x e w d =
+    let place = w .place in
+    let told = d .told in
+    (cc, (w .buffer, (d .left .trace, (d .left .snapshot, d .left .work))))
+put-as false job text at printed next r before after x e w d = let z : _≡_ {A = ℕ} 0 1 = cc in absurd (omega arith)

@@ -15,6 +15,7 @@ use Rattle.model.specs.Run.{monitoredRun, unmonitoredRun}
 use Rattle.model.specs.Output.{snapshotBytes}
 use Rattle.model.specs.Refusal.{Refusal, Decoded, accepted, rejected, acceptUnless, andThen, decodeJob, Sizes, workSize, shortBuffer, decodeFor}
 use Rattle.model.specs.Result.{Result, refused, report, monitored, unmonitored, Buffers, sizesOf, written}
+use Rattle.model.specs.Result.{traceAfter, snapshotAfter, workAfter}
 use Rattle.model.specs.Valid.{Bytes, ValidJob}
 use Rattle.model.proofs.Results.{buffers-fit}
 use Rattle.model.proofs.Valid.{job-valid, limits}
@@ -31,9 +32,10 @@ use Rattle.output.specs.Written.{shownBytes}
 use Rattle.turns.specs.declared.ending.Ending.{Ending}
 use Rattle.turns.specs.declared.Ran.{Ran}
 use Rattle.turns.specs.Runs.{runOf, Loaded, RunsAs}
+use Rattle.run.specs.declared.answer.Answer.{Answer}
 use Rattle.run.specs.declared.answer.Answer.the-variants as a
 use Rattle.run.specs.Delivered.{AcceptedWith, DeliversRun}
-use Rattle.run.specs.Answers.{answer, resultFor, buffers, Delivers}
+use Rattle.run.specs.Answers.{answer, toldBy, toldIn, resultFor, buffers, Delivers}
 
 -- accepted behind a further test: accepted before it, and the test finds nothing
 pub and-then-accepted : (test : List Command → Option Refusal) (d : Decoded) (past : List Command) → andThen test d ≡ accepted past → (d ≡ accepted past) × (test past ≡ none)
@@ -145,3 +147,11 @@ module _ (m : Bool) (job : List ℕ) (before : Buffers) where
 
   pub delivers-ran : (after : Buffers) (x : Ending) (past : List Command) → decodeFor job (sizesOf before) ≡ accepted past → DeliversRun m job before after x → Delivers (resultFor m job (sizesOf before)) before after (a.Ended x)
   delivers-ran after x past e h = subst (λ (r : Result). Delivers r before after (a.Ended x)) (sym (result-ran m job (sizesOf before) past e)) (h past e)
+
+-- what is delivered, from what is told and the three buffers
+pub delivers-by :
+    (result : Result) (before after : Buffers) (x : Answer)
+    → toldBy x ≡ toldIn result → after .trace ≡ traceAfter result (before .trace) → after .snapshot ≡ snapshotAfter result (before .snapshot)
+    → after .work ≡ workAfter result (before .work) → Delivers result before after x
+delivers-by result before after x told trace snapshot work =
+    record { told = told; left = record { trace = trace; snapshot = snapshot; work = work } }

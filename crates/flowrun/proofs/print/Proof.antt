@@ -11,26 +11,17 @@ slice-aggregate-read-full c = search needs
 read-full-requires : tie.Need-read-full-requires
 read-full-requires c κs = search needs
 
-slice-aggregate-run-to-text : tie.Need-slice-aggregate-run-to-text
-slice-aggregate-run-to-text c = search needs
+slice-aggregate-put-lines : tie.Need-slice-aggregate-put-lines
+slice-aggregate-put-lines c = search needs
 
 array-share-prefix-job : tie.Need-array-share-prefix-job
 array-share-prefix-job c = search needs
 
-slice-aggregate-run-to-text-2 : tie.Need-slice-aggregate-run-to-text-2
-slice-aggregate-run-to-text-2 c = search needs
+slice-aggregate-put-lines-2 : tie.Need-slice-aggregate-put-lines-2
+slice-aggregate-put-lines-2 c = search needs
 
-slice-aggregate-run-to-text-3 : tie.Need-slice-aggregate-run-to-text-3
-slice-aggregate-run-to-text-3 c = search needs
-
-slice-aggregate-run-to-text-4 : tie.Need-slice-aggregate-run-to-text-4
-slice-aggregate-run-to-text-4 c = search needs
-
-slice-aggregate-run-to-text-5 : tie.Need-slice-aggregate-run-to-text-5
-slice-aggregate-run-to-text-5 c = search needs
-
-run-to-text-requires : tie.Need-run-to-text-requires
-run-to-text-requires c κs = search needs
+put-lines-requires : tie.Need-put-lines-requires
+put-lines-requires c κs = search needs
 
 array-share-prefix-text : tie.Need-array-share-prefix-text
 array-share-prefix-text c = search needs
@@ -50,13 +41,10 @@ print-spec =
     (tie.spec
     slice-aggregate-read-full
     read-full-requires
-    slice-aggregate-run-to-text
+    slice-aggregate-put-lines
     array-share-prefix-job
-    slice-aggregate-run-to-text-2
-    slice-aggregate-run-to-text-3
-    slice-aggregate-run-to-text-4
-    slice-aggregate-run-to-text-5
-    run-to-text-requires
+    slice-aggregate-put-lines-2
+    put-lines-requires
     array-share-prefix-text
     slice-aggregate-write-all
     write-all-requires

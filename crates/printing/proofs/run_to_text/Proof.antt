@@ -1,14 +1,32 @@
 -- `printing::run_to_text` meets its contract.
-use mathlib.Core.Path.{ap}
+use mathlib.Core.Path.{refl, sym, ap, _∙_}
+use Prim.Native.Nat.{_+_}
 use native.Mathlib.Omega.{arith}
+use lib.ListN.{length}
 use denote.Ref.{now}
-use borrow.Author.Needs.{needs}
-use Rattle.run.specs.Answers.{buffers}
-use Rattle.printing.specs.Printing.{resultLines}
+use borrow.Author.Tests.{not-true, not-false, leb-true}
+use Rattle.run.specs.declared.answer.Answer.the-variants as a
+use Rattle.model.specs.Result.{sizesOf}
+use Rattle.run.specs.Answers.{buffers, resultFor}
+use Rattle.run.proofs.Delivering.{delivers-by}
+use Rattle.printing.specs.Printing.{resultLines, textSize}
 use Rattle.printing.proofs.Outcomes.{refused-result, ended-as, is-accepted, trace-inside, snapshot-inside, lines-short, lines-same}
+use Rattle.printing.proofs.Outcomes.{put-as}
 use Rattle.printing.proofs.Short.{refused-short}
+use borrow.Author.Needs.{needs}
 use Rattle.printing.proofs.run_to_text.Statement.{statement}
 use Rattle.printing.proofs.run_to_text.Tie as tie
+
+has-room-requires : tie.Need-has-room-requires
+has-room-requires c κs = search needs
+
+same-length : tie.Need-same-length
+same-length c = search needs
+
+returns : tie.Need-returns
+returns c =
+    let full = sym (c .before .has-room .ensures) ∙ not-true _ (c .if1 .taken) in
+    (omega arith, rw full (refl, (refl, (refl, (refl, refl)))))
 
 run-requires : tie.Need-run-requires
 run-requires c κs = search needs
@@ -17,19 +35,31 @@ enum-known-answer : tie.Need-enum-known-answer
 enum-known-answer c = search needs
 
 put-refusal-requires : tie.Need-put-refusal-requires
-put-refusal-requires c κs = omega (arith, c .before .before .before .before .before .before .before .before .before .before .before .before .before .before .before .before .before .before .before .pre, refused-short (c .before .before .answer .given .0 .0 .number) (c .before .before .answer .given .0 .0 .place))
+put-refusal-requires c κs =
+    let z = c .before .before .before .before .before .before .before .before .before .before .before .before .before .before .before .before .before .before .before .before .before .before .args in
+    let room = leb-true (z .at + textSize) (length (now (z .text))) (sym (c .before .before .before .before .before .before .before .before .before .before .before .before .before .before .before .has-room .ensures) ∙ not-false _ (c .before .before .before .before .before .before .before .before .before .before .before .before .before .before .if1 .left)) in
+    let q = c .before .before .answer .given .0 .0 in
+    omega (arith, room, refused-short (q .number) (q .place))
 
 enum-known-answer-2 : tie.Need-enum-known-answer-2
 enum-known-answer-2 c = search needs
 
 put-ended-requires : tie.Need-put-ended-requires
 put-ended-requires c κs =
-    let z = c .before .before .before .before .before .before .before .before .before .before .before .before .before .before .before .before .before .before .before .before .before .args in
-    let e = ended-as (z .monitored) (now (z .job)) (buffers (now (z .trace)) (now (z .snapshot)) (now (z .work))) _ _ _ (c .before .before .before .before .before .before .before .before .before .before .before .before .run .ensures) (c .before .before .before .before .answer2 .given .1) in
-    (is-accepted _ _ _ _ _ e, (trace-inside _ _ _ _ _ e, (snapshot-inside _ _ _ _ _ e, omega (arith, c .before .before .before .before .before .before .before .before .before .before .before .before .before .before .before .before .before .before .before .before .before .pre, lines-short _ _ _ _ _ e (λ i. omega (arith, c .before .before .before .before .before .before .before .before .before .before .slice-known5 .given i)) (λ i. omega (arith, c .before .before .before .before .before .before .before .before .slice-known6 .given i))))))
-
-same-length : tie.Need-same-length
-same-length c = search needs
+    let z = c .before .before .before .before .before .before .before .before .before .before .before .before .before .before .before .before .before .before .before .before .before .before .before .before .args in
+    let r = c .before .before .before .before .before .before .before .before .before .before .before .before .run in
+    let b = buffers (now (z .trace)) (now (z .snapshot)) (now (z .work)) in
+    let d = delivers-by (resultFor (z .monitored) (now (z .job)) (sizesOf b)) b (buffers _ _ _) (r .result) (r .ensures .0) (r .ensures .1 .0) (r .ensures .1 .1 .0) (r .ensures .1 .1 .1) in
+    let room = leb-true (z .at + textSize) (length (now (z .text))) (sym (c .before .before .before .before .before .before .before .before .before .before .before .before .before .before .before .before .before .has-room .ensures) ∙ not-false _ (c .before .before .before .before .before .before .before .before .before .before .before .before .before .before .before .before .if1 .left)) in
+    let e = ended-as (z .monitored) (now (z .job)) (buffers (now (z .trace)) (now (z .snapshot)) (now (z .work))) _ _ _ d (c .before .before .before .before .answer2 .given .1) in
+    let short = lines-short _ _ _ _ _ e (λ i. omega (
+      arith,
+      c .before .before .before .before .before .before .before .before .before .before .slice-known5 .given i,
+    )) (λ i. omega (
+      arith,
+      c .before .before .before .before .before .before .before .before .slice-known6 .given i,
+    )) in
+    (is-accepted _ _ _ _ _ e, (trace-inside _ _ _ _ _ e, (snapshot-inside _ _ _ _ _ e, omega (arith, room, short))))
 
 same-length-2 : tie.Need-same-length-2
 same-length-2 c = search needs
@@ -40,14 +70,24 @@ same-length-3 c = search needs
 same-length-4 : tie.Need-same-length-4
 same-length-4 c = search needs
 
-returns : tie.Need-returns
-returns c =
-    let z = c .before .before .before .before .before .before .before .before .before .before .before .before .before .before .before .before .before .before .before .before .before .before .args in
-    let same = ap (resultLines (now (z .job))) (refused-result _ _ _ _ _ (c .before .before .before .before .before .before .before .before .before .before .before .before .before .run .ensures) (c .before .before .before .before .before .answer .given .1)) in
-    (omega (arith, c .before .before .put-refusal .ensures .place, refused-short (c .before .before .before .before .before .answer .given .0 .0 .number) (c .before .before .before .before .before .answer .given .0 .0 .place)), (rw same (c .before .before .put-refusal .ensures), rw (c .before .before .before .before .before .answer .given .1) at (c .before .before .before .before .before .before .before .before .before .before .before .before .before .run .ensures)))
-
 same-length-5 : tie.Need-same-length-5
 same-length-5 c = search needs
+
+returns-2 : tie.Need-returns-2
+returns-2 c =
+    let z = c .before .before .before .before .before .before .before .before .before .before .before .before .before .before .before .before .before .before .before .before .before .before .before .before .before .args in
+    let r = c .before .before .before .before .before .before .before .before .before .before .before .before .before .run in
+    let b = buffers (now (z .trace)) (now (z .snapshot)) (now (z .work)) in
+    let d = delivers-by (resultFor (z .monitored) (now (z .job)) (sizesOf b)) b (buffers _ _ _) (r .result) (r .ensures .0) (r .ensures .1 .0) (r .ensures .1 .1 .0) (r .ensures .1 .1 .1) in
+    let room = sym (c .before .before .before .before .before .before .before .before .before .before .before .before .before .before .before .before .before .before .has-room .ensures) ∙ not-false _ (c .before .before .before .before .before .before .before .before .before .before .before .before .before .before .before .before .before .if1 .left) in
+    let given = c .before .before .before .before .before .answer .given in
+    let q = given .0 .0 in
+    let same = ap (resultLines (now (z .job))) (refused-result _ _ _ _ _ d (given .1)) in
+    let puts = rw (← same) at (c .before .before .put-refusal .ensures) in
+    let run = rw (given .1) at d in (
+      omega (arith, c .before .before .put-refusal .ensures .place, refused-short (q .number) (q .place)),
+      put-as _ (now (z .job)) _ _ _ _ _ (buffers (now (z .trace)) (now (z .snapshot)) (now (z .work))) _ (a.Refused q) room puts run,
+    )
 
 same-length-6 : tie.Need-same-length-6
 same-length-6 c = search needs
@@ -58,28 +98,51 @@ same-length-7 c = search needs
 same-length-8 : tie.Need-same-length-8
 same-length-8 c = search needs
 
-returns-2 : tie.Need-returns-2
-returns-2 c =
-    let z = c .before .before .before .before .before .before .before .before .before .before .before .before .before .before .before .before .before .before .before .before .before .before .before .before .args in
-    let e = ended-as (z .monitored) (now (z .job)) (buffers (now (z .trace)) (now (z .snapshot)) (now (z .work))) _ _ _ (c .before .before .before .before .before .before .before .before .before .before .before .before .before .before .before .run .ensures) (c .before .before .before .before .before .before .before .answer2 .given .1) in
-    (omega (arith, c .before .before .put-ended .ensures .place, lines-short _ _ _ _ _ e (λ i. omega (arith, c .before .before .before .before .before .before .before .before .before .before .before .before .before .slice-known5 .given i)) (λ i. omega (arith, c .before .before .before .before .before .before .before .before .before .before .before .slice-known6 .given i))), (rw (lines-same _ _ _ _ _ e) at (c .before .before .put-ended .ensures), rw (c .before .before .before .before .before .before .before .answer2 .given .1) at (c .before .before .before .before .before .before .before .before .before .before .before .before .before .before .before .run .ensures)))
+same-length-9 : tie.Need-same-length-9
+same-length-9 c = search needs
+
+returns-3 : tie.Need-returns-3
+returns-3 c =
+    let z = c .before .before .before .before .before .before .before .before .before .before .before .before .before .before .before .before .before .before .before .before .before .before .before .before .before .before .before .args in
+    let r = c .before .before .before .before .before .before .before .before .before .before .before .before .before .before .before .run in
+    let b = buffers (now (z .trace)) (now (z .snapshot)) (now (z .work)) in
+    let d = delivers-by (resultFor (z .monitored) (now (z .job)) (sizesOf b)) b (buffers _ _ _) (r .result) (r .ensures .0) (r .ensures .1 .0) (r .ensures .1 .1 .0) (r .ensures .1 .1 .1) in
+    let room = sym (c .before .before .before .before .before .before .before .before .before .before .before .before .before .before .before .before .before .before .before .before .has-room .ensures) ∙ not-false _ (c .before .before .before .before .before .before .before .before .before .before .before .before .before .before .before .before .before .before .before .if1 .left) in
+    let given = c .before .before .before .before .before .before .before .answer2 .given in
+    let e = ended-as (z .monitored) (now (z .job)) (buffers (now (z .trace)) (now (z .snapshot)) (now (z .work))) _ _ _ d (given .1) in
+    let short = lines-short _ _ _ _ _ e (λ i. omega (
+      arith,
+      c .before .before .before .before .before .before .before .before .before .before .before .before .before .slice-known5 .given i,
+    )) (λ i. omega (
+      arith,
+      c .before .before .before .before .before .before .before .before .before .before .before .slice-known6 .given i,
+    )) in
+    let puts = rw (lines-same _ _ _ _ _ e) at (c .before .before .put-ended .ensures) in
+    let run = rw (given .1) at d in (
+      omega (arith, c .before .before .put-ended .ensures .place, short),
+      put-as _ (now (z .job)) _ _ _ _ _ (buffers (now (z .trace)) (now (z .snapshot)) (now (z .work))) _ (a.Ended (given .0 .0)) room puts
+          run,
+    )
 
 pub run-to-text-spec : {M : Type 1} → statement M
 run-to-text-spec =
     tie.close
     (tie.spec
+    has-room-requires
+    same-length
+    returns
     run-requires
     enum-known-answer
     put-refusal-requires
     enum-known-answer-2
     put-ended-requires
-    same-length
     same-length-2
     same-length-3
     same-length-4
-    returns
     same-length-5
+    returns-2
     same-length-6
     same-length-7
     same-length-8
-    returns-2)
+    same-length-9
+    returns-3)
