@@ -11,6 +11,7 @@ ghost use lib.ListN.{length};
 ghost use Rattle.model.specs.Refusal.{sizes};
 ghost use Rattle.writing.specs.Writing.{Writes};
 ghost use Rattle.run.specs.Answers.{resultFor};
+ghost use Rattle.flowrun.specs.Reading.{Within};
 ghost use Rattle.printing.specs.Printing.{resultLines, textSize};
 
 // The bytes that are read at most: one more than a job may have, so that a longer one is refused for its length.
@@ -27,6 +28,12 @@ const WORK: usize = 16384;
 enum Order {
     Run(bool),
     Unknown,
+}
+
+// What reading gives: the number of bytes that were read, or that a read failed.
+enum Input {
+    Bytes(usize),
+    Failed,
 }
 
 // Whether a word is `bare`.
@@ -50,6 +57,35 @@ fn asked() -> Order {
         return Order::Run(false);
     }
     Order::Unknown
+}
+
+// Reads once from standard input, to the front of a buffer.
+fn read_part(buffer: &mut [u8]) -> Input
+    ensures { λ r. ⌜ Within (length (now (buffer .entry))) r ⌝ }
+{
+    let got = libc::read(STDIN_FILENO, buffer);
+    if got < 0 {
+        return Input::Failed;
+    }
+    Input::Bytes(io::count(got, buffer))
+}
+
+// Reads from standard input to the front of a buffer, until the buffer is full, the input ends or a read fails.
+fn read_job(job: &mut [u8]) -> Input
+    ensures { λ r. ⌜ Within (length (now (job .entry))) r ⌝ }
+{
+    let mut size: usize = 0;
+    while size < job.len() {
+        let part = read_part(&mut job[size..]);
+        let Input::Bytes(count) = part else {
+            return Input::Failed;
+        };
+        if count == 0 {
+            return Input::Bytes(size);
+        }
+        size += count;
+    }
+    Input::Bytes(size)
 }
 
 // Puts the lines of a job's run at the front of the text, and answers the place after them.
@@ -78,13 +114,25 @@ fn put_lines(text: &mut [u8], job: &[u8], monitored: bool) -> usize
     }
 }
 
+// Prints the lines of a job's run.
+fn print_lines(job: &[u8], monitored: bool) {
+    let mut text = [0u8; TEXT];
+    let end = put_lines(&mut text, job, monitored);
+    if !io::write_all(STDOUT_FILENO, &text[..end]) {
+        io::write_all(STDERR_FILENO, b"flowrun: cannot write the lines\n");
+    }
+}
+
 // Runs the job on standard input and prints its lines.
 fn print(monitored: bool) {
     let mut job = [0u8; JOB];
-    let mut text = [0u8; TEXT];
-    let size = io::read_full(STDIN_FILENO, &mut job);
-    let end = put_lines(&mut text, &job[..size], monitored);
-    io::write_all(STDOUT_FILENO, &text[..end]);
+    let input = read_job(&mut job);
+    match input {
+        Input::Bytes(size) => print_lines(&job[..size], monitored),
+        Input::Failed => {
+            io::write_all(STDERR_FILENO, b"flowrun: cannot read the job\n");
+        }
+    }
 }
 
 fn main() {

@@ -1,33 +1,35 @@
--- `flowrun::print` is safe and ends. A part of the text is as long as its end says.
+-- `flowrun::print` is safe and ends. What was read fits the buffer.
 use mathlib.Core.Path.{sym}
+use native.Mathlib.Omega.{arith}
 use lib.Seq.{length-take-le}
+use Rattle.flowrun.proofs.Reading.{within}
 use borrow.Author.Needs.{needs}
 use Rattle.flowrun.proofs.print.Statement.{statement}
 use Rattle.flowrun.proofs.print.Tie as tie
 
-slice-aggregate-read-full : tie.Need-slice-aggregate-read-full
-slice-aggregate-read-full c = search needs
+slice-aggregate-read-job : tie.Need-slice-aggregate-read-job
+slice-aggregate-read-job c = search needs
 
-read-full-requires : tie.Need-read-full-requires
-read-full-requires c κs = search needs
+read-job-requires : tie.Need-read-job-requires
+read-job-requires c κs = search needs
 
-slice-aggregate-put-lines : tie.Need-slice-aggregate-put-lines
-slice-aggregate-put-lines c = search needs
+enum-known-input : tie.Need-enum-known-input
+enum-known-input c = search needs
 
 array-share-prefix-job : tie.Need-array-share-prefix-job
-array-share-prefix-job c = search needs
+array-share-prefix-job c = omega (arith, within _ _ _ (c .before .before .before .before .read-job .ensures) (c .before .input .given .1))
 
-slice-aggregate-put-lines-2 : tie.Need-slice-aggregate-put-lines-2
-slice-aggregate-put-lines-2 c = search needs
+slice-aggregate-print-lines : tie.Need-slice-aggregate-print-lines
+slice-aggregate-print-lines c = sym (length-take-le _ _ (array-share-prefix-job (c .before)))
 
-put-lines-requires : tie.Need-put-lines-requires
-put-lines-requires c κs = search needs
+print-lines-requires : tie.Need-print-lines-requires
+print-lines-requires c κs = search needs
 
-array-share-prefix-text : tie.Need-array-share-prefix-text
-array-share-prefix-text c = search needs
+enum-told : tie.Need-enum-told
+enum-told c = search needs
 
 slice-aggregate-write-all : tie.Need-slice-aggregate-write-all
-slice-aggregate-write-all c = sym (length-take-le _ _ (search needs))
+slice-aggregate-write-all c = search needs
 
 write-all-requires : tie.Need-write-all-requires
 write-all-requires c κs = search needs
@@ -35,17 +37,21 @@ write-all-requires c κs = search needs
 returns : tie.Need-returns
 returns c = search needs
 
+returns-2 : tie.Need-returns-2
+returns-2 c = search needs
+
 pub print-spec : {M : Type 1} → statement M
 print-spec =
     tie.close
     (tie.spec
-    slice-aggregate-read-full
-    read-full-requires
-    slice-aggregate-put-lines
+    slice-aggregate-read-job
+    read-job-requires
+    enum-known-input
     array-share-prefix-job
-    slice-aggregate-put-lines-2
-    put-lines-requires
-    array-share-prefix-text
+    slice-aggregate-print-lines
+    print-lines-requires
+    enum-told
     slice-aggregate-write-all
     write-all-requires
-    returns)
+    returns
+    returns-2)

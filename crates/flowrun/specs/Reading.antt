@@ -1,0 +1,9 @@
+-- What the contracts on reading cite.
+use Prim.Native.Nat.{ℕ, _≤_}
+use Rattle.flowrun.specs.declared.Input.{Input}
+use Rattle.flowrun.specs.declared.Input.the-variants as i
+
+-- the bytes that were read are at most as many as the buffer has
+abbrev pub Within : ℕ → Input → Type 0
+Within n (i.Bytes count) = count ≤ n
+Within n i.Failed = Unit {0}
