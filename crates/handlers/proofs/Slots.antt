@@ -1,14 +1,14 @@
 -- A stored command is read back from its slot, and the other slots keep theirs.
-use Prim.Native.Nat.{ℕ, _+_, _*_, _/_, _%_, _^_, _≤_, _<_}
+use Prim.Native.Nat.{ℕ, _+_, _*_, _^_, _≤_, _<_}
 use mathlib.Core.Path.{_≡_, refl, sym, _∙_}
 use mathlib.Core.Bool.{Bool, true, false, cond}
 use mathlib.Core.List.{List, [], _∷_}
 use native.Mathlib.Omega.{arith}
 use mathlib.Core.Logic.{_⊎_, inl, inr, ⊎-elim}
-use lib.Dec.{eqb, ltb}
-use lib.ListN.{length, getD, set, length-set, List·getD-append}
-use lib.Seq.{getD-set-same, getD-set-other, getD-at}
-use borrow.Author.Tests.{eqb-true, eqb-false, eq-eqb, ne-eqb, ltb-true, ltb-false}
+use lib.Dec.{eqb, leb, ltb}
+use lib.ListN.{length, getD, List·getD-append}
+use lib.Seq.{getD-at}
+use borrow.Author.Tests.{eqb-true, eqb-false, eq-eqb, ne-eqb, leb-true, le-leb, ltb-true, ltb-false}
 use Rattle.model.specs.Command.{Command, numberAt}
 use Rattle.model.specs.Declared.{Instruction, instruction, isHandler, openBody, belongs, bodyLength, handlerOf}
 use Rattle.model.specs.Output.{bytes4}
@@ -18,6 +18,8 @@ use Rattle.model.proofs.Growth.{length-handler, handler-new, handler-other, bod
 use Rattle.model.proofs.Ranges.{open-inside}
 use Rattle.model.proofs.Valid.{limits}
 use Rattle.model.proofs.Words.{CommandsFit, bytes-spell}
+use Rattle.writing.specs.Writing.{placed}
+use Rattle.writing.proofs.Placing.{length-placed, placed-inside, placed-outside}
 use Rattle.handlers.specs.Loading.{slotOf, stored, loaded}
 
 -- the command in a slot
@@ -26,7 +28,11 @@ instructionIn w n i = instruction (getD w (slotOf n i) 0) (numberAt w (slotOf n 
 
 -- the length stays
 length-stored : (w : List ℕ) (at b x : ℕ) → length (stored w at b x) ≡ length w
-length-stored w at b x = simp length-set
+length-stored w at b x = by-room (leb (at + 5) (length w)) refl
+  where
+    by-room : (t : Bool) → leb (at + 5) (length w) ≡ t → length (cond t (placed w at (b ∷ bytes4 x)) w) ≡ length w
+    by-room true e = length-placed w at (b ∷ bytes4 x) (leb-true (at + 5) (length w) e)
+    by-room false e = refl
 
 pub length-loaded : (w : List ℕ) (past : List Command) → length (loaded w past) ≡ length w
 unfolding loaded
@@ -39,53 +45,21 @@ length-loaded w (c ∷ past) = by-handler (isHandler c) (length-loaded w past)
     by-handler true h = length-stored (loaded w past) (slotOf (openBody past) (bodyLength past (openBody past))) (c .byte) (c .operands .first) ∙ h
     by-handler false h = h
 
--- a byte elsewhere
-skip : (l : List ℕ) (i j a : ℕ) → (j ≡ i → ⊥) → getD (set l i a) j 0 ≡ getD l j 0
-skip l i j a h = getD-set-other l i j a 0 h
-
 -- a byte that is none of the five
 other-byte : (w : List ℕ) (at b x k : ℕ) → (k < at) ⊎ (at + 5 ≤ k) → getD (stored w at b x) k 0 ≡ getD w k 0
-other-byte w at b x k h =
-    let n₄ : k ≡ at + 4 → ⊥ = apart 4 (omega arith) in
-    let n₃ : k ≡ at + 3 → ⊥ = apart 3 (omega arith) in
-    let n₂ : k ≡ at + 2 → ⊥ = apart 2 (omega arith) in
-    let n₁ : k ≡ at + 1 → ⊥ = apart 1 (omega arith) in
-    let n₀ : k ≡ at → ⊥ = λ e. apart 0 (omega arith) (omega arith) in
-    rw (skip, skip, skip, skip, skip)
+other-byte w at b x k h = by-room (leb (at + 5) (length w)) refl
   where
-    apart : (j : ℕ) → j < 5 → k ≡ at + j → ⊥
-    apart j l e = ⊎-elim (λ p. omega arith) (λ p. omega arith) h
+    by-room : (t : Bool) → leb (at + 5) (length w) ≡ t → getD (cond t (placed w at (b ∷ bytes4 x)) w) k 0 ≡ getD w k 0
+    by-room true e = placed-outside w at (b ∷ bytes4 x) k (omega (arith, leb-true (at + 5) (length w) e)) h
+    by-room false e = refl
 
 -- the five bytes
 module _ (w : List ℕ) (at b x : ℕ) (fits : at + 5 ≤ length w) where
-  own₀ : getD (stored w at b x) at 0 ≡ b
-  own₀ =
-      let n₄ : at ≡ at + 4 → ⊥ = λ e. omega arith in
-      let n₃ : at ≡ at + 3 → ⊥ = λ e. omega arith in
-      let n₂ : at ≡ at + 2 → ⊥ = λ e. omega arith in
-      let n₁ : at ≡ at + 1 → ⊥ = λ e. omega arith in
-      rw (skip, skip, skip, skip) (getD-set-same w at b 0 (omega arith))
+  own : (j : ℕ) → j < 5 → getD (stored w at b x) (at + j) 0 ≡ getD (b ∷ bytes4 x) j 0
+  own j h = rw (le-leb (at + 5) (length w) fits) (placed-inside w at (b ∷ bytes4 x) j (omega arith) h)
 
-  own₁ : getD (stored w at b x) (at + 1) 0 ≡ x % 256
-  own₁ =
-      let n₄ : at + 1 ≡ at + 4 → ⊥ = λ e. omega arith in
-      let n₃ : at + 1 ≡ at + 3 → ⊥ = λ e. omega arith in
-      let n₂ : at + 1 ≡ at + 2 → ⊥ = λ e. omega arith in
-      rw (skip, skip, skip) (getD-set-same (set w at b) (at + 1) (x % 256) 0 (simp length-set (omega arith)))
-
-  own₂ : getD (stored w at b x) (at + 2) 0 ≡ x / 256 % 256
-  own₂ =
-      let n₄ : at + 2 ≡ at + 4 → ⊥ = λ e. omega arith in
-      let n₃ : at + 2 ≡ at + 3 → ⊥ = λ e. omega arith in
-      rw (skip, skip) (getD-set-same (set (set w at b) (at + 1) (x % 256)) (at + 2) (x / 256 % 256) 0 (simp length-set (omega arith)))
-
-  own₃ : getD (stored w at b x) (at + 3) 0 ≡ x / 65536 % 256
-  own₃ =
-      let n₄ : at + 3 ≡ at + 4 → ⊥ = λ e. omega arith in
-      rw skip (getD-set-same (set (set (set w at b) (at + 1) (x % 256)) (at + 2) (x / 256 % 256)) (at + 3) (x / 65536 % 256) 0 (simp length-set (omega arith)))
-
-  own₄ : getD (stored w at b x) (at + 4) 0 ≡ x / 16777216 % 256
-  own₄ = getD-set-same (set (set (set (set w at b) (at + 1) (x % 256)) (at + 2) (x / 256 % 256)) (at + 3) (x / 65536 % 256)) (at + 4) (x / 16777216 % 256) 0 (simp length-set (omega arith))
+  own-byte : getD (stored w at b x) at 0 ≡ b
+  own-byte = let e : at + 0 ≡ at = omega arith in rw e at (own 0 (omega arith))
 
   -- the operand
   own-operand : x < 2 ^ 32 → numberAt (stored w at b x) (at + 1) 4 ≡ x
@@ -93,11 +67,12 @@ module _ (w : List ℕ) (at b x : ℕ) (fits : at + 5 ≤ length w) where
       let p : at + 1 + 1 ≡ at + 2 = omega arith in
       let q : at + 1 + 2 ≡ at + 3 = omega arith in
       let r : at + 1 + 3 ≡ at + 4 = omega arith in
-      number-four (stored w at b x) (at + 1) ∙ rw (p, q, r, own₁, own₂, own₃, own₄) (sym (number-four (bytes4 x) 0) ∙ bytes-spell x h)
+      number-four (stored w at b x) (at + 1)
+      ∙ rw (p, q, r, own 1 (omega arith), own 2 (omega arith), own 3 (omega arith), own 4 (omega arith)) (sym (number-four (bytes4 x) 0) ∙ bytes-spell x h)
 
 -- a stored command is read back
 pub slot-same : (w : List ℕ) (n i b x : ℕ) → slotOf n i + 5 ≤ length w → x < 2 ^ 32 → instructionIn (stored w (slotOf n i) b x) n i ≡ instruction b x
-slot-same w n i b x h l = rw (own₀ w (slotOf n i) b x h, own-operand w (slotOf n i) b x h l)
+slot-same w n i b x h l = rw (own-byte w (slotOf n i) b x h, own-operand w (slotOf n i) b x h l)
 
 -- the same four bytes are the same number
 same-number :
@@ -202,7 +177,7 @@ handler-loaded w (c ∷ past) size v fit = by-handler (isHandler c) refl (handle
         let q : bodyLength (c ∷ past) n ≡ bodyLength past n = body-next c past n ∙ rw e in
         ih n i (omega arith) ∙ rw (handler-other past c n (rw e))
 
--- the bytes behind the slots stay
+-- the bytes after the slots stay
 pub beyond-loaded : (w : List ℕ) (past : List Command) → Valid past → (k : ℕ) → 16384 ≤ k → getD (loaded w past) k 0 ≡ getD w k 0
 unfolding loaded
 beyond-loaded w [] v k h = refl

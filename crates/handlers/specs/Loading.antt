@@ -1,15 +1,17 @@
 -- Where the handlers of an accepted job lie in the work buffer.
-use Prim.Native.Nat.{ℕ, _+_, _*_, _/_, _%_}
+use Prim.Native.Nat.{ℕ, _+_, _*_}
 use mathlib.Core.Bool.{cond, _&&_}
 use mathlib.Core.List.{List, [], _∷_}
 use lib.Dec.{ltb, leb}
-use lib.ListN.{length, getD, set}
+use lib.ListN.{length, getD}
 use Rattle.model.specs.Table.{SKIP, maxNodes, maxHandler}
 use Rattle.model.specs.Command.{Command, numberAt}
 use Rattle.model.specs.Declared.{Instruction, instruction, isHandler, openBody, bodyLength}
 use Rattle.model.specs.Refusal.{Decoded, accepted, rejected, workSize}
 use Rattle.model.specs.State.{tabulate}
+use Rattle.model.specs.Output.{bytes4}
 use Rattle.command.specs.Instructions.{recognised}
+use Rattle.writing.specs.Writing.{placed}
 use Rattle.tables.specs.Tables.{lengthIn}
 use Rattle.tables.specs.Programs.{Handlers}
 
@@ -17,9 +19,9 @@ use Rattle.tables.specs.Programs.{Handlers}
 abbrev pub slotOf : ℕ → ℕ → ℕ
 slotOf n i = (n * 64 + i) * 8
 
--- the bytes with a command at a place: its byte, and the four bytes of its operand, lowest byte first
+-- the bytes with a command at a place: its byte, and the four bytes of its operand; as they were where these do not fit
 abbrev pub stored : List ℕ → ℕ → ℕ → ℕ → List ℕ
-stored w at b x = set (set (set (set (set w at b) (at + 1) (x % 256)) (at + 2) (x / 256 % 256)) (at + 3) (x / 65536 % 256)) (at + 4) (x / 16777216 % 256)
+stored w at b x = cond (leb (at + 5) (length w)) (placed w at (b ∷ bytes4 x)) w
 
 -- the bytes with the handler commands of a job, each in the slot of its node and position
 unfoldable pub loaded : List ℕ → List Command → List ℕ

@@ -3,7 +3,6 @@ ghost use mathlib.Core.Path.{_≡_};
 ghost use mathlib.Core.Bool.{cond};
 ghost use Prim.Native.Nat.{_+_, _≤_, _<_};
 ghost use lib.Dec.{eqb};
-ghost use lib.ListN.{set};
 ghost use Rattle.model.specs.Table.{BODY};
 ghost use Rattle.command.specs.Rows.{isHandlerByte};
 ghost use Rattle.model.specs.Refusal.{decodeJob};
@@ -16,26 +15,18 @@ use command::read::Command;
 use command::read::Parsed;
 use command::read::open_after;
 use command::read::read_command;
+use writing::put_byte;
+use writing::put_word;
 
-// Sets one byte, if there is such a place.
-fn put_byte(work: &mut [u8], at: usize, b: u8)
-    ensures { λ _. ⌜ now (work .exit) ≡ set (now (work .entry)) at b ⌝ }
-{
-    if at < work.len() {
-        work[at] = b;
-    }
-}
-
-// Stores a handler command at a place: its byte, and its operand, lowest byte first.
+// Stores a handler command at a place, if it fits: its byte, and its operand, lowest byte first.
 fn store(work: &mut [u8], at: usize, b: u8, x: u32)
     requires { ⌜ at ≤ 16384 ⌝ }
     ensures { λ _. ⌜ now (work .exit) ≡ stored (now (work .entry)) at b x ⌝ }
 {
-    put_byte(work, at, b);
-    put_byte(work, at + 1, (x % 256) as u8);
-    put_byte(work, at + 2, (x / 256 % 256) as u8);
-    put_byte(work, at + 3, (x / 65536 % 256) as u8);
-    put_byte(work, at + 4, (x / 16777216 % 256) as u8);
+    if at + 5 <= work.len() {
+        let operand = put_byte(work, at, b);
+        put_word(work, operand, x);
+    }
 }
 
 // Stores a command in its slot, if it is a handler command.

@@ -1,9 +1,11 @@
 -- Laws of bytes that are placed in a buffer: one part behind the other, and all from the front.
-use Prim.Native.Nat.{ℕ, zero, suc, _+_, _≤_, _<_}
-use mathlib.Core.Path.{_≡_, refl, sym, ap, _∙_}
+use Prim.Native.Nat.{ℕ, zero, suc, _+_, _-_, _≤_, _<_}
+use mathlib.Core.Path.{_≡_, refl, sym, ap, subst, _∙_}
+use mathlib.Core.Logic.{_⊎_, inl, inr}
 use mathlib.Core.List.{List, [], _∷_, _++_}
 use native.Mathlib.Omega.{arith}
-use lib.ListN.{length, drop, set, replicate, length-append, length-drop, length-replicate, replicate-append-replicate}
+use lib.ListN.{length, getD, drop, set, replicate, length-append, length-drop, length-replicate, replicate-append-replicate, List·getD-append}
+use lib.Seq.{getD-append-add, getD-drop}
 use Rattle.model.specs.Result.{written}
 use Rattle.writing.specs.Writing.{placed, Writes}
 
@@ -21,7 +23,29 @@ length-placed buffer zero bytes h = length-append bytes (drop (length bytes) buf
 length-placed [] (suc at) bytes h = absurd (omega arith)
 length-placed (y ∷ buffer) (suc at) bytes h = ap suc (length-placed buffer at bytes (omega arith))
 
--- bytes behind bytes, from the front and from any place on
+-- a byte of those placed, and a byte elsewhere
+pub placed-inside :
+    (buffer : List ℕ) (at : ℕ) (bytes : List ℕ) (j : ℕ) → at ≤ length buffer → j < length bytes → getD (placed buffer at bytes) (at + j) 0 ≡ getD bytes j 0
+unfolding placed
+placed-inside buffer zero bytes j l h = let e : 0 + j ≡ j = omega arith in rw e (List·getD-append bytes (drop (length bytes) buffer) 0 j h)
+placed-inside [] (suc at) bytes j l h = absurd (omega arith)
+placed-inside (y ∷ buffer) (suc at) bytes j l h = let e : suc at + j ≡ suc (at + j) = omega arith in rw e (placed-inside buffer at bytes j (omega arith) h)
+
+pub placed-outside :
+    (buffer : List ℕ) (at : ℕ) (bytes : List ℕ) (k : ℕ) → at ≤ length buffer → (k < at) ⊎ (at + length bytes ≤ k)
+    → getD (placed buffer at bytes) k 0 ≡ getD buffer k 0
+unfolding placed
+placed-outside buffer zero bytes k l (inl h) = absurd (omega arith)
+placed-outside buffer zero bytes k l (inr h) =
+    let e : length bytes + (k - length bytes) ≡ k = omega arith in
+    subst (λ (i : ℕ). getD (bytes ++ drop (length bytes) buffer) i 0 ≡ getD buffer i 0) e
+    (getD-append-add bytes (drop (length bytes) buffer) (k - length bytes) 0 ∙ getD-drop (length bytes) buffer (k - length bytes) 0)
+placed-outside [] (suc at) bytes k l h = absurd (omega arith)
+placed-outside (y ∷ buffer) (suc at) bytes zero l h = refl
+placed-outside (y ∷ buffer) (suc at) bytes (suc k) l (inl h) = placed-outside buffer at bytes k (omega arith) (inl (omega arith))
+placed-outside (y ∷ buffer) (suc at) bytes (suc k) l (inr h) = placed-outside buffer at bytes k (omega arith) (inr (omega arith))
+
+-- bytes after bytes, from the front and from any place on
 behind-front : (buffer xs ys : List ℕ) → length xs + length ys ≤ length buffer → placed (placed buffer zero xs) (length xs) ys ≡ placed buffer zero (xs ++ ys)
 unfolding placed
 behind-front buffer [] ys h = refl
