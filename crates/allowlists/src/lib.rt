@@ -31,7 +31,7 @@ pub fn may_call_any(tables: &[u32], n: NodeNum, f: FunNum) -> bool
     marked(tables, cells::CALLS, n.0 as usize, f.0 as usize)
 }
 
-// Whether one of the first ARG commands, so many of them, is this one.
+// Whether one of the first `count` ARG commands is this one.
 fn is_listed(tables: &[u32], count: u32, n: NodeNum, f: FunNum, argument: u32) -> bool
     ensures { λ r. ⌜ r ≡ listedIn (now (tables .entry)) count (n .0) (f .0) argument ⌝ }
 {

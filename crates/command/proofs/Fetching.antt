@@ -20,7 +20,8 @@ module _ (handler : List Instruction) (position : ℕ) where
   pub command-after : length handler ≤ position → commandIn handler position ≡ none
   command-after h = rw (le-ltb position (length handler) h)
 
-  pub inside-command : (i : Instruction) → some i ≡ commandIn handler position → (position < length handler) × (i ≡ getD handler position (instruction 0 0))
+  pub inside-command : (i : Instruction) → some i ≡ commandIn handler position
+      → (position < length handler) × (i ≡ getD handler position (instruction 0 0))
   inside-command i e = by-test (ltb position (length handler)) refl e
     where
       by-test :
@@ -47,5 +48,6 @@ pub standing-there : (fetched : Fetched) (position : ℕ) → fetchedOf fetched 
 standing-there (f.Command i) position =
     let many = replicate (position + 1) (instructionOf i) in
     let long = length-replicate (position + 1) (instructionOf i) in
-    sym (command-inside many position (omega (arith, long)) ∙ ap some (getD-replicate (position + 1) position (instructionOf i) (instruction 0 0) (omega arith)))
+    sym (command-inside many position (omega (arith, long)) ∙ ap some
+    (getD-replicate (position + 1) position (instructionOf i) (instruction 0 0) (omega arith)))
 standing-there f.End position = sym (command-after [] position (omega arith))

@@ -16,12 +16,14 @@ up b k h n = omega arith
 
 -- none of the bytes 41 SET to 4A CALL
 pub skip-left :
-    (b x : ℕ) → ¬ (b ≡ 0x41) → ¬ (b ≡ 0x42) → ¬ (b ≡ 0x43) → ¬ (b ≡ 0x44) → ¬ (b ≡ 0x45) → ¬ (b ≡ 0x46) → ¬ (b ≡ 0x47) → ¬ (b ≡ 0x48) → ¬ (b ≡ 0x49) → ¬ (b ≡ 0x4A)
+    (b x : ℕ) → ¬ (b ≡ 0x41) → ¬ (b ≡ 0x42) → ¬ (b ≡ 0x43) → ¬ (b ≡ 0x44) → ¬ (b ≡ 0x45) → ¬ (b ≡ 0x46) → ¬ (b ≡ 0x47) → ¬ (b ≡ 0x48)
+    → ¬ (b ≡ 0x49) → ¬ (b ≡ 0x4A)
     → instruction SKIP 0 ≡ recognised b x
 skip-left b x n₁ n₂ n₃ n₄ n₅ n₆ n₇ n₈ n₉ n₁₀ = rw (ne-eqb b TAKE n₂) (by-range (leb SET b) refl)
   where
     high : SET ≤ b → CALL < b
-    high h = up b 0x4A (up b 0x49 (up b 0x48 (up b 0x47 (up b 0x46 (up b 0x45 (up b 0x44 (up b 0x43 (up b 0x42 (up b 0x41 h n₁) n₂) n₃) n₄) n₅) n₆) n₇) n₈) n₉) n₁₀
+    high h = up b 0x4A (up b 0x49 (up b 0x48 (up b 0x47 (up b 0x46
+        (up b 0x45 (up b 0x44 (up b 0x43 (up b 0x42 (up b 0x41 h n₁) n₂) n₃) n₄) n₅) n₆) n₇) n₈) n₉) n₁₀
 
     by-range : (t : Bool) → leb SET b ≡ t → instruction SKIP 0 ≡ cond (t && leb b CALL) (instruction b x) (instruction SKIP 0)
     by-range true e = rw (lt-leb b CALL (high (leb-true SET b e)))
@@ -49,6 +51,7 @@ module _ (b x : ℕ) (named : NamedInstruction (instruction b x)) where
           let q : b ≡ SKIP = omega (arith, leb-false b CALL e, leb-true b SKIP (and-right (leb SET b) _ (named .handler))) in
           rw (q, absent-skip q)
 
-      by-take : (t : Bool) → eqb b TAKE ≡ t → cond t (instruction TAKE 0) (cond (leb SET b && leb b CALL) (instruction b x) (instruction SKIP 0)) ≡ instruction b x
+      by-take : (t : Bool) → eqb b TAKE ≡ t → cond t (instruction TAKE 0)
+          (cond (leb SET b && leb b CALL) (instruction b x) (instruction SKIP 0)) ≡ instruction b x
       by-take true e = let q : b ≡ TAKE = eqb-true b TAKE e in rw (q, absent-take q)
       by-take false e = rw (le-leb SET b low) (by-call (leb b CALL) refl)

@@ -19,7 +19,8 @@ unfolding operandsIn
 found-passes test [] b l h = absurd (h refl)
 found-passes test (r ∷ rows) b l h = by-row (eqb (r .byte) b) refl h (found-passes test rows b (and-right (test (r .byte)) _ l))
   where
-    by-row : (t : Bool) → eqb (r .byte) b ≡ t → ¬ (cond t (some (r .operands)) (operandsIn rows b) ≡ none) → (¬ (operandsIn rows b ≡ none) → test b ≡ true) → test b ≡ true
+    by-row : (t : Bool) → eqb (r .byte) b ≡ t → ¬ (cond t (some (r .operands)) (operandsIn rows b) ≡ none)
+        → (¬ (operandsIn rows b ≡ none) → test b ≡ true) → test b ≡ true
     by-row true e n ih = rw (eqb-true (r .byte) b e) at (and-left (test (r .byte)) _ l)
     by-row false e n ih = ih n
 
@@ -33,5 +34,6 @@ pub byte-low : (b : ℕ) → ¬ (operandsOf b ≡ none) → b < 128
 byte-low b h = ltb-true b 128 (known-passes (λ d. ltb d 128) b refl h)
 
 -- the command bytes of group 3
-pub permission-byte : (b : ℕ) → ¬ (operandsOf b ≡ none) → (not (eqb (b / 16) 3) || (eqb b 0x30 || (eqb b 0x31 || (eqb b 0x32 || eqb b 0x33)))) ≡ true
+pub permission-byte : (b : ℕ) → ¬ (operandsOf b ≡ none) → (not (eqb (b / 16) 3) ||
+    (eqb b 0x30 || (eqb b 0x31 || (eqb b 0x32 || eqb b 0x33)))) ≡ true
 permission-byte b h = known-passes (λ d. not (eqb (d / 16) 3) || (eqb d 0x30 || (eqb d 0x31 || (eqb d 0x32 || eqb d 0x33)))) b refl h

@@ -6,7 +6,8 @@ use mathlib.Core.Logic.{inl, inr}
 use mathlib.Core.Option.{Option}
 use native.Mathlib.Omega.{arith}
 use lib.ListN.{length, getD, List·getD-map}
-use Rattle.model.specs.Table.{OperandKind, scope, owner, start, answer, node, port, target, function, value, variable, jump, absent, width, Row, row, table, operandAt, groupOf, Limit, isAmong, largestIn, largestOf}
+use Rattle.model.specs.Table.{OperandKind, scope, owner, start, answer, node, port, target, function, value, variable, jump, absent, width}
+use Rattle.model.specs.Table.{Row, row, table, operandAt, groupOf, Limit, isAmong, largestIn, largestOf}
 use Rattle.model.specs.Command.{numberAt}
 use Rattle.model.proofs.Reading.{number-none}
 use Rattle.command.specs.declared.table.Row.{Row as Shape}
@@ -65,7 +66,8 @@ given s =
 abbrev wanted : Row → Said
 wanted r =
     record {
-      numbers = r .byte ∷ groupOf (r .byte) ∷ width (operandAt (r .operands) 0) ∷ width (operandAt (r .operands) 1) ∷ width (operandAt (r .operands) 2) ∷ [];
+      numbers = r .byte ∷ groupOf (r .byte) ∷ width (operandAt (r .operands) 0) ∷ width (operandAt (r .operands) 1) ∷ width
+          (operandAt (r .operands) 2) ∷ [];
       kinds = operandAt (r .operands) 0 ∷ operandAt (r .operands) 1 ∷ operandAt (r .operands) 2 ∷ [];
       most = largestOf (r .byte);
     }

@@ -28,7 +28,8 @@ finds-none b l h e = rw e at h
 
 module _ (job : List ℕ) (place : ℕ) where
   -- no command
-  pub read-missing : (l : Lookup) → Finds (getD job place 0) l → l ≡ Missing → refusalAt place (readCommand job place) ≡ some (refuse 2 place)
+  pub read-missing : (l : Lookup) → Finds (getD job place 0) l → l ≡ Missing
+      → refusalAt place (readCommand job place) ≡ some (refuse 2 place)
   read-missing l h e = rw (read-unknown job place (finds-none (getD job place 0) l h e))
 
   module _ (i : ℕ) (r : Shape) (known : RowOf (getD job place 0) i) (shape : Says (rowAt i) r) where
@@ -43,8 +44,10 @@ module _ (job : List ℕ) (place : ℕ) where
     -- a whole command
     pub read-all :
         (x y z : ℕ) → place + 1 + r .2 + r .3 + r .4 ≤ length job
-        → x ≡ numberAt job (place + 1) (r .2) → y ≡ numberAt job (place + 1 + r .2) (r .3) → z ≡ numberAt job (place + 1 + r .2 + r .3) (r .4)
-        → readCommand job place ≡ whole (record { place = place; byte = getD job place 0; operands = ternary x y z }) (place + 1 + r .2 + r .3 + r .4)
+        → x ≡ numberAt job (place + 1) (r .2) → y ≡ numberAt job (place + 1 + r .2) (r .3)
+        → z ≡ numberAt job (place + 1 + r .2 + r .3) (r .4)
+        → readCommand job place ≡ whole (record { place = place; byte = getD job place 0; operands = ternary x y z })
+        (place + 1 + r .2 + r .3 + r .4)
     read-all x y z h p q s =
         let a = shape .width₁ in
         let b = shape .width₂ in
@@ -62,8 +65,10 @@ pub is-width₃ : {m : Row} {r : Shape} → Says m r → IsWidth (r .4)
 is-width₃ {m} {r} shape = width-is (operandAt (m .operands) 2) (r .4) (shape .width₃)
 
 -- what was read, by the code's answer
-pub reads-whole : (job : List ℕ) (place : ℕ) (p : Parsed) (c : Code) (next : ℕ) → ParsesAs job place p → p ≡ Whole c next → (readCommand job place ≡ whole (commandOf c) next) × Known c
+pub reads-whole : (job : List ℕ) (place : ℕ) (p : Parsed) (c : Code) (next : ℕ) → ParsesAs job place p → p ≡ Whole c next
+    → (readCommand job place ≡ whole (commandOf c) next) × Known c
 reads-whole job place p c next r e = rw e at r
 
-pub reads-refused : (job : List ℕ) (place : ℕ) (p : Parsed) (q : Refusal) → ParsesAs job place p → p ≡ Refused q → refusalAt place (readCommand job place) ≡ some (refusalOf q)
+pub reads-refused : (job : List ℕ) (place : ℕ) (p : Parsed) (q : Refusal) → ParsesAs job place p → p ≡ Refused q
+    → refusalAt place (readCommand job place) ≡ some (refusalOf q)
 reads-refused job place p q r e = rw e at r

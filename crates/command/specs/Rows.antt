@@ -6,7 +6,8 @@ use mathlib.Core.List.{[], _∷_}
 use mathlib.Core.Option.{Option, none, some}
 use lib.Dec.{leb}
 use lib.ListN.{getD}
-use Rattle.model.specs.Table.{SET, SKIP, OperandKind, scope, owner, start, answer, node, port, target, function, value, variable, jump, absent, width, Row, row, table, operandsOf, operandAt, groupOf, Limit, limit, largestOf}
+use Rattle.model.specs.Table.{SET, SKIP, OperandKind, scope, owner, start, answer, node, port, target, function, value, variable, jump}
+use Rattle.model.specs.Table.{absent, width, Row, row, table, operandsOf, operandAt, groupOf, Limit, limit, largestOf}
 use Rattle.command.specs.declared.table.Row.{Row as Shape}
 use Rattle.command.specs.declared.table.Lookup.{Lookup}
 use Rattle.command.specs.declared.table.Lookup.the-variants.{Found, Missing}

@@ -25,7 +25,7 @@ pub struct Command {
     pub third: u32,
 }
 
-// What reading at a place gives: a command with the place behind it, or refusal 2 or 3.
+// What reading at a place gives: a command with the place after it, or refusal 2 or 3.
 pub enum Parsed {
     Whole(Command, usize),
     Refused(Refusal),
@@ -95,7 +95,7 @@ pub fn read_command(job: &[u8], at: usize) -> Parsed
     Parsed::Whole(command, end)
 }
 
-// The node of the open handler, behind a command.
+// The node of the open handler, after a command.
 pub fn open_after(c: Command, opened: NodeNum) -> NodeNum
     ensures { λ r. ⌜ r .0 ≡ cond (eqb (c .byte) BODY) (c .first) (opened .0) ⌝ }
 {

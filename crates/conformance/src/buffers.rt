@@ -89,7 +89,7 @@ fn count(tables: &[u32; CELLS], byte: u8) -> u32 {
     count_of(tables, byte)
 }
 
-// Whether a run kept what it has to keep: a refusal all three buffers; a run what lies behind its entries, its snapshot and the cleared bytes, and those are 0.
+// Whether a run kept what it has to keep: a refusal all three buffers; a run what lies after its entries, its snapshot and the cleared bytes, and those are 0.
 pub fn kept(
     answer: Answer,
     job: &[u8],

@@ -62,7 +62,7 @@ fn conform(
     }
 }
 
-// Writes the text out if that of one more run may not fit behind it, and answers where that goes.
+// Writes the text out if that of one more run may not fit after it, and answers where that goes.
 fn make_room(text: &[u8], at: usize) -> usize
     requires { ⌜ (at ≤ length (now text)) × (131080 ≤ length (now text)) ⌝ }
     ensures { λ r. ⌜ r + 131080 ≤ length (now (text .entry)) ⌝ }

@@ -1,7 +1,8 @@
 // What the tables say of flows, nodes, variables and functions, each under its own kind of number.
 ghost use mathlib.Core.Path.{_≡_};
 ghost use Rattle.model.specs.Declared.{isSeen};
-ghost use Rattle.tables.specs.Tables.{countIn, groupIn, openIn, flowIn, startIn, funAnswerIn, sharedIn, seesIn, lengthIn, bodyIn, startedAt, firstsIn, wiredIn};
+ghost use Rattle.tables.specs.Tables.{countIn, groupIn, openIn, flowIn, startIn, funAnswerIn, sharedIn, seesIn, lengthIn, bodyIn};
+ghost use Rattle.tables.specs.Tables.{startedAt, firstsIn, wiredIn};
 ghost use Rattle.declared.specs.Asked.{messagesOf};
 use command::numbers::FlowNum;
 use command::numbers::FunNum;

@@ -24,12 +24,14 @@ use Rattle.memory.specs.Changes.{Changes}
 use Rattle.engine.specs.declared.State.{State}
 use Rattle.engine.specs.Engine.{view, Turns}
 
-module _ (t : List ℕ) (fetched : Fetched) (s : State) (n : NodeNum) (monitored : Bool) (bounded : BoundedCounts (s .waiting)) (counts : length (s .waiting) ≡ 32) (places : length (s .queue) ≡ 512) where
+module _ (t : List ℕ) (fetched : Fetched) (s : State) (n : NodeNum) (monitored : Bool) (bounded : BoundedCounts (s .waiting))
+    (counts : length (s .waiting) ≡ 32) (places : length (s .queue) ≡ 512) where
   -- as many messages wait in the model's state as the counts say
   waiting-at : (k : ℕ) → waitingAt (view s) k ≡ getD (s .waiting) k 0
   waiting-at k = count-at (s .waiting) (s .queue) bounded (omega (arith, counts, places)) k
 
-  module _ (p : Plan) (plan : PlansTurn t fetched n monitored (registersAt (view s) (n .0)) (getD (s .queue) (n .0 * 16) 0) (s .waiting) (s .variable) p) where
+  module _ (p : Plan) (plan : PlansTurn t fetched n monitored (registersAt (view s) (n .0)) (getD (s .queue) (n .0 * 16) 0) (s .waiting)
+      (s .variable) p) where
     -- the plan is one for the model's state
     planned :
         (hs : Handlers) → fetchedOf fetched ≡ commandIn (hs (n .0)) (positionAt (view s) (n .0))
@@ -64,21 +66,31 @@ module _ (t : List ℕ) (fetched : Fetched) (s : State) (n : NodeNum) (monitored
 
     -- stand for the state after the turn, and are the arrays before if it is a stop
     pub carried-out :
-        (ws slots xs : List ℕ) → Changes (wiredIn t (n .0)) (n .0) (accumulatorAt (view s) (n .0)) (p .change) (s .waiting) (s .queue) ws slots
-        → xs ≡ variablesAfter (accumulatorAt (view s) (n .0)) (s .variable) (p .change) → Turns t fetched (n .0) monitored s (record { state = after ws slots xs; outcome = p .outcome })
+        (ws slots xs : List ℕ) → Changes (wiredIn t (n .0)) (n .0) (accumulatorAt (view s) (n .0)) (p .change) (s .waiting)
+        (s .queue) ws slots
+        → xs ≡ variablesAfter (accumulatorAt (view s) (n .0)) (s .variable) (p .change)
+        → Turns t fetched (n .0) monitored s (record { state = after ws slots xs; outcome = p .outcome })
     unfolding programIn
     carried-out ws slots xs changes stored =
-        let afterwards : List (List ℕ) → List ℕ → Meant = λ qs ys. record { position = after ws slots xs .position; accumulator = after ws slots xs .accumulator; message = after ws slots xs .message; queue = qs; variable = ys } in
+        let afterwards : List (List ℕ) → List ℕ → Meant = λ qs ys. record {
+          position = after ws slots xs .position;
+          accumulator = after ws slots xs .accumulator;
+          message = after ws slots xs .message;
+          queue = qs;
+          variable = ys;
+        } in
         record {
           bounded = changes .holds .bounded;
-          comes = λ hs f. subst (Comes (view s) (ruleOf monitored (programIn t hs) (view s) (n .0)) (p .outcome)) (sym (ap₂ afterwards (changes .holds .same) stored)) (planned hs f .comes);
+          comes = λ hs f. subst (Comes (view s) (ruleOf monitored (programIn t hs) (view s) (n .0)) (p .outcome))
+              (sym (ap₂ afterwards (changes .holds .same) stored)) (planned hs f .comes);
           kept = λ h.
               let own = some-planned .stays h .0 in
               let none = some-planned .stays h .1 in
               let same = changes .kept (ap isNothing none) in
               λ j. record {
                 position = (ap (λ (r : Registers). set (s .position) (n .0) (r .position)) own ∙ set-getD (s .position) (n .0) 0) j;
-                accumulator = (ap (λ (r : Registers). set (s .accumulator) (n .0) (r .accumulator)) own ∙ set-getD (s .accumulator) (n .0) 0) j;
+                accumulator = (ap (λ (r : Registers). set (s .accumulator) (n .0) (r .accumulator)) own
+                    ∙ set-getD (s .accumulator) (n .0) 0) j;
                 message = (ap (λ (r : Registers). set (s .message) (n .0) (r .message)) own ∙ set-getD (s .message) (n .0) 0) j;
                 waiting = same .0 j;
                 queue = same .1 j;

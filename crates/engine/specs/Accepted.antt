@@ -21,7 +21,8 @@ use Rattle.engine.specs.declared.State.{State}
 use Rattle.engine.specs.declared.Turned.{Turned}
 use Rattle.engine.specs.Engine.{view, Starts, Turns}
 
--- what `start` promises is the start of the job's program; what `turn` promises, given what `fetch` answers, is that program's turn, monitored
+-- what `start` promises is the start of the job's program; what `turn` promises, given what `fetch` answers, is that program's turn,
+-- monitored
 -- or not; and `turn` may be asked for the nodes of the job's turns. `past` are the commands of the job
 pub record EngineMeets (job t w : List ℕ) (past : List Command) : Type 0 where
   pub start : (s : State) → Starts t s → view s ≡ initialState (programOf past)
@@ -31,7 +32,8 @@ pub record EngineMeets (job t w : List ℕ) (past : List Command) : Type 0 where
       → Comes (view s) (ruleOf monitored (programOf past) (view s) n) (turned .outcome) (view (turned .state))
   pub nodes : (k : ℕ) → k < length (turnsOf past) → turnIn job t k < maxNodes
 
--- the claim: for every accepted job of bytes, with tables that stand for its commands, as decoding leaves them, and a work buffer with its handlers, as loading leaves it
+-- the claim: for every accepted job of bytes, with tables that stand for its commands, as decoding leaves them, and a work buffer with its
+-- handlers, as loading leaves it
 abbrev pub EngineHolds : Type 0
 EngineHolds =
     (job t w : List ℕ) (past : List Command) → Bytes job → decodeJob job ≡ accepted past → Stands t past → workSize ≤ length w

@@ -23,13 +23,15 @@ view s =
       variable = s .variable;
     }
 
--- no more messages wait at a node than it has slots, and the state stands for the start of the program in the tables, whatever its handlers are
+-- no more messages wait at a node than it has slots, and the state stands for the start of the program in the tables, whatever its handlers
+-- are
 pub record Starts (t : List ℕ) (s : State) : Type 0 where
   pub bounded : BoundedCounts (s .waiting)
   pub start : (hs : Handlers) → view s ≡ initialState (programIn t hs)
 
 -- a turn of node n: no more messages wait at a node than it has slots; outcome and state are what the turn of the program in the tables
--- comes to, whatever its handlers are, if this stands in the node's own at its position; and a stop leaves the whole state, free slots included
+-- comes to, whatever its handlers are, if this stands in the node's own at its position; and a stop leaves the whole state, free slots
+-- included
 pub record Turns (t : List ℕ) (fetched : Fetched) (n : ℕ) (monitored : Bool) (before : State) (turned : Turned) : Type 0 where
   pub bounded : BoundedCounts (turned .state .waiting)
   pub comes :

@@ -26,14 +26,18 @@ use Rattle.entries.proofs.Names.{shared-by}
 
 module _ (t : List ℕ) (hs : Handlers) (s : State) (n : ℕ) (x : VarNum) where
   -- an access to a variable leaves an entry if the variable is shared
-  accessed : (b : Bool) (kind value : ℕ) (shown : Event) → entryFor n shown ≡ entry n kind (x .0) value → entryFor n (cond b shown e.Other) ≡ cond b (entry n kind (x .0) value) (entry n 0 0 0)
+  accessed : (b : Bool) (kind value : ℕ) (shown : Event) → entryFor n shown ≡ entry n kind (x .0) value
+      → entryFor n (cond b shown e.Other) ≡ cond b (entry n kind (x .0) value) (entry n 0 0 0)
   accessed true kind value shown h = h
   accessed false kind value shown h = refl
 
-  pub read-left : (xs : List ℕ) → s .variable ≡ xs → entryFor n (cond (sharedIn t (x .0)) (e.Read x (getD xs (x .0) 0)) e.Other) ≡ cond (isShared (programIn t hs) (x .0)) (entry n 3 (x .0) (variableAt s (x .0))) (entry n 0 0 0)
-  read-left xs h = rw (← h, shared-by t hs (x .0)) (accessed (sharedIn t (x .0)) 3 (variableAt s (x .0)) (e.Read x (variableAt s (x .0))) refl)
+  pub read-left : (xs : List ℕ) → s .variable ≡ xs → entryFor n (cond (sharedIn t (x .0)) (e.Read x (getD xs (x .0) 0)) e.Other) ≡ cond
+      (isShared (programIn t hs) (x .0)) (entry n 3 (x .0) (variableAt s (x .0))) (entry n 0 0 0)
+  read-left xs h = rw (← h, shared-by t hs (x .0)) (accessed (sharedIn t (x .0)) 3 (variableAt s (x .0))
+      (e.Read x (variableAt s (x .0))) refl)
 
-  pub write-left : (a : ℕ) → accumulatorAt s n ≡ a → entryFor n (cond (sharedIn t (x .0)) (e.Write x a) e.Other) ≡ cond (isShared (programIn t hs) (x .0)) (entry n 4 (x .0) (accumulatorAt s n)) (entry n 0 0 0)
+  pub write-left : (a : ℕ) → accumulatorAt s n ≡ a → entryFor n (cond (sharedIn t (x .0)) (e.Write x a) e.Other) ≡ cond
+      (isShared (programIn t hs) (x .0)) (entry n 4 (x .0) (accumulatorAt s n)) (entry n 0 0 0)
   write-left a h = rw (← h, shared-by t hs (x .0)) (accessed (sharedIn t (x .0)) 4 (accumulatorAt s n) (e.Write x (accumulatorAt s n)) refl)
 
 -- the commands that leave kind 0, the events that need no permission, and those that a stop shows as they are
@@ -46,7 +50,8 @@ free = 0 ∷ 1 ∷ 2 ∷ 6 ∷ []
 abbrev pub shown : List ℕ
 shown = 0 ∷ 1 ∷ 2 ∷ 4 ∷ 5 ∷ 6 ∷ []
 
-pub plain-left : (P : Program) (s : State) (n : ℕ) (k : Instruction) → OneOf plain (tagOf command k) → entry n 0 0 0 ≡ entryOf P s n (instructionOf k)
+pub plain-left : (P : Program) (s : State) (n : ℕ) (k : Instruction) → OneOf plain (tagOf command k)
+    → entry n 0 0 0 ≡ entryOf P s n (instructionOf k)
 plain-left P s n (i.Set v) h = refl
 plain-left P s n i.Take h = refl
 plain-left P s n (i.Get x) h = absurd (one-of plain 2 h)

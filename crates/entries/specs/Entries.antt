@@ -67,10 +67,12 @@ pub record Comes (s : State) (turned : Turned) (outcome : Outcome) (after : Stat
 abbrev pub ruleOf : Bool → Program → State → ℕ → Turned
 ruleOf monitored P s n = cond monitored (monitoredTurn P s n) (turn P s n)
 
--- the event is the one that the handler command leaves, with this accumulator and these variables before it, at every node and whatever the handlers are
+-- the event is the one that the handler command leaves, with this accumulator and these variables before it, at every node and whatever the
+-- handlers are
 abbrev pub LeavesEvent : List ℕ → Instruction → ℕ → List ℕ → Event → Type 0
 LeavesEvent t i accumulator variables x =
-    (hs : Handlers) (s : State) (n : ℕ) → accumulatorAt s n ≡ accumulator → s .variable ≡ variables → entryFor n x ≡ entryOf (programIn t hs) s n (instructionOf i)
+    (hs : Handlers) (s : State) (n : ℕ) → accumulatorAt s n ≡ accumulator → s .variable ≡ variables
+    → entryFor n x ≡ entryOf (programIn t hs) s n (instructionOf i)
 
 -- the answer says whether the lists permit a node's event, whatever the handlers are
 abbrev pub Judges : List ℕ → ℕ → Event → Bool → Type 0

@@ -31,7 +31,8 @@ pub struct Entry {
     pub event: Event,
 }
 
-// A stop, with what was attempted: an entry that the lists do not permit, a node that is idle with an empty queue, a send with a full target.
+// A stop, with what was attempted: an entry that the lists do not permit, a node that is idle with an empty queue, a send with a full
+// target.
 pub enum Stop {
     Forbidden(Entry),
     Unready(NodeNum),

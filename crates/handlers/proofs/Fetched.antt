@@ -39,7 +39,8 @@ module _ (w : List ℕ) (n i : ℕ) where
   from-slot h k l = rw (lt-ltb n 32 h, lt-ltb i 64 k, le-leb 16384 (length w) l)
 
   pub made :
-      (at x : ℕ) (r : Instruction) → n < 32 → i < 64 → 16384 ≤ length w → at ≡ slotOf n i → x ≡ numberAt w (at + 1) 4 → r ≡ recognised (getD w at 0) x → r ≡ fetchedIn w n i
+      (at x : ℕ) (r : Instruction) → n < 32 → i < 64 → 16384 ≤ length w → at ≡ slotOf n i → x ≡ numberAt w (at + 1) 4
+      → r ≡ recognised (getD w at 0) x → r ≡ fetchedIn w n i
   made at x r h k l a e q = q ∙ rw (e, a) (sym (from-slot h k l))
 
 -- a handler is that of a node
@@ -65,7 +66,8 @@ module _ (t w : List ℕ) (n position : ℕ) where
   pub handlers-inside : position < lengthIn t n → commandIn (handlersIn t w n) position ≡ some (fetchedIn w n position)
   handlers-inside h =
       let l = length-tabulate (lengthIn t n) (fetchedIn w n) in
-      command-inside (handlersIn t w n) position (omega (arith, l)) ∙ ap some (getD-tabulate (lengthIn t n) position (fetchedIn w n) (instruction 0 0) h)
+      command-inside (handlersIn t w n) position (omega (arith, l))
+      ∙ ap some (getD-tabulate (lengthIn t n) position (fetchedIn w n) (instruction 0 0) h)
 
   pub handlers-after : lengthIn t n ≤ position → commandIn (handlersIn t w n) position ≡ none
   handlers-after h = let l = length-tabulate (lengthIn t n) (fetchedIn w n) in command-after (handlersIn t w n) position (omega (arith, l))

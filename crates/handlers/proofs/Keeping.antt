@@ -73,7 +73,8 @@ module _ (job : List ℕ) (all : List Command) (w u : List ℕ) (place opened in
 
   module _ (h : place < length job) where
     left : (f : ℕ) × Passing f job place (k .past) all × (k .fuel ≡ suc f)
-    left = let f = fuel-left job place (k .fuel) h (k .enough) in (f .0, passing (f .0) job place (k .past) all h (rw (f .1) at (k .goesOn)), f .1)
+    left = let f = fuel-left job place (k .fuel) h (k .enough) in
+        (f .0, passing (f .0) job place (k .past) all h (rw (f .1) at (k .goesOn)), f .1)
 
     -- a whole command is read
     pub keeping-reads : {A : Type 0} (q : Refusal) → refusalAt place (readCommand job place) ≡ some (refusalOf q) → A
@@ -93,24 +94,29 @@ module _ (job : List ℕ) (all : List Command) (w u : List ℕ) (place opened in
       more : Valid (commandOf c ∷ k .past)
       more = (k .valid, read-at job place (commandOf c) next read .plain, rw again at (left .1 .passes))
 
-      -- the position in the handler that is open behind the command
+      -- the position in the handler that is open after the command
       next-position :
-          cond (is BODY (commandOf c)) 0 (cond (isHandler (commandOf c)) (bodyLength (k .past) (openBody (k .past)) + 1) (bodyLength (k .past) (openBody (k .past))))
+          cond (is BODY (commandOf c)) 0 (cond (isHandler (commandOf c)) (bodyLength (k .past) (openBody (k .past)) + 1)
+          (bodyLength (k .past) (openBody (k .past))))
           ≡ bodyLength (commandOf c ∷ k .past) (openBody (commandOf c ∷ k .past))
       next-position = rw (open-next (commandOf c) (k .past)) (by-body (is BODY (commandOf c)) refl)
         where
           by-body :
               (t : Bool) → is BODY (commandOf c) ≡ t
-              → cond t 0 (cond (isHandler (commandOf c)) (bodyLength (k .past) (openBody (k .past)) + 1) (bodyLength (k .past) (openBody (k .past))))
+              → cond t 0 (cond (isHandler (commandOf c)) (bodyLength (k .past) (openBody (k .past)) + 1)
+              (bodyLength (k .past) (openBody (k .past))))
               ≡ bodyLength (commandOf c ∷ k .past) (cond t (c .first) (openBody (k .past)))
           by-body true e =
               let b : c .byte ≡ BODY = eqb-true (c .byte) BODY e in
               let z : isHandler (commandOf c) ≡ false = rw b in
               sym (body-next (commandOf c) (k .past) (c .first) ∙ rw z (body-fresh (k .past) (commandOf c) more e))
-          by-body false e = sym (body-next (commandOf c) (k .past) (openBody (k .past)) ∙ rw (eq-eqb (openBody (k .past)) (openBody (k .past)) refl) (by-handler (isHandler (commandOf c))))
+          by-body false e = sym (body-next (commandOf c) (k .past) (openBody (k .past))
+              ∙ rw (eq-eqb (openBody (k .past)) (openBody (k .past)) refl) (by-handler (isHandler (commandOf c))))
             where
               by-handler :
-                  (t : Bool) → cond (t && true) (bodyLength (k .past) (openBody (k .past)) + 1) (bodyLength (k .past) (openBody (k .past))) ≡ cond t (bodyLength (k .past) (openBody (k .past)) + 1) (bodyLength (k .past) (openBody (k .past)))
+                  (t : Bool) → cond (t && true) (bodyLength (k .past) (openBody (k .past)) + 1)
+                  (bodyLength (k .past) (openBody (k .past))) ≡ cond t (bodyLength (k .past) (openBody (k .past)) + 1)
+                  (bodyLength (k .past) (openBody (k .past)))
               by-handler true = refl
               by-handler false = refl
 

@@ -26,12 +26,14 @@ stored w at b x = cond (leb (at + 5) (length w)) (placed w at (b ∷ bytes4 x)) 
 -- the bytes with the handler commands of a job, each in the slot of its node and position
 unfoldable pub loaded : List ℕ → List Command → List ℕ
 loaded w [] = w
-loaded w (c ∷ past) = cond (isHandler c) (stored (loaded w past) (slotOf (openBody past) (bodyLength past (openBody past))) (c .byte) (c .operands .first)) (loaded w past)
+loaded w (c ∷ past) = cond (isHandler c) (stored (loaded w past) (slotOf (openBody past) (bodyLength past (openBody past))) (c .byte)
+    (c .operands .first)) (loaded w past)
 
 -- the command of a node at a position, as it stands in the work buffer; SKIP where there is no slot
 abbrev pub fetchedIn : List ℕ → ℕ → ℕ → Instruction
 fetchedIn w n i =
-    cond (ltb n maxNodes && (ltb i maxHandler && leb workSize (length w))) (recognised (getD w (slotOf n i) 0) (numberAt w (slotOf n i + 1) 4))
+    cond (ltb n maxNodes && (ltb i maxHandler && leb workSize (length w)))
+    (recognised (getD w (slotOf n i) 0) (numberAt w (slotOf n i + 1) 4))
     (instruction SKIP 0)
 
 -- the handlers in the work buffer `w`, as long as the tables `t` say

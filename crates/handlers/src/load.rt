@@ -32,14 +32,15 @@ fn store(work: &mut [u8], at: usize, b: u8, x: u32)
 // Stores a command in its slot, if it is a handler command.
 fn keep(work: &mut [u8], opened: NodeNum, index: u32, c: Command)
     requires { ⌜ (opened .0 < 32) × (index ≤ 64) ⌝ }
-    ensures { λ _. ⌜ now (work .exit) ≡ cond (isHandlerByte (c .byte)) (stored (now (work .entry)) (slotOf (opened .0) index) (c .byte) (c .first)) (now (work .entry)) ⌝ }
+    ensures { λ _. ⌜ now (work .exit) ≡ cond (isHandlerByte (c .byte))
+        (stored (now (work .entry)) (slotOf (opened .0) index) (c .byte) (c .first)) (now (work .entry)) ⌝ }
 {
     if bytes::is_handler(c.byte) {
         store(work, slot_of(opened, index), c.byte, c.first);
     }
 }
 
-// The position of the next command in the open handler, behind a command.
+// The position of the next command in the open handler, after a command.
 fn index_after(c: Command, index: u32) -> u32
     requires { ⌜ index < 65536 ⌝ }
     ensures { λ r. ⌜ r ≡ cond (eqb (c .byte) BODY) 0 (cond (isHandlerByte (c .byte)) (index + 1) index) ⌝ }

@@ -25,17 +25,20 @@ module _ (job : List ℕ) (b : Sizes) (t : List ℕ) where
   refused-before q e = decides-refused (decodeFor job b) t q (rw e)
 
   -- the tests 10 to 12 decide
-  module _ (past : List Command) (decoded : decodeJob job ≡ accepted past) (r : Verdict) (found : verdictOf r ≡ shortBuffer job b past) where
+  module _ (past : List Command) (decoded : decodeJob job ≡ accepted past) (r : Verdict)
+      (found : verdictOf r ≡ shortBuffer job b past) where
     pub refused-behind : (q : Refused) → r ≡ v.Refused q → t ≡ blank → Decides (decodeFor job b) t (v.Refused q)
     unfolding decodeFor
     refused-behind q is = let e = rw is at found in decides-refused (decodeFor job b) t q (rw (decoded, ← e))
 
     pub accepted-behind : r ≡ v.Accepted → Stands t past → Decides (decodeFor job b) t v.Accepted
     unfolding decodeFor
-    accepted-behind is s = let e = rw is at found in decides-accepted (decodeFor job b) t (record { past = past; decoded = rw (decoded, ← e); stands = s })
+    accepted-behind is s = let e = rw is at found in decides-accepted (decodeFor job b) t
+        (record { past = past; decoded = rw (decoded, ← e); stands = s })
 
 -- the first buffer that is too short, or none
-module _ (job : List ℕ) (past : List Command) (size turns trace snapshot work : ℕ) (long : length job ≡ size) (counted : countOf TURN past ≡ turns) where
+module _ (job : List ℕ) (past : List Command) (size turns trace snapshot work : ℕ) (long : length job ≡ size)
+    (counted : countOf TURN past ≡ turns) where
   abbrev decided : Option Refusal
   decided = shortBuffer job (sizes trace snapshot work) past
 

@@ -24,7 +24,8 @@ use Rattle.job.proofs.Judged.{accepts, refuses}
 
 module _ (job : List ℕ) (place : ℕ) (inside : place < length job) (past : List Command) where
   -- 2 and 3
-  pub step-unread : (q : RefusedFor) → refusalAt place (readCommand job place) ≡ some q → (fuel : ℕ) → decodeFrom (suc fuel) job place past ≡ rejected q
+  pub step-unread : (q : RefusedFor) → refusalAt place (readCommand job place) ≡ some q → (fuel : ℕ)
+      → decodeFrom (suc fuel) job place past ≡ rejected q
   step-unread q e fuel = by-read (readCommand job place) refl e
     where
       by-read : (r : ParsedAs) → readCommand job place ≡ r → refusalAt place r ≡ some q → decodeFrom (suc fuel) job place past ≡ rejected q
@@ -37,7 +38,8 @@ module _ (job : List ℕ) (place : ℕ) (inside : place < length job) (past : Li
     read-plain = read-at job place (commandOf c) next read .plain
 
     -- 4 to 8
-    pub step-refused : (k : ℕ) → k ≡ violation past (commandOf c) → ¬ (k ≡ 0) → (fuel : ℕ) → decodeFrom (suc fuel) job place past ≡ rejected (refuse k place)
+    pub step-refused : (k : ℕ) → k ≡ violation past (commandOf c) → ¬ (k ≡ 0) → (fuel : ℕ)
+        → decodeFrom (suc fuel) job place past ≡ rejected (refuse k place)
     step-refused k v n fuel = decode-refused fuel job place past inside (commandOf c) next k read (sym v) n
 
     -- a command that passes
@@ -57,10 +59,12 @@ module _ (job : List ℕ) (place : ℕ) (inside : place < length job) (past : Li
         }
 
 -- a step, by the code's answer
-pub steps-next : (job : List ℕ) (place : ℕ) (past : List Command) (t : List ℕ) (r : Continuation) (next : ℕ) → Continues job place past t r → r ≡ s.Next next → Onward job place past t next
+pub steps-next : (job : List ℕ) (place : ℕ) (past : List Command) (t : List ℕ) (r : Continuation) (next : ℕ) → Continues job place past t r
+    → r ≡ s.Next next → Onward job place past t next
 steps-next job place past t r next h e = rw e at h
 
-pub steps-stop : (job : List ℕ) (place : ℕ) (past : List Command) (t : List ℕ) (r : Continuation) (q : Refusal) → Continues job place past t r → r ≡ s.Refused q → (fuel : ℕ) → decodeFrom (suc fuel) job place past ≡ rejected (refusalOf q)
+pub steps-stop : (job : List ℕ) (place : ℕ) (past : List Command) (t : List ℕ) (r : Continuation) (q : Refusal)
+    → Continues job place past t r → r ≡ s.Refused q → (fuel : ℕ) → decodeFrom (suc fuel) job place past ≡ rejected (refusalOf q)
 steps-stop job place past t r q h e = rw e at h
 
 -- what the loop keeps
@@ -96,7 +100,8 @@ module _ (job t : List ℕ) (place : ℕ) (g : Going job t place) where
     left : (f : ℕ) × (decodeFrom (suc f) job place (g .past) ≡ decode job) × (g .fuel ≡ suc f)
     left = let f = fuel-left job place (g .fuel) h (g .enough) in (f .0, rw (f .1) at (g .goesOn), f .1)
 
-    pub going-stop : (u : List ℕ) (r : Refusal) → ((fuel : ℕ) → decodeFrom (suc fuel) job place (g .past) ≡ rejected (refusalOf r)) → Verdicts (decode job) u (v.Refused r)
+    pub going-stop : (u : List ℕ) (r : Refusal) → ((fuel : ℕ) → decodeFrom (suc fuel) job place (g .past) ≡ rejected (refusalOf r))
+        → Verdicts (decode job) u (v.Refused r)
     going-stop u r e = refuses (decode job) u r (sym (left .1) ∙ e (left .0))
 
     pub going-on : (u : List ℕ) (next : ℕ) → Onward job place (g .past) u next → Going job u next

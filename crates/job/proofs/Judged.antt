@@ -36,15 +36,17 @@ pub is-refused : (d : Decoded) (t : List ℕ) (r : Verdict) (q : Refused) → Ve
 is-refused (accepted past) t r q h e = let f = rw e at (h .verdict) in let w : _≡_ {A = ℕ} 0 1 = cc in absurd (omega arith)
 is-refused (rejected p) t r q h e = let f = rw e at (h .verdict) in cc
 
--- refused by the walk; and behind the walk the verdict on the jumps decides
+-- refused by the walk; and after the walk the verdict on the jumps decides
 pub walk-refuses : (job t : List ℕ) (q : Refused) → decode job ≡ rejected (refusalOf q) → Verdicts (decodeJob job) t (v.Refused q)
 walk-refuses job t q e = refuses (decodeJob job) t q (decode-job-rejected job (refusalOf q) e)
 
 pub jumps-decide :
-    (job t : List ℕ) (r : Verdict) → Accepted (decode job) t → ((all : List Command) → decode job ≡ accepted all → Stands t all → verdictOf r ≡ farJump all)
+    (job t : List ℕ) (r : Verdict) → Accepted (decode job) t → ((all : List Command) → decode job ≡ accepted all → Stands t all
+    → verdictOf r ≡ farJump all)
     → Verdicts (decodeJob job) t r
 jumps-decide job t v.Accepted a j =
-    accepts (decodeJob job) t (a .past) (decode-job-accepted job (a .past) (a .decoded) (sym (j (a .past) (a .decoded) (a .stands)))) (a .stands)
+    accepts (decodeJob job) t (a .past) (decode-job-accepted job (a .past) (a .decoded) (sym (j (a .past) (a .decoded) (a .stands))))
+    (a .stands)
 jumps-decide job t (v.Refused q) a j =
     refuses (decodeJob job) t q (decode-job-jump job (a .past) (refusalOf q) (a .decoded) (sym (j (a .past) (a .decoded) (a .stands))))
 

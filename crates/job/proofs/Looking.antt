@@ -41,7 +41,8 @@ module _ (job : List ℕ) (all : List Command) (place opened : ℕ) (l : Looking
       let w : _≡_ {A = ℕ} 0 1 = cc in
       absurd (omega arith)
 
-  module _ (t : List ℕ) (stands : Stands t all) (h : place < length job) (c : Code) (next len : ℕ) (far : Bool) (read : readCommand job place ≡ whole (commandOf c) next)
+  module _ (t : List ℕ) (stands : Stands t all) (h : place < length job) (c : Code) (next len : ℕ) (far : Bool)
+      (read : readCommand job place ≡ whole (commandOf c) next)
       (long : len ≡ lengthIn t opened) (judged : far ≡ ((eqb (c .byte) 0x47 || eqb (c .byte) 0x48) && ltb len (c .first))) where
     found : far ≡ isFarJump all (l .past) (commandOf c)
     found = rw (judged, long, l .open-node, stands .lengths (openBody (l .past)))

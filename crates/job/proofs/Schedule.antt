@@ -19,13 +19,15 @@ use Rattle.model.proofs.Growth.{count-same, count-other, length-turns, turns-ne
 use Rattle.model.proofs.Valid.{passes}
 use Rattle.command.proofs.Known.{known-passes}
 
--- behind a TURN no group is lower than 6
+-- after a TURN no group is lower than 6
 behind-turn : (past : List Command) (c : Command) → ¬ (countOf TURN past ≡ 0) → groupFalls past c ≡ false → 6 ≤ groupOf (c .byte)
 unfolding countOf groupFalls
 behind-turn [] c n f = absurd (n refl)
-behind-turn (d ∷ past) c n f = by-turn (is TURN d) refl n (λ m. behind-turn past c m (or-right (ltb (groupOf (c .byte)) (groupOf (d .byte))) _ f))
+behind-turn (d ∷ past) c n f = by-turn (is TURN d) refl n (λ m. behind-turn past c m
+    (or-right (ltb (groupOf (c .byte)) (groupOf (d .byte))) _ f))
   where
-    by-turn : (t : Bool) → is TURN d ≡ t → ¬ (cond t (countOf TURN past + 1) (countOf TURN past) ≡ 0) → (¬ (countOf TURN past ≡ 0) → 6 ≤ groupOf (c .byte)) → 6 ≤ groupOf (c .byte)
+    by-turn : (t : Bool) → is TURN d ≡ t → ¬ (cond t (countOf TURN past + 1) (countOf TURN past) ≡ 0)
+        → (¬ (countOf TURN past ≡ 0) → 6 ≤ groupOf (c .byte)) → 6 ≤ groupOf (c .byte)
     by-turn true e m ih =
         let b : d .byte ≡ TURN = eqb-true (d .byte) TURN e in
         ltb-false (groupOf (c .byte)) 6 (rw b at (or-left (ltb (groupOf (c .byte)) (groupOf (d .byte))) _ f))
@@ -36,7 +38,8 @@ group-six : (b : ℕ) → ¬ (operandsOf b ≡ mathlib.Core.Option.none) → 6 �
 group-six b known h = rw (le-ltb (b / 16) 6 h) at (known-passes (λ d. ltb (d / 16) 6 || eqb d TURN) b refl known)
 
 -- a TURN that is read has 2 bytes, and the second is its node
-turn-read : (job : List ℕ) (place : ℕ) (c : Command) (next : ℕ) → ReadAt job place c next → c .byte ≡ TURN → (next ≡ place + 2) × (c .operands .first ≡ getD job (place + 1) 0)
+turn-read : (job : List ℕ) (place : ℕ) (c : Command) (next : ℕ) → ReadAt job place c next → c .byte ≡ TURN
+    → (next ≡ place + 2) × (c .operands .first ≡ getD job (place + 1) 0)
 unfolding operandsOf operandsIn
 turn-read job place c next r e =
     let b : getD job place 0 ≡ TURN = sym (r .byte) ∙ e in
@@ -52,7 +55,8 @@ record Turning (job : List ℕ) (place : ℕ) (past : List Command) : Type 0 whe
   turn : (k : ℕ) → k < countOf TURN past → getD job (place - 2 * countOf TURN past + 2 * k + 1) 0 ≡ getD (turnsOf past) k 0
 
 -- one more command
-module _ (job : List ℕ) (place : ℕ) (past : List Command) (c : Command) (next : ℕ) (read : readCommand job place ≡ whole c next) (passed : violation past c ≡ 0) (t : Turning job place past) where
+module _ (job : List ℕ) (place : ℕ) (past : List Command) (c : Command) (next : ℕ) (read : readCommand job place ≡ whole c next)
+    (passed : violation past c ≡ 0) (t : Turning job place past) where
   further-turn : is TURN c ≡ true → Turning job next (c ∷ past)
   further-turn e =
       let r = turn-read job place c next (read-at job place c next read) (eqb-true (c .byte) TURN e) in
@@ -67,7 +71,8 @@ module _ (job : List ℕ) (place : ℕ) (past : List Command) (c : Command) (nex
       }
     where
       by-turn :
-          (next ≡ place + 2) × (c .operands .first ≡ getD job (place + 1) 0) → length (turnsOf past) ≡ countOf TURN past → 2 * countOf TURN past ≤ place
+          (next ≡ place + 2) × (c .operands .first ≡ getD job (place + 1) 0) → length (turnsOf past) ≡ countOf TURN past
+          → 2 * countOf TURN past ≤ place
           → (k : ℕ) (b : Bool) → ltb k (countOf TURN past) ≡ b → k ≤ countOf TURN past
           → getD job (place - 2 * countOf TURN past + 2 * k + 1) 0 ≡ getD (turnsOf past ++ (c .operands .first ∷ [])) k 0
       by-turn r l h k true g z =
@@ -105,8 +110,9 @@ pub turn-at :
     → (k : ℕ) → k < countOf TURN past → getD job (length job - 2 * countOf TURN past + 2 * k + 1) 0 ≡ getD (turnsOf past) k 0
 turn-at job past reads = turning reads .turn
 
--- the place of a turn, as the code finds it: inside the job, or behind the last turn
-module _ (job : List ℕ) (m k count first left : ℕ) (counted : count ≡ m) (from : first ≡ length job - 2 * count) (rest : left ≡ length job - first) where
+-- the place of a turn, as the code finds it: inside the job, or after the last turn
+module _ (job : List ℕ) (m k count first left : ℕ) (counted : count ≡ m) (from : first ≡ length job - 2 * count)
+    (rest : left ≡ length job - first) where
   pub turn-inside : (x : ℕ) → x ≡ getD job (first + (2 * k + 1)) 0 → x ≡ getD job (length job - 2 * m + 2 * k + 1) 0
   turn-inside x e = let q : first + (2 * k + 1) ≡ length job - 2 * m + 2 * k + 1 = omega arith in rw q at e
 

@@ -25,7 +25,7 @@ abbrev pub refusalIn : Decoded → Option Refusal
 refusalIn (accepted past) = none
 refusalIn (rejected r) = some r
 
--- one command further: the tables stand for it too, and decoding goes on behind it
+-- one command further: the tables stand for it too, and decoding goes on after it
 pub record Onward (job : List ℕ) (place : ℕ) (past : List Command) (t : List ℕ) (next : ℕ) : Type 0 where
   pub command : Command
   pub stands : Stands t (command ∷ past)

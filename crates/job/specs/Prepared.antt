@@ -19,8 +19,9 @@ use Rattle.handlers.specs.Loading.{fetchedIn, handlersIn, loaded}
 abbrev pub turnIn : List ℕ → List ℕ → ℕ → ℕ
 turnIn job t k = getD job (length job - 2 * countIn t TURN + 2 * k + 1) 0
 
--- what decoding and loading leave of an accepted job: its program, every command of its handlers, its turns, and the bytes behind the slots;
--- `before` is the work buffer before loading, `w` the one behind it
+-- what decoding and loading leave of an accepted job: its program, every command of its handlers, its turns, and the bytes after the
+-- slots;
+-- `before` is the work buffer before loading, `w` the one after it
 pub record Prepared (job t before w : List ℕ) (past : List Command) : Type 0 where
   pub program : programIn t (handlersIn t w) ≡ programOf past
   pub fetched : (n i : ℕ) → i < length (programOf past .handler n) → fetchedIn w n i ≡ instructionAt (programOf past) n i

@@ -21,9 +21,10 @@ pub const SNAPSHOT: usize = 2624;
 
 pub const WORK: usize = 16384;
 
-// The tests 10 to 12: a job of this length and so many turns, with buffers of these lengths.
+// The tests 10 to 12: a job of this length and number of turns, with buffers of these lengths.
 fn check_buffers(size: usize, turns: u32, trace: usize, snapshot: usize, work: usize) -> Verdict
-    ensures { λ r. ⌜ ((job : List ℕ) (past : List Command) → length job ≡ size → countOf TURN past ≡ turns → verdictOf r ≡ shortBuffer job (sizes trace snapshot work) past) ⌝ }
+    ensures { λ r. ⌜ ((job : List ℕ) (past : List Command) → length job ≡ size → countOf TURN past ≡ turns
+        → verdictOf r ≡ shortBuffer job (sizes trace snapshot work) past) ⌝ }
 {
     if trace < 7 * (turns as usize) {
         return Verdict::Refused(Refusal {
@@ -46,7 +47,8 @@ fn check_buffers(size: usize, turns: u32, trace: usize, snapshot: usize, work: u
     Verdict::Accepted
 }
 
-// The verdict on a job of any length with buffers of any lengths, whatever the tables held before: an accepted job leaves its tables, a refused one blank ones.
+// The verdict on a job of any length with buffers of any lengths, whatever the tables held before: an accepted job leaves its tables, a
+// refused one blank ones.
 pub fn judge(
     job: &[u8],
     tables: &mut [u32; CELLS],

@@ -27,7 +27,8 @@ fn is_far(c: Command, len: u32) -> bool
 
 // 9: refused at the first jump whose target exceeds its handler's command count.
 pub(crate) fn check_jumps(job: &[u8], tables: &[u32]) -> Verdict
-    ensures { λ r. ⌜ ((all : List Past) → decode (now (job .entry)) ≡ accepted all → Stands (now (tables .entry)) all → verdictOf r ≡ farJump all) ⌝ }
+    ensures { λ r. ⌜ ((all : List Past) → decode (now (job .entry)) ≡ accepted all → Stands (now (tables .entry)) all
+        → verdictOf r ≡ farJump all) ⌝ }
 {
     let mut at = 0;
     let mut opened = NodeNum(0);

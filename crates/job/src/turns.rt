@@ -17,7 +17,7 @@ fn less(a: usize, b: usize) -> usize
     0
 }
 
-// The node of turn k, counted from 0, of the job that the tables stand for; node 0 behind the last turn.
+// The node of turn k, counted from 0, of the job that the tables stand for; node 0 after the last turn.
 pub fn turn_at(job: &[u8], tables: &[u32], k: u32) -> NodeNum
     ensures { λ r. ⌜ r .0 ≡ turnIn (now (job .entry)) (now (tables .entry)) k ⌝ }
 {

@@ -29,7 +29,8 @@ pub(crate) enum Continuation {
 fn admit(job: &[u8], at: usize, c: Command, next: usize, tables: &mut [u32]) -> Continuation
     requires { ⌜ (at < length (now job)) × (length (now job) ≤ 16384) ⌝ }
     requires { ⌜ (readCommand (now job) at ≡ whole (commandOf c) next) × Known c ⌝ }
-    ensures { λ r. ⌜ ((past : List Past) → Stands (now (tables .entry)) past → Valid past → length past ≤ at → Continues (now (job .entry)) at past (now (tables .exit)) r) ⌝ }
+    ensures { λ r. ⌜ ((past : List Past) → Stands (now (tables .entry)) past → Valid past → length past ≤ at
+        → Continues (now (job .entry)) at past (now (tables .exit)) r) ⌝ }
 {
     let number = violation_of(tables, c);
     if number != 0 {
@@ -42,7 +43,8 @@ fn admit(job: &[u8], at: usize, c: Command, next: usize, tables: &mut [u32]) -> 
 // One step: the command at a place.
 fn advance(job: &[u8], at: usize, tables: &mut [u32]) -> Continuation
     requires { ⌜ (at < length (now job)) × (length (now job) ≤ 16384) ⌝ }
-    ensures { λ r. ⌜ ((past : List Past) → Stands (now (tables .entry)) past → Valid past → length past ≤ at → Continues (now (job .entry)) at past (now (tables .exit)) r) ⌝ }
+    ensures { λ r. ⌜ ((past : List Past) → Stands (now (tables .entry)) past → Valid past → length past ≤ at
+        → Continues (now (job .entry)) at past (now (tables .exit)) r) ⌝ }
 {
     let read = read_command(job, at);
     match read {

@@ -1,4 +1,4 @@
--- The parts of a snapshot, one behind the other, and those of a run.
+-- The parts of a snapshot, one after the other, and those of a run.
 use Prim.Native.Nat.{ℕ, zero, suc, _+_, _-_, _*_, _≤_, _<_}
 use mathlib.Core.Path.{_≡_, refl, ap, _∙_}
 use mathlib.Core.List.{List, _++_}
@@ -12,7 +12,8 @@ use Rattle.writing.specs.Writing.{Writes}
 use Rattle.lines.specs.Lines.{entryLine, endLine, nextPart, partAt, nodeLine, variableLine, nodeLines, snapshotLines, runLines}
 
 -- the next part
-pub part-next : (snapshot : List ℕ) (n place next : ℕ) → place ≡ partAt snapshot n → next ≡ nextPart snapshot place → next ≡ partAt snapshot (n + 1)
+pub part-next : (snapshot : List ℕ) (n place next : ℕ) → place ≡ partAt snapshot n → next ≡ nextPart snapshot place
+    → next ≡ partAt snapshot (n + 1)
 unfolding partAt
 part-next snapshot n place next e w = w ∙ rw (e, add-one)
 
@@ -24,16 +25,23 @@ parts-grow snapshot k (suc d) zero e = absurd (omega arith)
 parts-grow snapshot k (suc d) (suc n) e = omega (arith, parts-grow snapshot k d n (omega arith))
 
 pub part-inside :
-    (snapshot : List ℕ) (nodes variables n place : ℕ) → partAt snapshot nodes + 4 * variables ≤ length snapshot → n < nodes → place ≡ partAt snapshot n
+    (snapshot : List ℕ) (nodes variables n place : ℕ) → partAt snapshot nodes + 4 * variables ≤ length snapshot → n < nodes
+    → place ≡ partAt snapshot n
     → nextPart snapshot place ≤ length snapshot
 part-inside snapshot nodes variables n place fits inside e =
-    omega (arith, part-next snapshot n place (nextPart snapshot place) e refl, parts-grow snapshot (n + 1) (nodes - (n + 1)) nodes (omega arith))
+    omega (
+      arith,
+      part-next snapshot n place (nextPart snapshot place) e refl,
+      parts-grow snapshot (n + 1) (nodes - (n + 1)) nodes
+          (omega arith),
+    )
 
 -- the line of node n
 abbrev pub partLine : List ℕ → ℕ → List ℕ
 partLine snapshot n = nodeLine snapshot (partAt snapshot n) n
 
-module _ (snapshot : List ℕ) (nodes variables : ℕ) (before : List ℕ) (at : ℕ) (fits : at + length (snapshotLines snapshot nodes variables) ≤ length before) where
+module _ (snapshot : List ℕ) (nodes variables : ℕ) (before : List ℕ) (at : ℕ)
+    (fits : at + length (snapshotLines snapshot nodes variables) ≤ length before) where
   abbrev lines : List ℕ
   lines = joined (variableLine snapshot (partAt snapshot nodes)) variables
 
@@ -44,7 +52,8 @@ module _ (snapshot : List ℕ) (nodes variables : ℕ) (before : List ℕ) (at :
   pub nodes-room : at + length (joined (partLine snapshot) nodes) ≤ length before
   nodes-room = front-room (nodeLines snapshot nodes) lines before at parts
 
-  module _ (n place : ℕ) (low : n ≤ nodes) (high : nodes ≤ n) (e : place ≡ partAt snapshot n) (buffer : List ℕ) (next : ℕ) (w : Put (partLine snapshot) before at n buffer next) where
+  module _ (n place : ℕ) (low : n ≤ nodes) (high : nodes ≤ n) (e : place ≡ partAt snapshot n) (buffer : List ℕ) (next : ℕ)
+      (w : Put (partLine snapshot) before at n buffer next) where
     nodes-put : Writes (nodeLines snapshot nodes) before at buffer next
     nodes-put = all-put (partLine snapshot) before at nodes n buffer next low high w
 
@@ -64,7 +73,8 @@ module _ (snapshot : List ℕ) (nodes variables : ℕ) (before : List ℕ) (at :
     snapshot-put after last p = two-put (nodeLines snapshot nodes) lines before at parts buffer next nodes-put after last (rw here at p)
 
 -- a run: entries, answer, snapshot
-module _ (x : Answer) (trace snapshot : List ℕ) (nodes variables : ℕ) (before : List ℕ) (at : ℕ) (room : at + length (runLines x trace snapshot nodes variables) ≤ length before) where
+module _ (x : Answer) (trace snapshot : List ℕ) (nodes variables : ℕ) (before : List ℕ) (at : ℕ)
+    (room : at + length (runLines x trace snapshot nodes variables) ≤ length before) where
   abbrev entries : List ℕ
   entries = joined (entryLine trace) (x .turns)
 

@@ -13,7 +13,8 @@ use Rattle.lines.specs.Lines.{nodeWord, varWord, entryLine, messagesAt, 
 -- an entry
 pub entry-same :
     (trace : List ℕ) (k node kind number value : ℕ)
-    → node ≡ numberAt trace (7 * k) 1 → kind ≡ numberAt trace (7 * k + 1) 1 → number ≡ numberAt trace (7 * k + 2) 1 → value ≡ numberAt trace (7 * k + 3) 4
+    → node ≡ numberAt trace (7 * k) 1 → kind ≡ numberAt trace (7 * k + 1) 1 → number ≡ numberAt trace (7 * k + 2) 1
+    → value ≡ numberAt trace (7 * k + 3) 4
     → entryLine trace k ≡ line (decimal node) (kind ∷ number ∷ value ∷ [])
 unfolding entryLine
 entry-same trace k node kind number value e₁ e₂ e₃ e₄ = rw (e₁, e₂, e₃, e₄)
@@ -22,7 +23,8 @@ entry-same trace k node kind number value e₁ e₂ e₃ e₄ = rw (e₁, e₂, 
 abbrev pub messageField : List ℕ → ℕ → ℕ → List ℕ
 messageField snapshot place i = field (numberAt snapshot (place + 4 * i) 4)
 
-pub messages-each : (snapshot : List ℕ) (place count : ℕ) → joined (messageField snapshot place) count ≡ fields (messagesAt snapshot place count)
+pub messages-each : (snapshot : List ℕ) (place count : ℕ) → joined (messageField snapshot place) count ≡ fields
+    (messagesAt snapshot place count)
 unfolding messagesAt
 messages-each snapshot place count = sym (fields-first (λ i. numberAt snapshot (place + 4 * i) 4) count)
 
@@ -70,7 +72,8 @@ module _
           pub end-room : four < length fourth
           end-room = omega (arith, back-room (fields messages) (10 ∷ []) third three rest fourth four r)
 
-          pub node-put : (after : List ℕ) (last : ℕ) → Writes (10 ∷ []) fourth four after last → Writes (nodeLine snapshot place n) before at after last
+          pub node-put : (after : List ℕ) (last : ℕ) → Writes (10 ∷ []) fourth four after last
+              → Writes (nodeLine snapshot place n) before at after last
           node-put after last w =
               rw same
               (three-put nodeWord (fields five) back before at fits second two p third three q after last

@@ -30,7 +30,7 @@ endLine x =
     line endWord
     (x .stop ∷ x .turns ∷ x .attempted .node ∷ x .attempted .kind ∷ x .attempted .number ∷ x .attempted .value ∷ [])
 
--- so many messages from a place of the snapshot ("picture") on
+-- the messages from a place of the snapshot ("picture") on
 unfoldable pub messagesAt : List ℕ → ℕ → ℕ → List ℕ
 messagesAt snapshot place count = joined (λ i. numberAt snapshot (place + 4 * i) 4 ∷ []) count
 

@@ -52,7 +52,8 @@ pub fn put_run(
     requires { ⌜ 7 * (ending .turns) ≤ length (now trace) ⌝ }
     requires { ⌜ partAt (now snapshot) nodes + 4 * variables ≤ length (now snapshot) ⌝ }
     requires { ⌜ at + length (runLines (answerOf ending) (now trace) (now snapshot) nodes variables) ≤ length (now text) ⌝ }
-    ensures { λ r. ⌜ Writes (runLines (answerOf ending) (now (trace .entry)) (now (snapshot .entry)) nodes variables) (now (text .entry)) at (now (text .exit)) r ⌝ }
+    ensures { λ r. ⌜ Writes (runLines (answerOf ending) (now (trace .entry)) (now (snapshot .entry)) nodes variables) (now (text .entry)) at
+        (now (text .exit)) r ⌝ }
 {
     let turns = ending.turns as usize;
     let end = put_entry_lines(text, at, trace, turns);

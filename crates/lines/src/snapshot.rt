@@ -74,7 +74,7 @@ fn put_variable_lines(
     next
 }
 
-// Where the part behind that at a place begins.
+// Where the part after that at a place begins.
 fn next_part(snapshot: &[u8], place: usize) -> usize
     requires { ⌜ nextPart (now snapshot) place ≤ length (now snapshot) ⌝ }
     ensures { λ r. ⌜ r ≡ nextPart (now (snapshot .entry)) place ⌝ }

@@ -21,11 +21,13 @@ pub filled-none : {A : Type 0} (f : ℕ → A) (d : A) (k : ℕ) (l : List A) �
 filled-none f d k l e = record { size = e; each = λ i h. absurd (omega arith) }
 
 -- one element more
-pub filled-more : {A : Type 0} {f : ℕ → A} {d : A} {k n : ℕ} {l : List A} → Filled f d k n l → n < k → (a : A) → a ≡ f n → Filled f d k (n + 1) (set l n a)
+pub filled-more : {A : Type 0} {f : ℕ → A} {d : A} {k n : ℕ} {l : List A} → Filled f d k n l → n < k → (a : A) → a ≡ f n
+    → Filled f d k (n + 1) (set l n a)
 filled-more {A} {f} {d} {k} {n} {l} s h a e =
     record {
       size = length-set l n a ∙ s .size;
-      each = below-more (λ i. getD (set l n a) i d ≡ f i) n (λ i b. getD-set-other l n i a d (λ q. omega arith) ∙ s .each i b) (getD-set-same l n a d (omega (arith, s .size)) ∙ e);
+      each = below-more (λ i. getD (set l n a) i d ≡ f i) n (λ i b. getD-set-other l n i a d (λ q. omega arith) ∙ s .each i b)
+          (getD-set-same l n a d (omega (arith, s .size)) ∙ e);
     }
 
 -- a full one is the table
@@ -34,14 +36,19 @@ filled-all {A} {f} {d} {k} {n} {l} s h =
     ext-getD d l (tabulate k f) (s .size ∙ sym (length-tabulate k f))
     (λ i b. let below : i < k = omega (arith, s .size) in s .each i (omega arith) ∙ sym (getD-tabulate k i f d below))
 
--- slots whose first n queues are a function's values; of the counts behind them nothing is known
+-- slots whose first n queues are a function's values; of the counts after them nothing is known
 pub record Queued (f : ℕ → List ℕ) (n : ℕ) (ws slots : List ℕ) : Type 0 where
   pub places : length slots ≡ 512
   pub bounded : (i : ℕ) → i < n → getD ws i 0 ≤ 16
   pub filled : Filled f [] 32 n (queues ws slots)
 
 pub queued-none : (f : ℕ → List ℕ) (ws slots : List ℕ) → length slots ≡ 512 → length ws ≡ 32 → Queued f 0 ws slots
-queued-none f ws slots e c = record { places = e; bounded = λ i h. absurd (omega arith); filled = filled-none f [] 32 (queues ws slots) (length-queues ws slots ∙ c) }
+queued-none f ws slots e c = record {
+  places = e;
+  bounded = λ i h. absurd (omega arith);
+  filled = filled-none f [] 32 (queues ws slots)
+      (length-queues ws slots ∙ c);
+}
 
 module _ {f : ℕ → List ℕ} {n : ℕ} {ws slots : List ℕ} (s : Queued f n ws slots) where
   -- one count a queue
@@ -57,7 +64,8 @@ module _ {f : ℕ → List ℕ} {n : ℕ} {ws slots : List ℕ} (s : Queued f n 
       let now : getD (set ws n w) n 0 ≡ w = getD-set-same ws n w 0 (omega (arith, counts)) in
       record {
         places = e;
-        bounded = below-more (λ i. getD (set ws n w) i 0 ≤ 16) n (λ i b. rw (getD-set-other ws n i w 0 (λ q. omega arith)) (s .bounded i b)) (rw now small);
+        bounded = below-more (λ i. getD (set ws n w) i 0 ≤ 16) n (λ i b. rw (getD-set-other ws n i w 0 (λ q. omega arith)) (s .bounded i b))
+            (rw now small);
         filled = rw (queues-change ws slots slots′ n w same) (filled-more (s .filled) h (take w (drop (16 * n) slots′)) mine);
       }
 
@@ -68,8 +76,10 @@ module _ {f : ℕ → List ℕ} {n : ℕ} {ws slots : List ℕ} (s : Queued f n 
   pub queued-one : (v : ℕ) → n < 32 → v ∷ [] ≡ f n → Queued f (n + 1) (set ws n 1) (set slots (n * 16) v)
   queued-one v h e = queued-more 1 (set slots (n * 16) v) h (omega arith) (length-set slots (n * 16) v ∙ s .places) same mine
     where
-      same : (i : ℕ) → (i < n) ⊎ (n < i) → take (getD ws i 0) (drop (16 * i) (set slots (n * 16) v)) ≡ take (getD ws i 0) (drop (16 * i) slots)
-      same i o = part-set slots (16 * i) (getD ws i 0) (n * 16) v (⊎-elim (λ b. inr (omega (arith, s .bounded i b))) (λ b. inl (omega arith)) o)
+      same : (i : ℕ) → (i < n) ⊎ (n < i) → take (getD ws i 0) (drop (16 * i) (set slots (n * 16) v)) ≡ take (getD ws i 0)
+          (drop (16 * i) slots)
+      same i o = part-set slots (16 * i) (getD ws i 0) (n * 16) v
+          (⊎-elim (λ b. inr (omega (arith, s .bounded i b))) (λ b. inl (omega arith)) o)
 
       mine : take 1 (drop (16 * n) (set slots (n * 16) v)) ≡ f n
       mine =

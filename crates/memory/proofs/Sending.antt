@@ -31,7 +31,8 @@ pub record Serving (target : ℕ → Bool) (v : ℕ) (qs : List (List ℕ)) (k :
   pub holds : Holds ws slots (delivered target v qs k)
 
 pub serving-none :
-    (target : ℕ → Bool) (v : ℕ) (ws slots : List ℕ) → length ws ≡ 32 → length slots ≡ 512 → BoundedCounts ws → full target (countAt ws) ≡ false
+    (target : ℕ → Bool) (v : ℕ) (ws slots : List ℕ) → length ws ≡ 32 → length slots ≡ 512 → BoundedCounts ws
+    → full target (countAt ws) ≡ false
     → Serving target v (queues ws slots) 0 ws slots
 unfolding delivered
 serving-none target v ws slots counts places bounded f = record {
@@ -42,7 +43,8 @@ serving-none target v ws slots counts places bounded f = record {
 }
 
 module _ {target : ℕ → Bool} {v : ℕ} {qs : List (List ℕ)} {k : ℕ} {ws slots : List ℕ} (s : Serving target v qs k ws slots) where
-  pub serving-target : k < 32 → target k ≡ true → Serving target v qs (k + 1) (set ws k (getD ws k 0 + 1)) (set slots (k * 16 + getD ws k 0) v)
+  pub serving-target : k < 32 → target k ≡ true → Serving target v qs (k + 1) (set ws k (getD ws k 0 + 1))
+      (set slots (k * 16 + getD ws k 0) v)
   serving-target h e =
       let less = s .room k (omega arith) h e in
       let bounded = s .holds .bounded in
@@ -52,7 +54,8 @@ module _ {target : ℕ → Bool} {v : ℕ} {qs : List (List ℕ)} {k : ℕ} {ws 
         room = λ i l g y. rw (getD-set-other ws k i (getD ws k 0 + 1) 0 (λ q. omega arith)) (s .room i (omega arith) g y);
         holds = record {
           bounded = bounded-set ws k (getD ws k 0 + 1) bounded (omega (arith, s .counts)) (omega (arith, less));
-          same = queues-pushed ws slots k bounded (omega (arith, s .places)) v less ∙ rw (s .holds .same, add-one k, delivered-target target v qs k e);
+          same = queues-pushed ws slots k bounded (omega (arith, s .places)) v less
+              ∙ rw (s .holds .same, add-one k, delivered-target target v qs k e);
         };
       }
 

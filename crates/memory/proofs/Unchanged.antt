@@ -18,7 +18,8 @@ silent = 0 ∷ 3 ∷ []
 abbrev storeless : List ℕ
 storeless = 0 ∷ 1 ∷ 2 ∷ []
 
-pub queues-left : (wired : ℕ → ℕ → Bool) (n value : ℕ) (qs : List (List ℕ)) (x : Change) → OneOf silent (tagOf the-type x) → qs ≡ queuesAfter wired n value qs x
+pub queues-left : (wired : ℕ → ℕ → Bool) (n value : ℕ) (qs : List (List ℕ)) (x : Change) → OneOf silent (tagOf the-type x)
+    → qs ≡ queuesAfter wired n value qs x
 queues-left wired n value qs k.Nothing h = refl
 queues-left wired n value qs k.Take h = absurd (one-of silent 1 h)
 queues-left wired n value qs (k.Send port) h = absurd (one-of silent 2 h)

@@ -7,7 +7,8 @@ use native.Mathlib.Omega.{arith}
 use native.Mathlib.Numerals.{add-one}
 use native.Mathlib.Decide.{ℕ-discrete, decLt}
 use lib.ListN.{length, getD, take, drop, set, length-set, length-drop}
-use lib.Seq.{ext-getD, getD-set-same, getD-set-other, drop-drop, drop-set-lt, drop-set-add, take-set-le, take-suc-set, length-take-le, getD-take, getD-drop, paste, paste-zero, paste-suc, drop-paste, drop-at, take-append-le, take-take, take-nil}
+use lib.Seq.{ext-getD, getD-set-same, getD-set-other, drop-drop, drop-set-lt, drop-set-add, take-set-le, take-suc-set, length-take-le}
+use lib.Seq.{getD-take, getD-drop, paste, paste-zero, paste-suc, drop-paste, drop-at, take-append-le, take-take, take-nil}
 use Rattle.memory.specs.Queues.{queues, BoundedCounts, shifted}
 
 pub length-queues : (ws slots : List ℕ) → length (queues ws slots) ≡ length ws
@@ -23,7 +24,8 @@ queue-at (w ∷ ws) slots (suc n) =
     queue-at ws (drop 16 slots) n ∙ rw (drop-drop (16 * n) 16 slots, e)
 
 -- its length
-pub count-at : (ws slots : List ℕ) → BoundedCounts ws → length ws * 16 ≤ length slots → (n : ℕ) → length (getD (queues ws slots) n []) ≡ getD ws n 0
+pub count-at : (ws slots : List ℕ) → BoundedCounts ws → length ws * 16 ≤ length slots → (n : ℕ)
+    → length (getD (queues ws slots) n []) ≡ getD ws n 0
 count-at [] slots bounded fits n = refl
 count-at (w ∷ ws) slots bounded fits zero = length-take-le w slots (omega (arith, bounded 0))
 count-at (w ∷ ws) slots bounded fits (suc n) = count-at ws (drop 16 slots) (λ i. bounded (suc i)) (simp length-drop (omega arith)) n
@@ -69,7 +71,12 @@ queues-change ws slots slots′ n w same = ext-getD [] (queues (set ws n w) slot
     each i h = queue-at (set ws n w) slots′ i ∙ by-place (ℕ-discrete i n)
       where
         by-place : Dec (i ≡ n) → take (getD (set ws n w) i 0) (drop (16 * i) slots′) ≡ getD (set qs n q) i []
-        by-place (yes e) = rw (e, getD-set-same ws n w 0 (omega (arith, same-length, length-queues ws slots)), getD-set-same qs n q [] (omega (arith, same-length)))
+        by-place (yes e) = rw (
+          e,
+          getD-set-same ws n w 0 (omega (arith, same-length, length-queues ws slots)),
+          getD-set-same qs n q []
+              (omega (arith, same-length)),
+        )
         by-place (no ne) = rw (getD-set-other ws n i w 0 ne, getD-set-other qs n i q [] ne, queue-at ws slots i) (same i (apart i n ne))
 
 -- a store outside a part leaves the part
@@ -90,10 +97,17 @@ part-paste d at s (suc j) i w hd hs o =
     ∙ part-paste d at s j i w (omega arith) (omega arith) (⊎-elim (λ h. inl h) (λ h. inr (omega arith)) o)
 
 -- what they stored
-front-paste : (d : List ℕ) (at : ℕ) (s : List ℕ) (n k : ℕ) → at ≤ length d → n ≤ length s → k ≤ n → take k (drop at (paste d at s n)) ≡ take k s
+front-paste : (d : List ℕ) (at : ℕ) (s : List ℕ) (n k : ℕ) → at ≤ length d → n ≤ length s → k ≤ n
+    → take k (drop at (paste d at s n)) ≡ take k s
 front-paste d at s n k hd hs h =
     let long = length-take-le n s hs in
-    rw (append-assoc, drop-at (take at d) (take n s ++ drop (at + n) d) at (length-take-le at d hd), take-append-le k (take n s) (drop (at + n) d) (omega (arith, long)), take-take k n s h)
+    rw (
+      append-assoc,
+      drop-at (take at d) (take n s ++ drop (at + n) d) at (length-take-le at d hd),
+      take-append-le k (take n s)
+          (drop (at + n) d) (omega (arith, long)),
+      take-take k n s h,
+    )
 
 drop-one-take : (k : ℕ) (l : List ℕ) → 0 < k → drop 1 (take k l) ≡ take (k - 1) (drop 1 l)
 drop-one-take zero l h = absurd (omega arith)
@@ -104,14 +118,17 @@ module _ (ws slots : List ℕ) (n : ℕ) (bounded : BoundedCounts ws) (fits : n 
   -- a message at the back
   pub queues-pushed :
       (v : ℕ) → getD ws n 0 < 16
-      → queues (set ws n (getD ws n 0 + 1)) (set slots (n * 16 + getD ws n 0) v) ≡ set (queues ws slots) n (getD (queues ws slots) n [] ++ (v ∷ []))
+      → queues (set ws n (getD ws n 0 + 1)) (set slots (n * 16 + getD ws n 0) v) ≡ set (queues ws slots) n
+      (getD (queues ws slots) n [] ++ (v ∷ []))
   queues-pushed v room = queues-change ws slots (set slots (n * 16 + w) v) n (w + 1) same ∙ ap (set (queues ws slots) n) mine
     where
       w : ℕ
       w = getD ws n 0
 
-      same : (i : ℕ) → (i < n) ⊎ (n < i) → take (getD ws i 0) (drop (16 * i) (set slots (n * 16 + w) v)) ≡ take (getD ws i 0) (drop (16 * i) slots)
-      same i o = part-set slots (16 * i) (getD ws i 0) (n * 16 + w) v (⊎-elim (λ h. inr (omega (arith, bounded i))) (λ h. inl (omega arith)) o)
+      same : (i : ℕ) → (i < n) ⊎ (n < i) → take (getD ws i 0) (drop (16 * i) (set slots (n * 16 + w) v)) ≡ take (getD ws i 0)
+          (drop (16 * i) slots)
+      same i o = part-set slots (16 * i) (getD ws i 0) (n * 16 + w) v
+          (⊎-elim (λ h. inr (omega (arith, bounded i))) (λ h. inl (omega arith)) o)
 
       mine : take (w + 1) (drop (16 * n) (set slots (n * 16 + w) v)) ≡ getD (queues ws slots) n [] ++ (v ∷ [])
       mine =
@@ -119,7 +136,7 @@ module _ (ws slots : List ℕ) (n : ℕ) (bounded : BoundedCounts ws) (fits : n 
           let long : w < length (drop (16 * n) slots) = simp length-drop (omega arith) in
           rw (add-one w, e, drop-set-add (16 * n) slots w v, take-suc-set (drop (16 * n) slots) w v long, queue-at ws slots n)
 
-  -- the oldest leaves: the slots behind it move down by one
+  -- the oldest leaves: the slots after it move down by one
   pub queues-popped :
       0 < getD ws n 0
       → queues (set ws n (getD ws n 0 - 1)) (shifted slots (n * 16) 15) ≡ set (queues ws slots) n (drop 1 (getD (queues ws slots) n []))
@@ -142,7 +159,8 @@ module _ (ws slots : List ℕ) (n : ℕ) (bounded : BoundedCounts ws) (fits : n 
       long = simp length-drop (omega arith)
 
       same : (i : ℕ) → (i < n) ⊎ (n < i) → take (getD ws i 0) (drop (16 * i) slots′) ≡ take (getD ws i 0) (drop (16 * i) slots)
-      same i o = part-paste slots base tail 15 (16 * i) (getD ws i 0) (omega arith) long (⊎-elim (λ h. inl (omega (arith, bounded i))) (λ h. inr (omega arith)) o)
+      same i o = part-paste slots base tail 15 (16 * i) (getD ws i 0) (omega arith) long
+          (⊎-elim (λ h. inl (omega (arith, bounded i))) (λ h. inr (omega arith)) o)
 
       mine : take (w - 1) (drop (16 * n) slots′) ≡ drop 1 (getD (queues ws slots) n [])
       mine =
@@ -160,7 +178,8 @@ pub shifted-more :
     → set (shifted slots base k) (base + k) (getD (shifted slots base k) (base + k + 1) 0) ≡ shifted slots base (k + 1)
 unfolding shifted
 shifted-more slots base k h =
-    ap (set (paste slots base tail k) (base + k)) read ∙ paste-suc slots base tail k 0 (omega arith) long ∙ ap (paste slots base tail) (sym (add-one k))
+    ap (set (paste slots base tail k) (base + k)) read ∙ paste-suc slots base tail k 0 (omega arith) long
+    ∙ ap (paste slots base tail) (sym (add-one k))
   where
     tail : List ℕ
     tail = drop (base + 1) slots
@@ -172,4 +191,10 @@ shifted-more slots base k h =
     read =
         let e : base + 1 + k ≡ base + k + 1 = omega arith in
         sym (getD-drop (base + k) (paste slots base tail k) 1 0)
-        ∙ rw (drop-paste slots base tail k (omega arith) (omega (arith, long)), getD-drop (base + k) slots 1 0, getD-drop (base + 1) slots k 0, e)
+        ∙ rw (
+          drop-paste slots base tail k (omega arith) (omega (arith, long)),
+          getD-drop (base + k) slots 1 0,
+          getD-drop
+              (base + 1) slots k 0,
+          e,
+        )

@@ -35,7 +35,7 @@ variablesAfter value xs c.Take = xs
 variablesAfter value xs (c.Send port) = xs
 variablesAfter value xs (c.Store x) = set xs (x .0) value
 
--- the change can be carried out where so many messages wait at each node: one waits to be taken, no target is full
+-- the change can be carried out where `waiting` messages wait at each node: one waits to be taken, no target is full
 abbrev pub Possible : (ℕ → ℕ → Bool) → ℕ → (ℕ → ℕ) → Change → Type 0
 Possible wired n waiting c.Nothing = Unit {0}
 Possible wired n waiting c.Take = 1 ≤ waiting n
@@ -60,7 +60,8 @@ carried P s n l x =
       variable = variablesAfter (accumulatorAt s n) (s .variable) x;
     }
 
--- the arrays afterwards (`ws′`, `slots′`) hold the queues after the change; where nothing is changed they are the arrays before, free slots included
+-- the arrays afterwards (`ws′`, `slots′`) hold the queues after the change; where nothing is changed they are the arrays before, free slots
+-- included
 pub record Changes (wired : ℕ → ℕ → Bool) (n value : ℕ) (change : Change) (ws slots ws′ slots′ : List ℕ) : Type 0 where
   pub holds : Holds ws′ slots′ (queuesAfter wired n value (queues ws slots) change)
   pub kept : isNothing change ≡ true → (ws′ ≡ ws) × (slots′ ≡ slots)

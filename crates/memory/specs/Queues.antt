@@ -27,7 +27,7 @@ pub record Holds (ws slots : List ℕ) (qs : List (List ℕ)) : Type 0 where
   pub bounded : BoundedCounts ws
   pub same : queues ws slots ≡ qs
 
--- at some target 16 messages wait, where so many wait at each node
+-- at some target 16 messages wait, where `waiting` says how many wait at each node
 abbrev pub full : (ℕ → Bool) → (ℕ → ℕ) → Bool
 full target waiting = someBelow (λ k. target k && leb maxWaiting (waiting k)) maxNodes
 

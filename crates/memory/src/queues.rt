@@ -61,7 +61,8 @@ pub fn deliver(
     requires { ⌜ (length (now queue) ≡ 512) × (length (now waiting) ≡ 32) ⌝ }
     requires { ⌜ BoundedCounts (now waiting) ⌝ }
     requires { ⌜ full (wiredIn (now tables) (n .0) port) (countAt (now waiting)) ≡ false ⌝ }
-    ensures { λ _. ⌜ Holds (now (waiting .exit)) (now (queue .exit)) (delivered (wiredIn (now (tables .entry)) (n .0) port) value (queues (now (waiting .entry)) (now (queue .entry))) maxNodes) ⌝ }
+    ensures { λ _. ⌜ Holds (now (waiting .exit)) (now (queue .exit))
+        (delivered (wiredIn (now (tables .entry)) (n .0) port) value (queues (now (waiting .entry)) (now (queue .entry))) maxNodes) ⌝ }
 {
     let mut target: usize = 0;
     while target < 32 {
@@ -93,7 +94,8 @@ pub fn take_oldest(queue: &mut [u32; 512], waiting: &mut [u8; 32], n: NodeNum)
     requires { ⌜ (length (now queue) ≡ 512) × (length (now waiting) ≡ 32) ⌝ }
     requires { ⌜ BoundedCounts (now waiting) ⌝ }
     requires { ⌜ (n .0 < 32) × (1 ≤ countAt (now waiting) (n .0)) ⌝ }
-    ensures { λ _. ⌜ Holds (now (waiting .exit)) (now (queue .exit)) (withoutOldest (queues (now (waiting .entry)) (now (queue .entry))) (n .0)) ⌝ }
+    ensures { λ _. ⌜ Holds (now (waiting .exit)) (now (queue .exit))
+        (withoutOldest (queues (now (waiting .entry)) (now (queue .entry))) (n .0)) ⌝ }
 {
     let i = n.0 as usize;
     shift(queue, i * 16);
@@ -114,7 +116,8 @@ pub fn change_queues(
     requires { ⌜ BoundedCounts (now waiting) ⌝ }
     requires { ⌜ n .0 < 32 ⌝ }
     requires { ⌜ Possible (wiredIn (now tables) (n .0)) (n .0) (countAt (now waiting)) change ⌝ }
-    ensures { λ _. ⌜ Changes (wiredIn (now (tables .entry)) (n .0)) (n .0) value change (now (waiting .entry)) (now (queue .entry)) (now (waiting .exit)) (now (queue .exit)) ⌝ }
+    ensures { λ _. ⌜ Changes (wiredIn (now (tables .entry)) (n .0)) (n .0) value change (now (waiting .entry)) (now (queue .entry))
+        (now (waiting .exit)) (now (queue .exit)) ⌝ }
 {
     match change {
         Change::Take => take_oldest(queue, waiting, n),

@@ -1,4 +1,4 @@
--- A TURN behind an accepted job: accepted up to the 4,096th, refused by 5 behind it.
+-- A TURN after an accepted job: accepted up to the 4,096th, refused by 5 after it.
 use Prim.Native.Nat.{ℕ, zero, suc, _+_, _≤_, _<_, zero-le}
 use mathlib.Core.Path.{_≡_, refl, ap, _∙_}
 use mathlib.Core.Bool.{Bool, true, false, cond, _&&_, or-false}
@@ -9,10 +9,12 @@ use lib.Dec.{leb, ltb, eqb}
 use lib.ListN.{length, getD, length-append, List·getD-append}
 use lib.Seq.{getD-append-seam, getD-append-add}
 use borrow.Author.Tests.{leb-true, lt-leb, le-leb, le-ltb, ltb-true, ltb-false, eqb-true}
-use Rattle.model.specs.Table.{NODE, TURN, OperandKind, node, width, Row, table, operandsIn, operandsOf, operandAt, groupOf, isAmong, largestIn, largestOf, maxTurns, maxJob}
+use Rattle.model.specs.Table.{NODE, TURN, OperandKind, node, width, Row, table, operandsIn, operandsOf, operandAt, groupOf, isAmong}
+use Rattle.model.specs.Table.{largestIn, largestOf, maxTurns, maxJob}
 use Rattle.model.specs.Command.{Command, binary, numberAt, firstAt, secondAt, thirdAt, endAt, commandAt, whole, readCommand}
 use Rattle.model.specs.Declared.{countOf, bodyLength}
-use Rattle.model.specs.Refusal.{anyOf, violation, Refusal, refuse, accepted, rejected, decodeFrom, decode, firstOf, refuseFirst, isFarJump, farJump, decodeJob}
+use Rattle.model.specs.Refusal.{anyOf, violation, Refusal, refuse, accepted, rejected, decodeFrom, decode, firstOf, refuseFirst}
+use Rattle.model.specs.Refusal.{isFarJump, farJump, decodeJob}
 use Rattle.model.specs.Valid.{Valid}
 use Rattle.model.proofs.Logic.{and-left, and-right}
 use Rattle.model.proofs.Reading.{read-at, read-whole, number-one, number-none}
@@ -23,14 +25,15 @@ use Rattle.model.proofs.Results.{decode-job-accepted}
 use Rattle.model.proofs.Retracing.{read-accepted}
 use Rattle.model.proofs.Scanning.{passing, accepted-from}
 
--- bytes behind a job change nothing that is read inside it
+-- bytes after a job change nothing that is read inside it
 number-prefix : (job extra : List ℕ) (at w : ℕ) → at + w ≤ length job → numberAt (job ++ extra) at w ≡ numberAt job at w
 unfolding numberAt
 number-prefix job extra at zero h = refl
 number-prefix job extra at (suc w) h = rw (List·getD-append job extra 0 at (omega arith), number-prefix job extra (at + 1) w (omega arith))
 
 module _ (job extra : List ℕ) (place : ℕ) where
-  command-prefix : (kinds : List OperandKind) → endAt place kinds ≤ length job → commandAt (job ++ extra) place kinds ≡ commandAt job place kinds
+  command-prefix : (kinds : List OperandKind) → endAt place kinds ≤ length job
+      → commandAt (job ++ extra) place kinds ≡ commandAt job place kinds
   command-prefix kinds h =
       rw (
         List·getD-append job extra 0 place (omega arith),
@@ -61,7 +64,8 @@ walk-prefix job extra all (suc fuel) place past e i f d = by-place (ltb place (l
   where
     by-place :
         (t : Bool) → ltb place (length job) ≡ t
-        → ((place : ℕ) (past : List Command) → decodeFrom fuel job place past ≡ accepted all → place ≤ length job → length job ≤ place + fuel
+        → ((place : ℕ) (past : List Command) → decodeFrom fuel job place past ≡ accepted all → place ≤ length job
+        → length job ≤ place + fuel
         → Decoding (job ++ extra) place past → Decoding (job ++ extra) (length job) all)
         → Decoding (job ++ extra) (length job) all
     by-place true t ih =
@@ -69,7 +73,8 @@ walk-prefix job extra all (suc fuel) place past e i f d = by-place (ltb place (l
         let p = passing fuel job place past all h e in
         let r = read-at job place (p .command) (p .next) (p .isRead) in
         ih (p .next) (p .command ∷ past) (p .goesOn) (r .inside) (omega (arith, r .later))
-        (decoding-on (job ++ extra) place past d (omega (arith, length-append job extra)) (p .command) (p .next) (read-prefix job extra place (p .command) (p .next) (p .isRead)) (p .passes))
+        (decoding-on (job ++ extra) place past d (omega (arith, length-append job extra)) (p .command) (p .next)
+        (read-prefix job extra place (p .command) (p .next) (p .isRead)) (p .passes))
     by-place false t ih =
         let z = rw t at e in
         let here : place ≡ length job = omega (arith, ltb-false place (length job) t) in
@@ -105,13 +110,14 @@ abbrev pub turnAt : ℕ → ℕ → Command
 turnAt place n = record { place = place; byte = TURN; operands = binary n 0 }
 
 -- it violates at most the largest count of turns
-violation-turn : (past : List Command) → Valid past → (place n : ℕ) → n < countOf NODE past → violation past (turnAt place n) ≡ cond (leb maxTurns (countOf TURN past)) 5 0
+violation-turn : (past : List Command) → Valid past → (place n : ℕ) → n < countOf NODE past
+    → violation past (turnAt place n) ≡ cond (leb maxTurns (countOf TURN past)) 5 0
 unfolding violation anyOf operandsOf operandsIn largestOf largestIn isAmong
 violation-turn past v place n h =
     let g = group-falls past (turnAt place n) ∙ le-ltb 6 (highestGroup past) (highest-low past v) in
     rw (g, among-one TURN past, lt-leb (countOf NODE past) n h) (rw (or-false (leb maxTurns (countOf TURN past))))
 
--- what stands behind the job is read as this TURN
+-- what stands after the job is read as this TURN
 module _ (job : List ℕ) (n : ℕ) where
   read-turn : readCommand (job ++ (TURN ∷ n ∷ [])) (length job) ≡ whole (turnAt (length job) n) (length job + 2)
   unfolding operandsOf operandsIn
@@ -122,9 +128,12 @@ module _ (job : List ℕ) (n : ℕ) where
       read-whole (job ++ (TURN ∷ n ∷ [])) (length job) (node ∷ []) (rw first) (omega (arith, length-append job (TURN ∷ n ∷ [])))
       ∙ simp (first, number-one, second, number-none, ends)
 
-module _ (job : List ℕ) (past : List Command) (e : decode job ≡ accepted past) (n : ℕ) (h : n < countOf NODE past) (room : length job + 2 ≤ maxJob) where
+module _ (job : List ℕ) (past : List Command) (e : decode job ≡ accepted past) (n : ℕ) (h : n < countOf NODE past)
+    (room : length job + 2 ≤ maxJob) where
   at-turn : Decoding (job ++ (TURN ∷ n ∷ [])) (length job) past
-  at-turn = walk-prefix job (TURN ∷ n ∷ []) past (length job) 0 [] (accepted-from job past e) (omega arith) (omega arith) (decoding-start (job ++ (TURN ∷ n ∷ [])) (λ z. omega (arith, length-append job (TURN ∷ n ∷ []))) (omega (arith, length-append job (TURN ∷ n ∷ []))))
+  at-turn = walk-prefix job (TURN ∷ n ∷ []) past (length job) 0 [] (accepted-from job past e) (omega arith) (omega arith)
+      (decoding-start (job ++ (TURN ∷ n ∷ [])) (λ z. omega (arith, length-append job (TURN ∷ n ∷ [])))
+      (omega (arith, length-append job (TURN ∷ n ∷ []))))
 
   inside : length job < length (job ++ (TURN ∷ n ∷ []))
   inside = omega (arith, length-append job (TURN ∷ n ∷ []))
@@ -140,7 +149,8 @@ module _ (job : List ℕ) (past : List Command) (e : decode job ≡ accepted pas
   -- one turn too many
   pub turn-refused : maxTurns ≤ countOf TURN past → decode (job ++ (TURN ∷ n ∷ [])) ≡ rejected (refuse 5 (length job))
   turn-refused l =
-      decoding-refused (job ++ (TURN ∷ n ∷ [])) (length job) past at-turn inside (turnAt (length job) n) (length job + 2) 5 (read-turn job n)
+      decoding-refused (job ++ (TURN ∷ n ∷ [])) (length job) past at-turn inside (turnAt (length job) n) (length job + 2) 5
+      (read-turn job n)
       (violation-turn past (decoded-valid job past e) (length job) n h ∙ rw (le-leb maxTurns (countOf TURN past) l))
       (λ z. omega arith)
 
@@ -153,11 +163,13 @@ far-jump-turn : (past : List Command) (place n : ℕ) → farJump (turnAt place 
 unfolding refuseFirst bodyLength
 far-jump-turn past place n = first-of-none (refuseFirst 9 (isFarJump past) past)
 
--- one turn more behind an accepted job
+-- one turn more after an accepted job
 pub turn-appended :
-    (job : List ℕ) (past : List Command) → decodeJob job ≡ accepted past → (n : ℕ) → n < countOf NODE past → length job + 2 ≤ maxJob → countOf TURN past < maxTurns
+    (job : List ℕ) (past : List Command) → decodeJob job ≡ accepted past → (n : ℕ) → n < countOf NODE past → length job + 2 ≤ maxJob
+    → countOf TURN past < maxTurns
     → decodeJob (job ++ (TURN ∷ n ∷ [])) ≡ accepted (turnAt (length job) n ∷ past)
 turn-appended job past e n h room l =
     let a = job-accepted job past e in
     let d = read-accepted job past (a .read) in
-    decode-job-accepted (job ++ (TURN ∷ n ∷ [])) (turnAt (length job) n ∷ past) (turn-accepted job past d n h room l) (far-jump-turn past (length job) n ∙ a .jumps)
+    decode-job-accepted (job ++ (TURN ∷ n ∷ [])) (turnAt (length job) n ∷ past) (turn-accepted job past d n h room l)
+    (far-jump-turn past (length job) n ∙ a .jumps)

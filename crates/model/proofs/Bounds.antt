@@ -1,4 +1,5 @@
--- How long the outputs are: 7 bytes an entry, at most one entry a turn, and a snapshot of at most 2,624 bytes after every run of an accepted job.
+-- How long the outputs are: 7 bytes an entry, at most one entry a turn, and a snapshot of at most 2,624 bytes after every run of an
+-- accepted job.
 use Prim.Native.Nat.{ℕ, zero, suc, _+_, _*_, _≤_, _<_, zero-le, suc-le-suc}
 use mathlib.Core.Path.{_≡_, refl}
 use mathlib.Core.Bool.{Bool, true, false, cond}
@@ -64,7 +65,13 @@ length-nodes s b (suc k) = omega (arith, length-append (nodesBytes s k) (nodeByt
 pub length-snapshot : (P : Program) (s : State) → P .nodes ≤ 32 → P .variables ≤ 64 → Bounded s → length (snapshotBytes P s) ≤ 2624
 unfolding snapshotBytes
 length-snapshot P s l m b =
-    omega (arith, length-append (nodesBytes s (P .nodes)) (variablesBytes s (P .variables)), length-nodes s b (P .nodes), length-variables s (P .variables))
+    omega (
+      arith,
+      length-append (nodesBytes s (P .nodes)) (variablesBytes s (P .variables)),
+      length-nodes s b (P .nodes),
+      length-variables s
+          (P .variables),
+    )
 
 -- every queue is short
 abbrev Short : List (List ℕ) → Type 0
@@ -94,7 +101,8 @@ delivered-short target v qs b (suc k) room = by-target (target k) refl (delivere
 -- a handler command that is not blocked
 performed-bounded : (P : Program) (s : State) (n : ℕ) (i : Instruction) → Bounded s → blocked P s n i ≡ false → Bounded (performed P s n i)
 performed-bounded P s n i b free =
-    performed-by Bounded P s n i (λ a. b) (λ x. b) b (λ j. b) (λ e. delivered-short (P .wired n (i .operand)) (accumulatorAt s n) (s .queue) b maxNodes (room e))
+    performed-by Bounded P s n i (λ a. b) (λ x. b) b (λ j. b)
+    (λ e. delivered-short (P .wired n (i .operand)) (accumulatorAt s n) (s .queue) b maxNodes (room e))
   where
     room : eqb (i .byte) SEND ≡ true → (t : ℕ) → t < 32 → P .wired n (i .operand) t ≡ true → waitingAt s t < 16
     room e t h w =
@@ -104,7 +112,8 @@ performed-bounded P s n i b free =
 -- a turn keeps the bound
 pub turn-bounded : (P : Program) (s : State) (n : ℕ) → Bounded s → Keeps Bounded (turn P s n)
 turn-bounded P s n b =
-    turn-by (Keeps Bounded) P s n (λ p w. tt) (λ p w. set-short (s .queue) n (drop 1 (queueAt s n)) (omega (arith, length-drop 1 (queueAt s n), b n)) b)
+    turn-by (Keeps Bounded) P s n (λ p w. tt) (λ p w. set-short (s .queue) n (drop 1 (queueAt s n))
+    (omega (arith, length-drop 1 (queueAt s n), b n)) b)
     (λ l f. tt)
     (λ l. performed-bounded P s n (instructionAt P n (positionAt s n)) b)
     (λ l. b)
@@ -128,22 +137,26 @@ pub run-bounded :
     → (turns : List ℕ) (s : State) → Bounded s → RunBounded (length turns) (runFrom rule turns s)
 unfolding runFrom
 run-bounded rule keeps [] s b = record { final = b; steps = zero-le }
-run-bounded rule keeps (n ∷ turns) s b = proceed-bounded (length turns) (runFrom rule turns) s (rule s n) b (keeps s n b) (run-bounded rule keeps turns)
+run-bounded rule keeps (n ∷ turns) s b = proceed-bounded (length turns) (runFrom rule turns) s (rule s n) b (keeps s n b)
+    (run-bounded rule keeps turns)
 
 -- the start of every accepted job
 pub initial-bounded : (past : List Command) → Valid past → Bounded (initialState (programOf past))
 unfolding initialState programOf
-initial-bounded past v = tabulate-each (λ t (q : List ℕ). length q ≤ maxWaiting) [] maxNodes (startsOf past) (λ t. omega (arith, starts-one past v t)) (λ t. zero-le)
+initial-bounded past v = tabulate-each (λ t (q : List ℕ). length q ≤ maxWaiting) [] maxNodes (startsOf past)
+    (λ t. omega (arith, starts-one past v t)) (λ t. zero-le)
 
 -- both runs of every accepted job
 module _ (past : List Command) (v : Valid past) (turns : List ℕ) where
   pub unmonitored-fits : RunBounded (length turns) (unmonitoredRun (programOf past) turns)
   unfolding unmonitoredRun
-  unmonitored-fits = run-bounded (turn (programOf past)) (turn-bounded (programOf past)) turns (initialState (programOf past)) (initial-bounded past v)
+  unmonitored-fits = run-bounded (turn (programOf past)) (turn-bounded (programOf past)) turns (initialState (programOf past))
+      (initial-bounded past v)
 
   pub monitored-fits : RunBounded (length turns) (monitoredRun (programOf past) turns)
   unfolding monitoredRun
-  monitored-fits = run-bounded (monitoredTurn (programOf past)) (monitored-bounded (programOf past)) turns (initialState (programOf past)) (initial-bounded past v)
+  monitored-fits = run-bounded (monitoredTurn (programOf past)) (monitored-bounded (programOf past)) turns (initialState (programOf past))
+      (initial-bounded past v)
 
   pub snapshot-fits : (s : State) → Bounded s → length (snapshotBytes (programOf past) s) ≤ 2624
   unfolding programOf

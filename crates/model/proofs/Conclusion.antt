@@ -16,7 +16,8 @@ use Rattle.model.specs.Run.{Run, Step, entriesOf, monitoredRun, unmonito
 use Rattle.model.specs.Output.{traceIn, snapshotBytes}
 use Rattle.model.specs.Refusal.{Refusal, Decoded, accepted, rejected, Sizes, workSize, decodeFor}
 use Rattle.model.specs.Result.{Result, refused, report, resultOf, monitored, unmonitored, Buffers, sizesOf, written}
-use Rattle.model.specs.Conclusion.{Refuses, Accepts, Ends, monitoredOf, unmonitoredOf, BothEnd, Concluded, Filled, Leaves, Demand1Holds}
+use Rattle.model.specs.Conclusion.{Refuses, Accepts, Ends, monitoredOf, unmonitoredOf, BothEnd, Concluded, Filled, Leaves}
+use Rattle.model.specs.Conclusion.{Demand1Holds}
 use Rattle.model.proofs.Walking.{Decides, decode-for-walked}
 use Rattle.model.proofs.Retracing.{accepts-decodes, refuses-decodes}
 use Rattle.model.proofs.Valid.{reads-valid, limits}
@@ -26,14 +27,16 @@ use Rattle.model.proofs.Stops.{turn-stops, monitored-stops, run-stops, 
 use Rattle.model.proofs.Bounds.{RunBounded, length-trace, unmonitored-fits, monitored-fits, snapshot-fits}
 
 -- a run of an accepted job that keeps the bounds
-ends : (job : List ℕ) (b : Sizes) (past : List Command) → Accepts job b past → (r : Run) → r .stop ≤ 3 → RunBounded (length (turnsOf past)) r → Ends (programOf past) b r
+ends : (job : List ℕ) (b : Sizes) (past : List Command) → Accepts job b past → (r : Run) → r .stop ≤ 3
+    → RunBounded (length (turnsOf past)) r → Ends (programOf past) b r
 ends job b past a r stop bounded =
     let v = reads-valid (a .reads) in
     let buffers = buffers-fit job b past (a .buffers) in
     let l = limits past v .turns in
     let s = bounded .steps in
     let n = length-turns past in
-    let m : length (traceIn r) ≡ 7 * length (r .steps) = length-trace (entriesOf (r .steps)) ∙ ap (λ (k : ℕ). 7 * k) (length-map (r .steps) (λ (t : Step). t .made)) in
+    let m : length (traceIn r) ≡ 7 * length (r .steps) = length-trace (entriesOf (r .steps))
+    ∙ ap (λ (k : ℕ). 7 * k) (length-map (r .steps) (λ (t : Step). t .made)) in
     let q = buffers .0 in
     record {
       stops = stop;
@@ -48,11 +51,13 @@ ends job b past a r stop bounded =
 monitored-low : (P : Program) (turns : List ℕ) → monitoredRun P turns .stop ≤ 3
 unfolding monitoredRun
 monitored-low P turns =
-    run-stops (λ k. k ≤ 3) (omega arith) (monitoredTurn P) (monitored-stops (λ k. k ≤ 3) (omega arith) (omega arith) (omega arith) P) turns (initialState P)
+    run-stops (λ k. k ≤ 3) (omega arith) (monitoredTurn P) (monitored-stops (λ k. k ≤ 3) (omega arith) (omega arith) (omega arith) P) turns
+    (initialState P)
 
 unmonitored-low : (P : Program) (turns : List ℕ) → unmonitoredRun P turns .stop ≤ 3
 unfolding unmonitoredRun
-unmonitored-low P turns = run-stops (λ k. k ≤ 3) (omega arith) (turn P) (turn-stops (λ k. k ≤ 3) (omega arith) (omega arith) P) turns (initialState P)
+unmonitored-low P turns = run-stops (λ k. k ≤ 3) (omega arith) (turn P) (turn-stops (λ k. k ≤ 3) (omega arith) (omega arith) P) turns
+    (initialState P)
 
 never-one : (P : Program) (turns : List ℕ) → ¬ (unmonitoredRun P turns .stop ≡ 1)
 unfolding unmonitoredRun
@@ -79,7 +84,8 @@ result-refused run (rejected q) r e = cc
 
 -- what a job comes to, by what it is decoded to
 module _ (job : List ℕ) (b : Sizes) where
-  by-decoded : (d : Decoded) → Decides (Accepts job b) (Refuses job b) d → ((r : Refusal) × Refuses job b r) ⊎ ((past : List Command) × Accepts job b past)
+  by-decoded : (d : Decoded) → Decides (Accepts job b) (Refuses job b) d
+      → ((r : Refusal) × Refuses job b r) ⊎ ((past : List Command) × Accepts job b past)
   by-decoded (accepted past) a = inr (past, a)
   by-decoded (rejected r) q = inl (r, q)
 
@@ -91,8 +97,16 @@ module _ (job : List ℕ) (b : Sizes) where
   concluded =
       record {
         decided = by-decoded (decodeFor job b) (decode-for-walked job b);
-        monitoredRefuses = λ r. (λ e. cause r (result-refused monitoredRun (decodeFor job b) r e), λ q. monitored-refused job b r (refuses-decodes q));
-        unmonitoredRefuses = λ r. (λ e. cause r (result-refused unmonitoredRun (decodeFor job b) r e), λ q. unmonitored-refused job b r (refuses-decodes q));
+        monitoredRefuses = λ r. (
+          λ e. cause r (result-refused monitoredRun (decodeFor job b) r e),
+          λ q. monitored-refused job b r
+              (refuses-decodes q),
+        );
+        unmonitoredRefuses = λ r. (
+          λ e. cause r (result-refused unmonitoredRun (decodeFor job b) r e),
+          λ q. unmonitored-refused job b r
+              (refuses-decodes q),
+        );
         runs = both-end job b;
       }
 
@@ -107,7 +121,11 @@ written-filled bytes buffer h =
 
 -- the buffers after a refusal and after a run
 refused-leaves : (r : Refusal) (b : Buffers) → Leaves (refused r) b
-refused-leaves r b = record { untouched = λ q e. (refl, refl, refl); filled = λ a t s e. let w : _≡_ {A = ℕ} 0 1 = cc in absurd (omega arith) }
+refused-leaves r b = record {
+  untouched = λ q e. (refl, refl, refl);
+  filled = λ a t s e. let w : _≡_ {A = ℕ} 0 1 = cc in
+      absurd (omega arith);
+}
 
 ran-leaves : (P : Program) (b : Buffers) (r : Run) → Ends P (sizesOf b) r → Leaves (report P r) b
 unfolding report
@@ -118,15 +136,20 @@ ran-leaves P b r e =
           let t-same : traceIn r ≡ t = cc in
           let s-same : snapshotBytes P (r .final) ≡ s = cc in
           let fits : length (snapshotBytes P (r .final)) ≤ length (b .snapshot) = omega (arith, e .snapshotLength, e .snapshotFits) in
-          rw (← t-same, ← s-same)
-          (written-filled (traceIn r) (b .trace) (e .traceFits), written-filled (snapshotBytes P (r .final)) (b .snapshot) fits, written-filled (replicate workSize 0) (b .work) (rw (length-replicate {A = ℕ} workSize 0) (e .workFits)));
+          rw (← t-same, ← s-same) (
+            written-filled (traceIn r) (b .trace) (e .traceFits),
+            written-filled (snapshotBytes P (r .final))
+                (b .snapshot) fits,
+            written-filled (replicate workSize 0) (b .work) (rw (length-replicate {A = ℕ} workSize 0) (e .workFits)),
+          );
     }
 
 -- the buffers after a run of every job, by what it hands over
 module _ (job : List ℕ) (b : Buffers) where
   leaves :
       (result : Result) (run : List Command → Run) → ((r : Refusal) → (result ≡ refused r) ↔ Refuses job (sizesOf b) r)
-      → ((past : List Command) → Accepts job (sizesOf b) past → (result ≡ report (programOf past) (run past)) × Ends (programOf past) (sizesOf b) (run past))
+      → ((past : List Command) → Accepts job (sizesOf b) past
+      → (result ≡ report (programOf past) (run past)) × Ends (programOf past) (sizesOf b) (run past))
       → Leaves result b
   leaves result run refuses runs = by-case (concluded job (sizesOf b) .decided)
     where
@@ -146,4 +169,9 @@ module _ (job : List ℕ) (b : Buffers) where
 
 -- demand 1
 pub demand1 : Demand1Holds
-demand1 job b = record { concluded = concluded job (sizesOf b); monitoredLeaves = monitored-leaves job b; unmonitoredLeaves = unmonitored-leaves job b }
+demand1 job b = record {
+  concluded = concluded job (sizesOf b);
+  monitoredLeaves = monitored-leaves job b;
+  unmonitoredLeaves =
+      unmonitored-leaves job b;
+}

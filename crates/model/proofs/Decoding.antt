@@ -12,7 +12,8 @@ use Rattle.model.specs.Refusal.{violation, refuse, Decoded, accepted, re
 use Rattle.model.proofs.Reading.{read-at}
 
 -- at the end of the job, whatever the fuel
-pub decode-end : (fuel : ℕ) (job : List ℕ) (place : ℕ) (past : List Command) → length job ≤ place → decodeFrom fuel job place past ≡ accepted past
+pub decode-end : (fuel : ℕ) (job : List ℕ) (place : ℕ) (past : List Command) → length job ≤ place
+    → decodeFrom fuel job place past ≡ accepted past
 unfolding decodeFrom
 decode-end zero job place past h = refl
 decode-end (suc fuel) job place past h = rw (le-ltb place (length job) h)
@@ -50,7 +51,8 @@ unfolding decode
 decode-long job n l = rw (ne-eqb (length job) 0 n, lt-ltb 16384 (length job) l)
 
 -- the bound on the commands left is no limit: it suffices that it reaches the end of the job
-pub decode-fuel : (fuel : ℕ) (job : List ℕ) (place : ℕ) (past : List Command) → length job ≤ place + fuel → decodeFrom fuel job place past ≡ decodeFrom (suc fuel) job place past
+pub decode-fuel : (fuel : ℕ) (job : List ℕ) (place : ℕ) (past : List Command) → length job ≤ place + fuel
+    → decodeFrom fuel job place past ≡ decodeFrom (suc fuel) job place past
 unfolding decodeFrom
 decode-fuel zero job place past h = rw (le-ltb place (length job) (omega arith))
 decode-fuel (suc fuel) job place past h = by-read (readCommand job place) refl (decode-fuel fuel job)
@@ -63,8 +65,10 @@ decode-fuel (suc fuel) job place past h = by-read (readCommand job place) refl (
 
     by-read :
         (r : Parsed) → readCommand job place ≡ r
-        → ((place : ℕ) (past : List Command) → length job ≤ place + fuel → decodeFrom fuel job place past ≡ decodeFrom (suc fuel) job place past)
-        → cond (ltb place (length job)) (decodeRead (decodeFrom fuel job) place past r) (accepted past) ≡ cond (ltb place (length job)) (decodeRead (decodeFrom (suc fuel) job) place past r) (accepted past)
+        → ((place : ℕ) (past : List Command) → length job ≤ place + fuel
+        → decodeFrom fuel job place past ≡ decodeFrom (suc fuel) job place past)
+        → cond (ltb place (length job)) (decodeRead (decodeFrom fuel job) place past r) (accepted past) ≡ cond (ltb place (length job))
+        (decodeRead (decodeFrom (suc fuel) job) place past r) (accepted past)
     by-read unknown e ih = refl
     by-read cutShort e ih = refl
     by-read (whole c next) e ih =
@@ -110,10 +114,11 @@ module _ (job : List ℕ) (place : ℕ) (past : List Command) (d : Decoding job 
     pub decoding-short : readCommand job place ≡ cutShort → decode job ≡ rejected (refuse 3 place)
     decoding-short e = sym (left .1) ∙ decode-short (left .0) job place past h e
 
-    pub decoding-refused : (c : Command) (next k : ℕ) → readCommand job place ≡ whole c next → violation past c ≡ k → ¬ (k ≡ 0) → decode job ≡ rejected (refuse k place)
+    pub decoding-refused : (c : Command) (next k : ℕ) → readCommand job place ≡ whole c next → violation past c ≡ k → ¬ (k ≡ 0)
+        → decode job ≡ rejected (refuse k place)
     decoding-refused c next k e v n = sym (left .1) ∙ decode-refused (left .0) job place past h c next k e v n
 
-    -- behind a command that passes
+    -- after a command that passes
     pub decoding-on : (c : Command) (next : ℕ) → readCommand job place ≡ whole c next → violation past c ≡ 0 → Decoding job next (c ∷ past)
     decoding-on c next e v =
         let r = read-at job place c next e in

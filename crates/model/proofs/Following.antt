@@ -15,10 +15,12 @@ use Rattle.model.proofs.Stops.{StopsBy, turn-stops, monitored-stops}
 
 module _ (rule : State → ℕ → Turned) (turns : List ℕ) (n : ℕ) (s : State) where
   -- a completed turn in front
-  front : (e : Entry) (s′ : State) (r : Run) → rule s n ≡ completed e s′ → Follows rule turns s′ r → Follows rule (n ∷ turns) s (after s e r)
+  front : (e : Entry) (s′ : State) (r : Run) → rule s n ≡ completed e s′ → Follows rule turns s′ r
+      → Follows rule (n ∷ turns) s (after s e r)
   front e s′ r first f = record { begins = refl; goesOn = each; ends = last (f .ends) }
     where
-      each : (k : ℕ) → k < suc (length (r .steps)) → rule (stateAt (after s e r) k) (getD (n ∷ turns) k 0) ≡ completed (entryAt (after s e r) k) (stateAt (after s e r) (suc k))
+      each : (k : ℕ) → k < suc (length (r .steps)) → rule (stateAt (after s e r) k) (getD (n ∷ turns) k 0) ≡ completed
+          (entryAt (after s e r) k) (stateAt (after s e r) (suc k))
       each zero h = first ∙ ap (completed e) (sym (f .begins))
       each (suc k) h = f .goesOn k (le-of-suc-le-suc h)
 
@@ -27,7 +29,8 @@ module _ (rule : State → ℕ → Turned) (turns : List ℕ) (n : ℕ) (s : Sta
       last (inr h) = inr (record { next = suc-le-suc (h .next); stopping = h .stopping; nonzero = h .nonzero })
 
   -- one turn and what follows it, by what the turn comes to
-  proceeds : (rest : State → Run) (t : Turned) → rule s n ≡ t → StopsBy (λ k. ¬ (k ≡ 0)) t → ((s′ : State) → Follows rule turns s′ (rest s′)) → Follows rule (n ∷ turns) s (proceed rest s t)
+  proceeds : (rest : State → Run) (t : Turned) → rule s n ≡ t → StopsBy (λ k. ¬ (k ≡ 0)) t
+      → ((s′ : State) → Follows rule turns s′ (rest s′)) → Follows rule (n ∷ turns) s (proceed rest s t)
   proceeds rest (completed e s′) first q ih = front e s′ (rest s′) first (ih s′)
   proceeds rest (stopped k e) first q ih =
       record {
@@ -41,7 +44,12 @@ pub follows :
     (rule : State → ℕ → Turned) → ((s : State) (n : ℕ) → StopsBy (λ k. ¬ (k ≡ 0)) (rule s n))
     → (turns : List ℕ) (s : State) → Follows rule turns s (runFrom rule turns s)
 unfolding runFrom
-follows rule stops [] s = record { begins = refl; goesOn = λ k h. absurd (not-suc-le-zero h); ends = inl (record { completedAll = refl; stop = refl; attempted = refl }) }
+follows rule stops [] s = record {
+  begins = refl;
+  goesOn = λ k h. absurd (not-suc-le-zero h);
+  ends = inl
+      (record { completedAll = refl; stop = refl; attempted = refl });
+}
 follows rule stops (n ∷ turns) s = proceeds rule turns n s (runFrom rule turns) (rule s n) refl (stops s n) (follows rule stops turns)
 
 -- demand 2
@@ -50,5 +58,6 @@ unfolding unmonitoredRun monitoredRun
 demand2 P turns =
     record {
       unmonitoredFollows = follows (turn P) (turn-stops (λ k. ¬ (k ≡ 0)) (λ h. omega arith) (λ h. omega arith) P) turns (initialState P);
-      monitoredFollows = follows (monitoredTurn P) (monitored-stops (λ k. ¬ (k ≡ 0)) (λ h. omega arith) (λ h. omega arith) (λ h. omega arith) P) turns (initialState P);
+      monitoredFollows = follows (monitoredTurn P) (monitored-stops (λ k. ¬ (k ≡ 0)) (λ h. omega arith) (λ h. omega arith)
+          (λ h. omega arith) P) turns (initialState P);
     }

@@ -9,7 +9,8 @@ use lib.ListN.{length}
 use borrow.Author.Tests.{ltb-true, ltb-false, lt-ltb, le-ltb, eq-eqb, ne-eqb}
 use Rattle.model.specs.Table.{BODY, START, TURN, groupOf}
 use Rattle.model.specs.Command.{Operands, Command, is}
-use Rattle.model.specs.Declared.{countOf, countAmong, declared, belongs, bodyLength, instruction, handlerOf, turnsOf, only, isSame, occurs, flowOf, openBody, startsOf, startedIn}
+use Rattle.model.specs.Declared.{countOf, countAmong, declared, belongs, bodyLength, instruction, handlerOf, turnsOf, only, isSame}
+use Rattle.model.specs.Declared.{occurs, flowOf, openBody, startsOf, startedIn}
 use Rattle.model.specs.Refusal.{groupFalls}
 use Rattle.model.proofs.Lists.{length-only}
 
@@ -64,7 +65,8 @@ module _ (value : Command → List Command → ℕ) (b : ℕ) (c : Command) (pas
       by-byte false = refl
 
 -- what is not declared has the value 0
-pub declared-outside : (value : Command → List Command → ℕ) (b : ℕ) (past : List Command) (x : ℕ) → countOf b past ≤ x → declared value b past x ≡ 0
+pub declared-outside : (value : Command → List Command → ℕ) (b : ℕ) (past : List Command) (x : ℕ) → countOf b past ≤ x
+    → declared value b past x ≡ 0
 unfolding declared countOf
 declared-outside value b [] x h = refl
 declared-outside value b (c ∷ past) x h = by-byte (is b c) h (declared-outside value b past x)
@@ -97,10 +99,12 @@ group-falls (d ∷ past) c = rw (group-falls past c) (max-falls (groupOf (c .byt
 pub length-handler : (past : List Command) (n : ℕ) → length (handlerOf past n) ≡ bodyLength past n
 unfolding handlerOf bodyLength
 length-handler [] n = refl
-length-handler (c ∷ past) n = length-only (handlerOf past n) (belongs past c n) (instruction (c .byte) (c .operands .first)) ∙ rw (length-handler past n)
+length-handler (c ∷ past) n = length-only (handlerOf past n) (belongs past c n) (instruction (c .byte) (c .operands .first))
+    ∙ rw (length-handler past n)
 
 -- a command of a handler is the next one; the others stay
-pub handler-new : (past : List Command) (c : Command) (n : ℕ) → belongs past c n ≡ true → handlerOf (c ∷ past) n ≡ handlerOf past n ++ (instruction (c .byte) (c .operands .first) ∷ [])
+pub handler-new : (past : List Command) (c : Command) (n : ℕ) → belongs past c n ≡ true
+    → handlerOf (c ∷ past) n ≡ handlerOf past n ++ (instruction (c .byte) (c .operands .first) ∷ [])
 unfolding handlerOf
 handler-new past c n e = rw e
 
@@ -128,11 +132,13 @@ module _ (c : Command) (past : List Command) where
   unfolding bodyLength
   body-next n = refl
 
-  pub starts-next : (n : ℕ) → startsOf (c ∷ past) n ≡ startsOf past n ++ only (is START c && eqb (c .operands .first) n) (c .operands .second)
+  pub starts-next : (n : ℕ) → startsOf (c ∷ past) n ≡ startsOf past n ++ only (is START c && eqb (c .operands .first) n)
+      (c .operands .second)
   unfolding startsOf
   starts-next n = refl
 
-  pub started-next : (flow : ℕ) → startedIn (c ∷ past) flow ≡ ((is START c && eqb (flowOf past (c .operands .first)) flow) || startedIn past flow)
+  pub started-next : (flow : ℕ) → startedIn (c ∷ past) flow ≡ ((is START c && eqb (flowOf past (c .operands .first)) flow) || startedIn past
+      flow)
   unfolding startedIn
   started-next flow = refl
 

@@ -54,7 +54,8 @@ getD-tabulate {A} (suc k) t f d h = by-last (getD-tabulate k t f d) (eqb t k) re
         List·getD-append (tabulate k f) (f k ∷ []) d t (omega (arith, length-tabulate k f)) ∙ ih below
 
 -- one element set, where the others keep a property
-pub set-each : {A : Type 0} (Q : ℕ → A → Type 0) (d : A) (l : List A) (n : ℕ) (p : A) → Q n p → ((m : ℕ) → Q m (getD l m d)) → (m : ℕ) → Q m (getD (set l n p) m d)
+pub set-each : {A : Type 0} (Q : ℕ → A → Type 0) (d : A) (l : List A) (n : ℕ) (p : A) → Q n p → ((m : ℕ) → Q m (getD l m d)) → (m : ℕ)
+    → Q m (getD (set l n p) m d)
 set-each Q d [] n p q h m = h m
 set-each Q d (a ∷ l) zero p q h zero = q
 set-each Q d (a ∷ l) zero p q h (suc m) = h (suc m)
@@ -62,7 +63,8 @@ set-each Q d (a ∷ l) (suc n) p q h zero = h zero
 set-each Q d (a ∷ l) (suc n) p q h (suc m) = set-each (λ k. Q (suc k)) d l n p q (λ k. h (suc k)) m
 
 -- a property of the elements of a list, and of the default outside
-pub getD-each : {A : Type 0} (Q : ℕ → A → Type 0) (d : A) (l : List A) → ((i : ℕ) → i < length l → Q i (getD l i d)) → ((i : ℕ) → Q i d) → (i : ℕ) → Q i (getD l i d)
+pub getD-each : {A : Type 0} (Q : ℕ → A → Type 0) (d : A) (l : List A) → ((i : ℕ) → i < length l → Q i (getD l i d)) → ((i : ℕ) → Q i d)
+    → (i : ℕ) → Q i (getD l i d)
 getD-each {A} Q d l h z i = by-range (ltb i (length l)) refl
   where
     by-range : (t : Bool) → ltb i (length l) ≡ t → Q i (getD l i d)
@@ -70,8 +72,11 @@ getD-each {A} Q d l h z i = by-range (ltb i (length l)) refl
     by-range false e = rw (List·getD-eq-default l d (ltb-false i (length l) e)) (z i)
 
 -- the same of a table, and of a list of one value
-pub tabulate-each : {A : Type 0} (Q : ℕ → A → Type 0) (d : A) (k : ℕ) (f : ℕ → A) → ((m : ℕ) → Q m (f m)) → ((m : ℕ) → Q m d) → (m : ℕ) → Q m (getD (tabulate k f) m d)
+pub tabulate-each : {A : Type 0} (Q : ℕ → A → Type 0) (d : A) (k : ℕ) (f : ℕ → A) → ((m : ℕ) → Q m (f m)) → ((m : ℕ) → Q m d) → (m : ℕ)
+    → Q m (getD (tabulate k f) m d)
 tabulate-each Q d k f h z = getD-each Q d (tabulate k f) (λ i l. rw (getD-tabulate k i f d (omega (arith, length-tabulate k f))) (h i)) z
 
-pub replicate-each : {A : Type 0} (Q : ℕ → A → Type 0) (d : A) (k : ℕ) (a : A) → ((m : ℕ) → Q m a) → ((m : ℕ) → Q m d) → (m : ℕ) → Q m (getD (replicate k a) m d)
-replicate-each Q d k a q z = getD-each Q d (replicate k a) (λ i l. rw (getD-replicate k i a d (omega (arith, length-replicate k a))) (q i)) z
+pub replicate-each : {A : Type 0} (Q : ℕ → A → Type 0) (d : A) (k : ℕ) (a : A) → ((m : ℕ) → Q m a) → ((m : ℕ) → Q m d) → (m : ℕ)
+    → Q m (getD (replicate k a) m d)
+replicate-each Q d k a q z = getD-each Q d (replicate k a) (λ i l. rw (getD-replicate k i a d (omega (arith, length-replicate k a))) (q i))
+    z

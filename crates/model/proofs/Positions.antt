@@ -29,7 +29,8 @@ or-else-none none r e = (refl, e)
 or-else-none (some q) r e = let w : _≡_ {A = ℕ} 0 1 = cc in absurd (omega arith)
 
 -- a later test finds none: it finds not the latest command, nor one before it
-pub first-none : (k : ℕ) (test : List Command → Command → Bool) (c : Command) (past : List Command) → refuseFirst k test (c ∷ past) ≡ none → (refuseFirst k test past ≡ none) × (test past c ≡ false)
+pub first-none : (k : ℕ) (test : List Command → Command → Bool) (c : Command) (past : List Command) → refuseFirst k test (c ∷ past) ≡ none
+    → (refuseFirst k test past ≡ none) × (test past c ≡ false)
 unfolding refuseFirst
 first-none k test c past e =
     let h = or-else-none (refuseFirst k test past) (cond (test past c) (some (refuse k (c .place))) none) e in
@@ -50,12 +51,14 @@ pub jumps-inside :
 unfolding handlerOf
 jumps-inside all [] e n = λ i h. absurd (omega arith)
 jumps-inside all (c ∷ past) e n =
-    only-each (StaysInside (bodyLength all n)) (instruction 0 0) (handlerOf past n) (belongs past c n) (instruction (c .byte) (c .operands .first))
+    only-each (StaysInside (bodyLength all n)) (instruction 0 0) (handlerOf past n) (belongs past c n)
+    (instruction (c .byte) (c .operands .first))
     (jumps-inside all past (first-none 9 (isFarJump all) c past e .0) n) here
   where
     here : belongs past c n ≡ true → StaysInside (bodyLength all n) (instruction (c .byte) (c .operands .first))
     here p j =
-        let near : ltb (bodyLength all (openBody past)) (c .operands .first) ≡ false = and-rest (is JUMPZ c || is JUMP c) _ j (first-none 9 (isFarJump all) c past e .1) in
+        let near : ltb (bodyLength all (openBody past)) (c .operands .first) ≡ false = and-rest (is JUMPZ c || is JUMP c) _ j
+        (first-none 9 (isFarJump all) c past e .1) in
         let node : openBody past ≡ n = eqb-true (openBody past) n (and-right (isHandler c) _ p) in
         ltb-false (bodyLength all n) (c .operands .first) (rw node at near)
 
@@ -67,7 +70,8 @@ abbrev pub Placed : Program → State → Type 0
 Placed P s = (n : ℕ) → AtPlace P n (positionAt s n)
 
 -- a handler command that stays inside
-module _ (P : Program) (s : State) (n : ℕ) (i : Instruction) (placed : Placed P s) (inside : positionAt s n < length (P .handler n)) (stays : StaysInside (length (P .handler n)) i) where
+module _ (P : Program) (s : State) (n : ℕ) (i : Instruction) (placed : Placed P s) (inside : positionAt s n < length (P .handler n))
+    (stays : StaysInside (length (P .handler n)) i) where
   moved : (p : ℕ) → p ≤ length (P .handler n) → (m : ℕ) → AtPlace P m (getD (set (s .position) n p) m 0)
   moved p h = set-each (AtPlace P) 0 (s .position) n p (inr h) placed
 

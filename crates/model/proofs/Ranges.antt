@@ -9,7 +9,8 @@ use lib.ListN.{length, getD, length-append}
 use borrow.Author.Tests.{leb-false, ltb-true, ltb-false, eqb-true, eqb-false, eq-eqb, ne-eqb}
 use Rattle.model.specs.Table.{FLOW, NODE, WIRE, BODY, START, TURN, node, operandsIn, operandsOf, kindAt, groupOf}
 use Rattle.model.specs.Command.{Operands, binary, Command, is}
-use Rattle.model.specs.Declared.{only, countOf, isSame, occurs, flowOf, isHandler, openBody, belongs, bodyLength, instruction, handlerOf, startsOf, startedIn, turnsOf}
+use Rattle.model.specs.Declared.{only, countOf, isSame, occurs, flowOf, isHandler, openBody, belongs, bodyLength, instruction}
+use Rattle.model.specs.Declared.{handlerOf, startsOf, startedIn, turnsOf}
 use Rattle.model.specs.Refusal.{countsOf, namesNothing, mustDiffer}
 use Rattle.model.specs.Valid.{Valid, Named, NamedInstruction}
 use Rattle.model.proofs.Logic.{true-false, or-left, or-right, or-first, or-second, and-rest, and-left, and-right, none-of}
@@ -24,8 +25,10 @@ same-named b x c e n =
     let u = and-right (eqb (c .operands .first) (x .first)) _ t in
     let p : c .byte ≡ b = eqb-true (c .byte) b (and-left (is b c) _ e) in
     let q : c .operands .first ≡ x .first = eqb-true (c .operands .first) (x .first) (and-left (eqb (c .operands .first) (x .first)) _ t) in
-    let r : c .operands .second ≡ x .second = eqb-true (c .operands .second) (x .second) (and-left (eqb (c .operands .second) (x .second)) _ u) in
-    let s : c .operands .third ≡ x .third = eqb-true (c .operands .third) (x .third) (and-right (eqb (c .operands .second) (x .second)) _ u) in
+    let r : c .operands .second ≡ x .second = eqb-true (c .operands .second) (x .second)
+    (and-left (eqb (c .operands .second) (x .second)) _ u) in
+    let s : c .operands .third ≡ x .third = eqb-true (c .operands .third) (x .third)
+    (and-right (eqb (c .operands .second) (x .second)) _ u) in
     record { first = rw (p, q) at (n .first); second = rw (p, r) at (n .second); third = rw (p, s) at (n .third) }
 
 -- what occurs is in range, so that a table that ends there misses nothing
@@ -60,7 +63,8 @@ pub handler-outside : (past : List Command) → Valid past → (n : ℕ) → 32 
 unfolding handlerOf
 handler-outside [] v n h = refl
 handler-outside (c ∷ past) v n h =
-    let far : belongs past c n ≡ false = by-handler (isHandler c) (ne-eqb (openBody past) n (λ e. omega (arith, open-inside past (v .0)))) in
+    let far : belongs past c n ≡ false = by-handler (isHandler c)
+    (ne-eqb (openBody past) n (λ e. omega (arith, open-inside past (v .0)))) in
     rw (far, handler-outside past (v .0) n h)
   where
     by-handler : (t : Bool) → eqb (openBody past) n ≡ false → (t && eqb (openBody past) n) ≡ false
@@ -68,17 +72,20 @@ handler-outside (c ∷ past) v n h =
     by-handler false e = refl
 
 -- an instruction of a handler names what is in range
-pub handler-named : (past : List Command) → Valid past → (n i : ℕ) → i < length (handlerOf past n) → NamedInstruction (getD (handlerOf past n) i (instruction 0 0))
+pub handler-named : (past : List Command) → Valid past → (n i : ℕ) → i < length (handlerOf past n)
+    → NamedInstruction (getD (handlerOf past n) i (instruction 0 0))
 unfolding handlerOf
 handler-named [] v n = λ i h. absurd (omega arith)
 handler-named (c ∷ past) v n =
-    only-each NamedInstruction (instruction 0 0) (handlerOf past n) (belongs past c n) (instruction (c .byte) (c .operands .first)) (handler-named past (v .0) n)
+    only-each NamedInstruction (instruction 0 0) (handlerOf past n) (belongs past c n) (instruction (c .byte) (c .operands .first))
+    (handler-named past (v .0) n)
     (λ p. record { handler = and-left (isHandler c) _ p; operand = named past c v .first })
 
 -- a command whose first operand is a node names a declared one
 pub names-node : (past : List Command) (c : Command) → Valid (c ∷ past) → kindAt (c .byte) 0 ≡ node → c .operands .first < countOf NODE past
 names-node past c v e =
-    let h : namesNothing (countsOf past) (c .operands .first) (kindAt (c .byte) 0) (c .operands .first) ≡ false = none-of 2 _ (passes past c (v .2) .declares) in
+    let h : namesNothing (countsOf past) (c .operands .first) (kindAt (c .byte) 0) (c .operands .first) ≡ false = none-of 2 _
+    (passes past c (v .2) .declares) in
     leb-false (countOf NODE past) (c .operands .first) (rw e at h)
 
 -- the node of every turn is declared
@@ -94,7 +101,8 @@ turns-inside (c ∷ past) v =
     omega (arith, count-grows NODE c past))
 
 -- a first message is that of a declared node
-start-inside : (past : List Command) (c : Command) → Valid (c ∷ past) → (n : ℕ) → (is START c && eqb (c .operands .first) n) ≡ true → n < countOf NODE past
+start-inside : (past : List Command) (c : Command) → Valid (c ∷ past) → (n : ℕ) → (is START c && eqb (c .operands .first) n) ≡ true
+    → n < countOf NODE past
 unfolding operandsOf operandsIn
 start-inside past c v n p =
     let start : c .byte ≡ START = eqb-true (c .byte) START (and-left (is START c) _ p) in
@@ -106,9 +114,11 @@ start-inside past c v n p =
 pub starts-outside : (past : List Command) → Valid past → (n : ℕ) → countOf NODE past ≤ n → startsOf past n ≡ []
 unfolding startsOf
 starts-outside [] v n h = refl
-starts-outside (c ∷ past) v n h = by-start (is START c && eqb (c .operands .first) n) refl (starts-outside past (v .0) n (omega (arith, count-grows NODE c past)))
+starts-outside (c ∷ past) v n h = by-start (is START c && eqb (c .operands .first) n) refl
+    (starts-outside past (v .0) n (omega (arith, count-grows NODE c past)))
   where
-    by-start : (t : Bool) → (is START c && eqb (c .operands .first) n) ≡ t → startsOf past n ≡ [] → startsOf past n ++ only t (c .operands .second) ≡ []
+    by-start : (t : Bool) → (is START c && eqb (c .operands .first) n) ≡ t → startsOf past n ≡ []
+        → startsOf past n ++ only t (c .operands .second) ≡ []
     by-start false p ih = rw ih
     by-start true p ih = absurd (omega (arith, count-grows NODE c past, start-inside past c v n p))
 
@@ -116,17 +126,23 @@ starts-outside (c ∷ past) v n h = by-start (is START c && eqb (c .operands .fi
 no-starts : (past : List Command) → Valid past → (n : ℕ) → startedIn past (flowOf past n) ≡ false → startsOf past n ≡ []
 unfolding startsOf startedIn
 no-starts [] v n e = refl
-no-starts (c ∷ past) v n e = rw (fresh (is START c && eqb (c .operands .first) n) refl, older (ltb n (countOf NODE past)) refl (no-starts past (v .0) n))
+no-starts (c ∷ past) v n e = rw (
+  fresh (is START c && eqb (c .operands .first) n) refl,
+  older (ltb n (countOf NODE past)) refl
+      (no-starts past (v .0) n),
+)
   where
     fresh : (t : Bool) → (is START c && eqb (c .operands .first) n) ≡ t → (is START c && eqb (c .operands .first) n) ≡ false
     fresh false p = p
     fresh true p =
         let here : c .operands .first ≡ n = eqb-true (c .operands .first) n (and-right (is START c) _ p) in
         let same = declared-older (λ c before. countOf FLOW before - 1) NODE c past n (start-inside past c v n p) in
-        let miss : eqb (flowOf past (c .operands .first)) (flowOf (c ∷ past) n) ≡ false = and-rest (is START c) _ (and-left (is START c) _ p) (or-left _ _ e) in
+        let miss : eqb (flowOf past (c .operands .first)) (flowOf (c ∷ past) n) ≡ false = and-rest (is START c) _
+        (and-left (is START c) _ p) (or-left _ _ e) in
         absurd (eqb-false _ _ miss (ap (flowOf past) here ∙ sym same))
 
-    older : (t : Bool) → ltb n (countOf NODE past) ≡ t → (startedIn past (flowOf past n) ≡ false → startsOf past n ≡ []) → startsOf past n ≡ []
+    older : (t : Bool) → ltb n (countOf NODE past) ≡ t → (startedIn past (flowOf past n) ≡ false → startsOf past n ≡ [])
+        → startsOf past n ≡ []
     older true p ih =
         let same = declared-older (λ c before. countOf FLOW before - 1) NODE c past n (ltb-true n (countOf NODE past) p) in
         ih (rw same at (or-right (is START c && eqb (flowOf past (c .operands .first)) (flowOf (c ∷ past) n)) _ e))
@@ -138,11 +154,13 @@ unfolding startsOf
 starts-one [] v n = zero-le
 starts-one (c ∷ past) v n = by-start (is START c && eqb (c .operands .first) n) refl (starts-one past (v .0) n)
   where
-    by-start : (t : Bool) → (is START c && eqb (c .operands .first) n) ≡ t → length (startsOf past n) ≤ 1 → length (startsOf past n ++ only t (c .operands .second)) ≤ 1
+    by-start : (t : Bool) → (is START c && eqb (c .operands .first) n) ≡ t → length (startsOf past n) ≤ 1
+        → length (startsOf past n ++ only t (c .operands .second)) ≤ 1
     by-start false p ih = omega (arith, length-append (startsOf past n) [])
     by-start true p ih =
         let here : c .operands .first ≡ n = eqb-true (c .operands .first) n (and-right (is START c) _ p) in
-        let none : startedIn past (flowOf past (c .operands .first)) ≡ false = and-rest (is START c) _ (and-left (is START c) _ p) (none-of 1 _ (passes past c (v .2) .fresh)) in
+        let none : startedIn past (flowOf past (c .operands .first)) ≡ false = and-rest (is START c) _ (and-left (is START c) _ p)
+        (none-of 1 _ (passes past c (v .2) .fresh)) in
         let empty : startsOf past n ≡ [] = no-starts past (v .0) n (rw here at none) in
         rw empty (omega arith)
 
@@ -167,8 +185,10 @@ open-occurs (c ∷ past) v n = by-body (is BODY c) refl n (open-occurs past (v .
     by-body :
         (t : Bool) → is BODY c ≡ t → ¬ (cond t (countOf BODY past + 1) (countOf BODY past) ≡ 0)
         → (¬ (countOf BODY past ≡ 0) → occurs BODY (binary (openBody past) 0) past ≡ true)
-        → (isSame BODY (binary (cond t (c .operands .first) (openBody past)) 0) c || occurs BODY (binary (cond t (c .operands .first) (openBody past)) 0) past) ≡ true
-    by-body true e m ih = or-first (isSame BODY (binary (c .operands .first) 0) c) (occurs BODY (binary (c .operands .first) 0) past) (here e)
+        → (isSame BODY (binary (cond t (c .operands .first) (openBody past)) 0) c || occurs BODY
+        (binary (cond t (c .operands .first) (openBody past)) 0) past) ≡ true
+    by-body true e m ih = or-first (isSame BODY (binary (c .operands .first) 0) c) (occurs BODY (binary (c .operands .first) 0) past)
+        (here e)
     by-body false e m ih = or-second (isSame BODY (binary (openBody past) 0) c) (occurs BODY (binary (openBody past) 0) past) (ih m)
 
 -- a node without BODY has an empty handler
@@ -179,10 +199,12 @@ no-body (c ∷ past) v n e =
     let older : occurs BODY (binary n 0) past ≡ false = or-right (isSame BODY (binary n 0) c) _ e in
     by-place (belongs past c n) refl older (no-body past (v .0) n older)
   where
-    by-place : (t : Bool) → belongs past c n ≡ t → occurs BODY (binary n 0) past ≡ false → bodyLength past n ≡ 0 → cond t (bodyLength past n + 1) (bodyLength past n) ≡ 0
+    by-place : (t : Bool) → belongs past c n ≡ t → occurs BODY (binary n 0) past ≡ false → bodyLength past n ≡ 0
+        → cond t (bodyLength past n + 1) (bodyLength past n) ≡ 0
     by-place true p o ih =
         let opened : openBody past ≡ n = eqb-true (openBody past) n (and-right (isHandler c) _ p) in
-        let some : eqb (countOf BODY past) 0 ≡ false = and-rest (isHandler c) _ (and-left (isHandler c) _ p) (none-of 1 _ (passes past c (v .2) .declares)) in
+        let some : eqb (countOf BODY past) 0 ≡ false = and-rest (isHandler c) _ (and-left (isHandler c) _ p)
+        (none-of 1 _ (passes past c (v .2) .declares)) in
         true-false (sym (rw opened at (open-occurs past (v .0) (eqb-false (countOf BODY past) 0 some))) ∙ o)
     by-place false p o ih = ih
 
@@ -190,5 +212,6 @@ no-body (c ∷ past) v n e =
 pub body-fresh : (past : List Command) (c : Command) → Valid (c ∷ past) → is BODY c ≡ true → bodyLength past (c .operands .first) ≡ 0
 body-fresh past c v e =
     let p : c .byte ≡ BODY = eqb-true (c .byte) BODY e in
-    let o : occurs (c .byte) (c .operands) past ≡ false = and-rest (mustDiffer c) _ (or-second (is WIRE c || eqb (groupOf (c .byte)) 3) (is BODY c) e) (none-of 0 _ (passes past c (v .2) .fresh)) in
+    let o : occurs (c .byte) (c .operands) past ≡ false = and-rest (mustDiffer c) _
+    (or-second (is WIRE c || eqb (groupOf (c .byte)) 3) (is BODY c) e) (none-of 0 _ (passes past c (v .2) .fresh)) in
     no-body past (v .0) (c .operands .first) (rw (p, body-alone past c v e) at o)

@@ -11,7 +11,8 @@ use lib.ListN.{length, getD, drop, drop-of-length-le}
 use lib.Seq.{drop-cons}
 use borrow.Author.Tests.{eq-eqb, ne-eqb, le-leb, lt-leb, leb-true}
 use Rattle.model.specs.Table.{OperandKind, absent, width, Row, row, table, operandsIn, operandsOf, operandAt, kindAt}
-use Rattle.model.specs.Command.{Command, numberAt, whole, unknown, cutShort, endAt, firstAt, secondAt, thirdAt, commandAt, readAs, readCommand}
+use Rattle.model.specs.Command.{Command, numberAt, whole, unknown, cutShort, endAt, firstAt, secondAt, thirdAt, commandAt, readAs}
+use Rattle.model.specs.Command.{readCommand}
 use Rattle.model.specs.Valid.{Plain}
 
 -- row i of the table, counted from 0
@@ -23,16 +24,19 @@ pub search-start : (b : ℕ) → operandsOf b ≡ operandsIn (drop 0 table) b
 unfolding operandsOf
 search-start b = refl
 
-search-row : (b i : ℕ) → i < 23 → operandsIn (drop i table) b ≡ cond (eqb (rowAt i .byte) b) (some (rowAt i .operands)) (operandsIn (drop (i + 1) table) b)
+search-row : (b i : ℕ) → i < 23 → operandsIn (drop i table) b ≡ cond (eqb (rowAt i .byte) b) (some (rowAt i .operands))
+    (operandsIn (drop (i + 1) table) b)
 unfolding operandsIn
 search-row b i h = rw (drop-cons table i (row 0 []) h, add-one)
 
 module _ (b i : ℕ) (e : operandsOf b ≡ operandsIn (drop i table) b) where
   pub search-hit : i < 23 → rowAt i .byte ≡ b → operandsOf b ≡ some (rowAt i .operands)
-  search-hit h t = e ∙ search-row b i h ∙ ap (λ (y : Bool). cond y (some (rowAt i .operands)) (operandsIn (drop (i + 1) table) b)) (eq-eqb (rowAt i .byte) b t)
+  search-hit h t = e ∙ search-row b i h ∙ ap (λ (y : Bool). cond y (some (rowAt i .operands)) (operandsIn (drop (i + 1) table) b))
+      (eq-eqb (rowAt i .byte) b t)
 
   pub search-miss : i < 23 → ¬ (rowAt i .byte ≡ b) → operandsOf b ≡ operandsIn (drop (i + 1) table) b
-  search-miss h t = e ∙ search-row b i h ∙ ap (λ (y : Bool). cond y (some (rowAt i .operands)) (operandsIn (drop (i + 1) table) b)) (ne-eqb (rowAt i .byte) b t)
+  search-miss h t = e ∙ search-row b i h ∙ ap (λ (y : Bool). cond y (some (rowAt i .operands)) (operandsIn (drop (i + 1) table) b))
+      (ne-eqb (rowAt i .byte) b t)
 
   pub search-end : 23 ≤ i → operandsOf b ≡ none
   unfolding operandsIn
@@ -43,7 +47,8 @@ pub kind-known : (b i : ℕ) (kinds : List OperandKind) → operandsOf b ≡ som
 kind-known b i kinds e = rw e
 
 -- an operand of 4 bytes, of 1 byte, and of none
-pub number-four : (job : List ℕ) (at : ℕ) → numberAt job at 4 ≡ getD job at 0 + getD job (at + 1) 0 * 256 + getD job (at + 2) 0 * 65536 + getD job (at + 3) 0 * 16777216
+pub number-four : (job : List ℕ) (at : ℕ) → numberAt job at 4 ≡ getD job at 0 + getD job (at + 1) 0 * 256 + getD job
+    (at + 2) 0 * 65536 + getD job (at + 3) 0 * 16777216
 unfolding numberAt
 number-four job at =
     let p : at + 1 + 1 ≡ at + 2 = omega arith in
@@ -121,6 +126,7 @@ read-at job place c next e = by-operands (operandsOf (getD job place 0)) refl e
         })
     by-length kinds o false t q = let w : _≡_ {A = ℕ} 0 1 = cc in absurd (omega arith)
 
-    by-operands : (o : Option (List OperandKind)) → operandsOf (getD job place 0) ≡ o → readAs job place o ≡ whole c next → ReadAt job place c next
+    by-operands : (o : Option (List OperandKind)) → operandsOf (getD job place 0) ≡ o → readAs job place o ≡ whole c next
+        → ReadAt job place c next
     by-operands none o q = let w : _≡_ {A = ℕ} 0 1 = cc in absurd (omega arith)
     by-operands (some kinds) o q = by-length kinds o (leb (endAt place kinds) (length job)) refl q

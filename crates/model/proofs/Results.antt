@@ -21,26 +21,36 @@ pub decode-job-rejected : (job : List ℕ) (r : Refusal) → decode job ≡ reje
 unfolding decodeJob
 decode-job-rejected job r e = rw e
 
-pub decode-job-jump : (job : List ℕ) (all : List Command) (r : Refusal) → decode job ≡ accepted all → farJump all ≡ some r → decodeJob job ≡ rejected r
+pub decode-job-jump : (job : List ℕ) (all : List Command) (r : Refusal) → decode job ≡ accepted all → farJump all ≡ some r
+    → decodeJob job ≡ rejected r
 unfolding decodeJob
 decode-job-jump job all r e f = rw (e, f)
 
-pub decode-job-accepted : (job : List ℕ) (all : List Command) → decode job ≡ accepted all → farJump all ≡ none → decodeJob job ≡ accepted all
+pub decode-job-accepted : (job : List ℕ) (all : List Command) → decode job ≡ accepted all → farJump all ≡ none
+    → decodeJob job ≡ accepted all
 unfolding decodeJob
 decode-job-accepted job all e f = rw (e, f)
 
 -- no buffer is too short
-pub buffers-fit : (job : List ℕ) (b : Sizes) (past : List Command) → shortBuffer job b past ≡ none → (7 * countOf TURN past ≤ b .trace) × (2624 ≤ b .snapshot) × (16384 ≤ b .work)
+pub buffers-fit : (job : List ℕ) (b : Sizes) (past : List Command) → shortBuffer job b past ≡ none
+    → (7 * countOf TURN past ≤ b .trace) × (2624 ≤ b .snapshot) × (16384 ≤ b .work)
 buffers-fit job b past e = by-tests (ltb (b .trace) (7 * countOf TURN past)) refl (ltb (b .snapshot) 2624) refl (ltb (b .work) 16384) refl e
   where
     by-tests :
-        (t : Bool) → ltb (b .trace) (7 * countOf TURN past) ≡ t → (u : Bool) → ltb (b .snapshot) 2624 ≡ u → (v : Bool) → ltb (b .work) 16384 ≡ v
-        → cond t (some (refuse 10 (length job))) (cond u (some (refuse 11 (length job))) (cond v (some (refuse 12 (length job))) none)) ≡ none
+        (t : Bool) → ltb (b .trace) (7 * countOf TURN past) ≡ t → (u : Bool) → ltb (b .snapshot) 2624 ≡ u → (v : Bool)
+        → ltb (b .work) 16384 ≡ v
+        → cond t (some (refuse 10 (length job))) (cond u (some (refuse 11 (length job)))
+        (cond v (some (refuse 12 (length job))) none)) ≡ none
         → (7 * countOf TURN past ≤ b .trace) × (2624 ≤ b .snapshot) × (16384 ≤ b .work)
     by-tests true p u q v r z = let w : _≡_ {A = ℕ} 0 1 = cc in absurd (omega arith)
     by-tests false p true q v r z = let w : _≡_ {A = ℕ} 0 1 = cc in absurd (omega arith)
     by-tests false p false q true r z = let w : _≡_ {A = ℕ} 0 1 = cc in absurd (omega arith)
-    by-tests false p false q false r z = (ltb-false (b .trace) (7 * countOf TURN past) p, ltb-false (b .snapshot) 2624 q, ltb-false (b .work) 16384 r)
+    by-tests false p false q false r z = (
+      ltb-false (b .trace) (7 * countOf TURN past) p,
+      ltb-false (b .snapshot) 2624 q,
+      ltb-false
+          (b .work) 16384 r,
+    )
 
 module _ (job : List ℕ) (b : Sizes) where
   pub decode-for-rejected : (r : Refusal) → decodeJob job ≡ rejected r → decodeFor job b ≡ rejected r
@@ -56,7 +66,8 @@ module _ (job : List ℕ) (b : Sizes) where
     unfolding decodeFor
     decode-for-snapshot h i = rw (e, le-ltb (b .trace) (7 * countOf TURN all) h, lt-ltb (b .snapshot) 2624 i)
 
-    pub decode-for-work : 7 * countOf TURN all ≤ b .trace → 2624 ≤ b .snapshot → b .work < 16384 → decodeFor job b ≡ rejected (refuse 12 (length job))
+    pub decode-for-work : 7 * countOf TURN all ≤ b .trace → 2624 ≤ b .snapshot → b .work < 16384
+        → decodeFor job b ≡ rejected (refuse 12 (length job))
     unfolding decodeFor
     decode-for-work h i j = rw (e, le-ltb (b .trace) (7 * countOf TURN all) h, le-ltb (b .snapshot) 2624 i, lt-ltb (b .work) 16384 j)
 
@@ -73,10 +84,12 @@ module _ (job : List ℕ) (b : Sizes) where
   unfolding unmonitored
   unmonitored-refused r e = rw e
 
-  pub monitored-ran : (all : List Command) → decodeFor job b ≡ accepted all → monitored job b ≡ report (programOf all) (monitoredRun (programOf all) (turnsOf all))
+  pub monitored-ran : (all : List Command) → decodeFor job b ≡ accepted all
+      → monitored job b ≡ report (programOf all) (monitoredRun (programOf all) (turnsOf all))
   unfolding monitored
   monitored-ran all e = rw e
 
-  pub unmonitored-ran : (all : List Command) → decodeFor job b ≡ accepted all → unmonitored job b ≡ report (programOf all) (unmonitoredRun (programOf all) (turnsOf all))
+  pub unmonitored-ran : (all : List Command) → decodeFor job b ≡ accepted all
+      → unmonitored job b ≡ report (programOf all) (unmonitoredRun (programOf all) (turnsOf all))
   unfolding unmonitored
   unmonitored-ran all e = rw e

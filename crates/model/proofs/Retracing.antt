@@ -6,8 +6,10 @@ use native.Mathlib.Omega.{arith}
 use lib.ListN.{length}
 use Rattle.model.specs.Command.{Command}
 use Rattle.model.specs.Refusal.{Refusal, refuse, accepted, rejected, decode, Sizes, decodeFor}
-use Rattle.model.specs.Conclusion.{HasLength, Reads, begin, further, Refuses, empty, long, noCommand, cutOff, violates, jumpsFar, hasShortBuffer, Accepts}
-use Rattle.model.proofs.Decoding.{Decoding, decode-empty, decode-long, decoding-start, decoding-on, decoding-end, decoding-unknown, decoding-short, decoding-refused}
+use Rattle.model.specs.Conclusion.{HasLength, Reads, begin, further, Refuses, empty, long, noCommand, cutOff, violates, jumpsFar}
+use Rattle.model.specs.Conclusion.{hasShortBuffer, Accepts}
+use Rattle.model.proofs.Decoding.{Decoding, decode-empty, decode-long, decoding-start, decoding-on, decoding-end, decoding-unknown}
+use Rattle.model.proofs.Decoding.{decoding-short, decoding-refused}
 use Rattle.model.proofs.Results.{decode-job-rejected, decode-job-jump, decode-job-accepted, decode-for-rejected}
 use Rattle.model.proofs.Walking.{PassedEight}
 
@@ -35,9 +37,12 @@ pub refuses-decodes : {job : List ℕ} {b : Sizes} {r : Refusal} → Refuses job
 unfolding decodeFor
 refuses-decodes {job} {b} (empty e) = early job b (refuse 1 0) (decode-empty job e)
 refuses-decodes {job} {b} (long l) = early job b (refuse 1 0) (decode-long job (λ z. omega arith) l)
-refuses-decodes {job} {b} (noCommand size place past reads h e) = early job b (refuse 2 place) (decoding-unknown job place past (reads-decoding size reads) h e)
-refuses-decodes {job} {b} (cutOff size place past reads h e) = early job b (refuse 3 place) (decoding-short job place past (reads-decoding size reads) h e)
-refuses-decodes {job} {b} (violates size place past c next k reads h e v n) = early job b (refuse k place) (decoding-refused job place past (reads-decoding size reads) h c next k e v n)
+refuses-decodes {job} {b} (noCommand size place past reads h e) = early job b (refuse 2 place)
+    (decoding-unknown job place past (reads-decoding size reads) h e)
+refuses-decodes {job} {b} (cutOff size place past reads h e) = early job b (refuse 3 place)
+    (decoding-short job place past (reads-decoding size reads) h e)
+refuses-decodes {job} {b} (violates size place past c next k reads h e v n) = early job b (refuse k place)
+    (decoding-refused job place past (reads-decoding size reads) h c next k e v n)
 refuses-decodes {job} {b} (jumpsFar size past r reads e) =
     decode-for-rejected job b r (decode-job-jump job past r (read-accepted job past (record { size = size; reads = reads })) e)
 refuses-decodes {job} {b} (hasShortBuffer size past r reads j e) =

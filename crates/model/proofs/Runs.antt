@@ -15,12 +15,13 @@ use Rattle.model.proofs.Ways.{Keeps}
 pub trace-snoc : (es : List Entry) (e : Entry) → traceBytes (es ++ (e ∷ [])) ≡ traceBytes es ++ entryBytes e
 unfolding traceBytes
 trace-snoc [] e = append-nil (entryBytes e)
-trace-snoc (f ∷ es) e = ap (λ (l : List ℕ). entryBytes f ++ l) (trace-snoc es e) ∙ sym (append-assoc (entryBytes f) (traceBytes es) (entryBytes e))
+trace-snoc (f ∷ es) e = ap (λ (l : List ℕ). entryBytes f ++ l) (trace-snoc es e)
+    ∙ sym (append-assoc (entryBytes f) (traceBytes es) (entryBytes e))
 
 pub entries-snoc : (steps : List Step) (t : Step) → entriesOf (steps ++ (t ∷ [])) ≡ entriesOf steps ++ (t .made ∷ [])
 entries-snoc steps t = map-append (λ (u : Step). u .made) steps (t ∷ [])
 
--- a run behind turns that are done already: what a loop over the turns keeps
+-- a run after turns that are done already: what a loop over the turns keeps
 unfoldable pub behind : List Step → Run → Run
 behind done r = record { steps = done ++ r .steps; stop = r .stop; attempted = r .attempted; final = r .final }
 
@@ -32,11 +33,13 @@ behind-none r = refl
 -- turn k of the loop: it is completed, or stopped, or there is none
 module _ (rule : State → ℕ → Turned) (turns : List ℕ) (done : List Step) (k : ℕ) (s : State) where
   next-turn : k < length turns → runFrom rule (drop k turns) s ≡ runFrom rule (getD turns k 0 ∷ drop (k + 1) turns) s
-  next-turn h = ap (λ (l : List ℕ). runFrom rule l s) (drop-cons turns k 0 h ∙ ap (λ (i : ℕ). getD turns k 0 ∷ drop i turns) (sym (add-one k)))
+  next-turn h = ap (λ (l : List ℕ). runFrom rule l s) (drop-cons turns k 0 h
+      ∙ ap (λ (i : ℕ). getD turns k 0 ∷ drop i turns) (sym (add-one k)))
 
   pub behind-completed :
       (e : Entry) (s′ : State) → k < length turns → rule s (getD turns k 0) ≡ completed e s′
-      → behind done (runFrom rule (drop k turns) s) ≡ behind (done ++ (record { before = s; made = e } ∷ [])) (runFrom rule (drop (k + 1) turns) s′)
+      → behind done (runFrom rule (drop k turns) s) ≡ behind (done ++ (record { before = s; made = e } ∷ []))
+      (runFrom rule (drop (k + 1) turns) s′)
   unfolding behind runFrom
   behind-completed e s′ h t = ap (behind done) (next-turn h) ∙ simp (t, append-assoc)
 
@@ -46,7 +49,8 @@ module _ (rule : State → ℕ → Turned) (turns : List ℕ) (done : List Step)
   unfolding behind runFrom
   behind-stopped j e h t = ap (behind done) (next-turn h) ∙ simp (t, append-nil)
 
-  pub behind-ended : length turns ≤ k → behind done (runFrom rule (drop k turns) s) ≡ record { steps = done; stop = 0; attempted = entry 0 0 0 0; final = s }
+  pub behind-ended : length turns ≤ k → behind done (runFrom rule (drop k turns) s) ≡ record
+      { steps = done; stop = 0; attempted = entry 0 0 0 0; final = s }
   unfolding behind runFrom
   behind-ended h = ap (λ (l : List ℕ). behind done (runFrom rule l s)) (drop-of-length-le turns h) ∙ simp append-nil
 

@@ -10,12 +10,14 @@ use lib.ListN.{length}
 use borrow.Author.Tests.{lt-ltb, ltb-true}
 use Rattle.model.specs.Table.{maxJob}
 use Rattle.model.specs.Command.{Command, Parsed, whole, unknown, cutShort, readCommand}
-use Rattle.model.specs.Refusal.{violation, Refusal, refuse, accepted, rejected, decodeNext, decodeRead, decodeFrom, decode, refuseFirst}
+use Rattle.model.specs.Refusal.{violation, Refusal, refuse, accepted, rejected, decodeNext, decodeRead, decodeFrom, decode}
+use Rattle.model.specs.Refusal.{refuseFirst}
 use Rattle.model.proofs.Reading.{read-at}
 use Rattle.model.proofs.Decoding.{decode-end, fuel-left}
 
 -- a later test by a second look at the commands: none of those so far is found, and the rest of an accepted job follows
-pub record Scanning (k : ℕ) (test : List Command → Command → Bool) (job : List ℕ) (all : List Command) (place : ℕ) (past : List Command) : Type 0 where
+pub record Scanning (k : ℕ) (test : List Command → Command → Bool) (job : List ℕ) (all : List Command) (place : ℕ)
+    (past : List Command) : Type 0 where
   pub fuel : ℕ
   pub enough : length job ≤ place + fuel
   pub goesOn : decodeFrom fuel job place past ≡ accepted all
@@ -26,12 +28,14 @@ pub accepted-from : (job : List ℕ) (all : List Command) → decode job ≡ acc
 unfolding decode
 accepted-from job all e = by-length (eqb (length job) 0 || ltb maxJob (length job)) e
   where
-    by-length : (t : Bool) → cond t (rejected (refuse 1 0)) (decodeFrom (length job) job 0 []) ≡ accepted all → decodeFrom (length job) job 0 [] ≡ accepted all
+    by-length : (t : Bool) → cond t (rejected (refuse 1 0)) (decodeFrom (length job) job 0 []) ≡ accepted all
+        → decodeFrom (length job) job 0 [] ≡ accepted all
     by-length true q = let w : _≡_ {A = ℕ} 0 1 = cc in absurd (omega arith)
     by-length false q = q
 
 -- at the start
-pub scanning-start : (k : ℕ) (test : List Command → Command → Bool) (job : List ℕ) (all : List Command) → decode job ≡ accepted all → Scanning k test job all 0 []
+pub scanning-start : (k : ℕ) (test : List Command → Command → Bool) (job : List ℕ) (all : List Command) → decode job ≡ accepted all
+    → Scanning k test job all 0 []
 unfolding refuseFirst
 scanning-start k test job all e = record { fuel = length job; enough = omega arith; goesOn = accepted-from job all e; fine = refl }
 
@@ -57,9 +61,11 @@ passing-read fuel job place past all unknown r e = let w : _≡_ {A = ℕ} 0 1 =
 passing-read fuel job place past all cutShort r e = let w : _≡_ {A = ℕ} 0 1 = cc in absurd (omega arith)
 passing-read fuel job place past all (whole c next) r e = passing-next fuel job place past all c next (violation past c) r refl e
 
-pub passing : (fuel : ℕ) (job : List ℕ) (place : ℕ) (past all : List Command) → place < length job → decodeFrom (suc fuel) job place past ≡ accepted all → Passing fuel job place past all
+pub passing : (fuel : ℕ) (job : List ℕ) (place : ℕ) (past all : List Command) → place < length job
+    → decodeFrom (suc fuel) job place past ≡ accepted all → Passing fuel job place past all
 unfolding decodeFrom
-passing fuel job place past all h e = passing-read fuel job place past all (readCommand job place) refl (rw (lt-ltb place (length job) h) at e)
+passing fuel job place past all h e = passing-read fuel job place past all (readCommand job place) refl
+    (rw (lt-ltb place (length job) h) at e)
 
 -- a command found so far is the first one of all
 pub found-stays :
@@ -71,14 +77,16 @@ found-stays k test job all r (suc fuel) place past e f = by-place (ltb place (le
   where
     by-place :
         (t : Bool) → ltb place (length job) ≡ t
-        → ((place : ℕ) (past : List Command) → decodeFrom fuel job place past ≡ accepted all → refuseFirst k test past ≡ some r → refuseFirst k test all ≡ some r)
+        → ((place : ℕ) (past : List Command) → decodeFrom fuel job place past ≡ accepted all → refuseFirst k test past ≡ some r
+        → refuseFirst k test all ≡ some r)
         → refuseFirst k test all ≡ some r
     by-place true t ih =
         let p = passing fuel job place past all (ltb-true place (length job) t) e in
         ih (p .next) (p .command ∷ past) (p .goesOn) (rw f)
     by-place false t ih = let z = rw t at e in let q : past ≡ all = cc in rw q at f
 
-module _ (k : ℕ) (test : List Command → Command → Bool) (job : List ℕ) (all : List Command) (place : ℕ) (past : List Command) (s : Scanning k test job all place past) where
+module _ (k : ℕ) (test : List Command → Command → Bool) (job : List ℕ) (all : List Command) (place : ℕ) (past : List Command)
+    (s : Scanning k test job all place past) where
   -- at the end
   pub scanning-end : length job ≤ place → refuseFirst k test all ≡ none
   scanning-end h =

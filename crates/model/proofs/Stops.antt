@@ -24,7 +24,8 @@ pub monitored-stops : (Q : ℕ → Type 0) → Q 1 → Q 2 → Q 3 → (P : Prog
 monitored-stops Q one two three P s n = monitored-by (StopsBy Q) P s n (turn-stops Q two three P s n) (λ e. one)
 
 -- a run stops by 0 or as its rule does
-proceed-stops : (Q : ℕ → Type 0) (rest : State → Run) (s : State) (t : Turned) → StopsBy Q t → ((s′ : State) → Q (rest s′ .stop)) → Q (proceed rest s t .stop)
+proceed-stops : (Q : ℕ → Type 0) (rest : State → Run) (s : State) (t : Turned) → StopsBy Q t → ((s′ : State) → Q (rest s′ .stop))
+    → Q (proceed rest s t .stop)
 proceed-stops Q rest s (completed e s′) p ih = ih s′
 proceed-stops Q rest s (stopped k e) p ih = p
 
@@ -33,7 +34,8 @@ pub run-stops :
     → (turns : List ℕ) (s : State) → Q (runFrom rule turns s .stop)
 unfolding runFrom
 run-stops Q none rule stops [] s = none
-run-stops Q none rule stops (n ∷ turns) s = proceed-stops Q (runFrom rule turns) s (rule s n) (stops s n) (run-stops Q none rule stops turns)
+run-stops Q none rule stops (n ∷ turns) s = proceed-stops Q (runFrom rule turns) s (rule s n) (stops s n)
+    (run-stops Q none rule stops turns)
 
 -- an unmonitored run does not answer stop 1
 pub run-not-one : (P : Program) (turns : List ℕ) (s : State) → runFrom (turn P) turns s .stop ≡ 1 → ⊥

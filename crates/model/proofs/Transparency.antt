@@ -45,7 +45,14 @@ step-compared P s e u m p (halt n first same) = halt (suc n) front (ap (after s 
     before (suc k) h = first .earlier k (le-of-suc-le-suc h)
 
     front : FirstForbidden P (after s e u) (suc n)
-    front = record { isForbidden = record { isCompleted = suc-le-suc (first .isForbidden .isCompleted); notPermitted = first .isForbidden .notPermitted }; earlier = before }
+    front = record {
+      isForbidden = record {
+        isCompleted = suc-le-suc
+            (first .isForbidden .isCompleted);
+        notPermitted = first .isForbidden .notPermitted;
+      };
+      earlier = before;
+    }
 
 -- one turn and what follows it, by what the turn comes to
 turn-compared :
@@ -61,7 +68,11 @@ turn-compared P s rest rest′ (completed e s′) ih = by-permission (permitted 
     by-permission true p = step-compared P s e (rest s′) (rest′ s′) p (ih s′)
     by-permission false p =
         halt 0
-        (record { isForbidden = record { isCompleted = suc-le-suc zero-le; notPermitted = p }; earlier = λ k h. absurd (not-suc-le-zero h) })
+        (record {
+          isForbidden = record { isCompleted = suc-le-suc zero-le; notPermitted = p };
+          earlier = λ k h. absurd
+              (not-suc-le-zero h);
+        })
         refl
 
 -- the two runs of any turns from any state
@@ -117,7 +128,11 @@ module _ (P : Program) (u m : Run) where
 
   -- the second run answers stop 1 exactly if some turn is forbidden
   stop-one : (u .stop ≡ 1 → ⊥) → Compared P u m → (m .stop ≡ 1) ↔ ((n : ℕ) × Forbidden P u n)
-  stop-one never (agree all same) = (λ h. absurd (never (ap (λ (r : Run). r .stop) (sym same) ∙ h)), λ f. absurd (none-forbidden all (f .0) (f .1)))
+  stop-one never (agree all same) = (
+    λ h. absurd (never (ap (λ (r : Run). r .stop) (sym same) ∙ h)),
+    λ f. absurd
+        (none-forbidden all (f .0) (f .1)),
+  )
   stop-one never (halt n first same) = (λ h. (n, first .isForbidden), λ f. ap (λ (r : Run). r .stop) same)
 
 -- what a stopped run hands over

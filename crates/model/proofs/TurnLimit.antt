@@ -1,4 +1,4 @@
--- 4,096 turns are accepted and 4,097 are refused: by one law for a TURN behind a job, and not by computation.
+-- 4,096 turns are accepted and 4,097 are refused: by one law for a TURN after a job, and not by computation.
 use Prim.Native.Nat.{ℕ, zero, suc, _+_, _*_, _≤_}
 use mathlib.Core.Path.{_≡_, refl, sym, ap, _∙_}
 use mathlib.Core.List.{List, [], _∷_, _++_, append-assoc, append-nil}
@@ -38,7 +38,7 @@ unfolding manyTurns times
 length-many zero = refl
 length-many (suc k) = omega (arith, ap length (many-snoc k), length-append (manyTurns k) (TURN ∷ 0 ∷ []), length-many k)
 
--- the commands of the job with so many turns
+-- the commands of the job with this many turns
 abbrev turnCommands : ℕ → List Command
 turnCommands zero = record { place = 1; byte = NODE; operands = binary 0 0 } ∷ record { place = 0; byte = FLOW; operands = binary 0 0 } ∷ []
 turnCommands (suc k) = turnAt (2 + 2 * k) 0 ∷ turnCommands k
@@ -56,7 +56,8 @@ count-nodes (suc k) = count-nodes k
 turns-same : (k : ℕ) → turnsOf (turnCommands k) ≡ replicate k 0
 unfolding turnsOf
 turns-same zero = refl
-turns-same (suc k) = ap (λ (l : List ℕ). l ++ (0 ∷ [])) (turns-same k) ∙ replicate-append-replicate k 1 0 ∙ ap (λ (m : ℕ). replicate m 0) (add-one k)
+turns-same (suc k) = ap (λ (l : List ℕ). l ++ (0 ∷ [])) (turns-same k) ∙ replicate-append-replicate k 1 0
+    ∙ ap (λ (m : ℕ). replicate m 0) (add-one k)
 
 program-same : (k : ℕ) → programOf (turnCommands k) ≡ programOf (turnCommands 0)
 program-same zero = refl
@@ -64,37 +65,46 @@ program-same (suc k) = program-turn (turnAt (2 + 2 * k) 0) (turnCommands k) refl
 
 -- up to 4,096 turns the job is accepted
 none-decoded : decodeJob (manyTurns 0) ≡ accepted (turnCommands 0)
-unfolding manyTurns times decodeJob decode decodeFrom readCommand operandsOf operandsIn numberAt violation groupFalls anyOf largestOf largestIn isAmong countAmong countOf refuseFirst
+unfolding manyTurns times decodeJob decode decodeFrom readCommand operandsOf operandsIn numberAt violation groupFalls anyOf largestOf
+    largestIn isAmong countAmong countOf refuseFirst
 none-decoded = refl
 
 decoded : (k : ℕ) → k ≤ maxTurns → decodeJob (manyTurns k) ≡ accepted (turnCommands k)
 decoded zero h = none-decoded
 decoded (suc k) h =
     rw (many-snoc k)
-    (turn-appended (manyTurns k) (turnCommands k) (decoded k (omega arith)) 0 (omega (arith, count-nodes k)) (omega (arith, length-many k)) (omega (arith, count-turns k))
+    (turn-appended (manyTurns k) (turnCommands k) (decoded k (omega arith)) 0 (omega (arith, count-nodes k)) (omega (arith, length-many k))
+    (omega (arith, count-turns k))
     ∙ ap (λ (m : ℕ). accepted (turnAt m 0 ∷ turnCommands k)) (length-many k))
 
 -- the first turn stops: the node is idle and has no message
-stops-at-once : (turns : List ℕ) → report (programOf (turnCommands 0)) (monitoredRun (programOf (turnCommands 0)) (0 ∷ turns)) ≡ ends 2 0 (entry 0 0 0 0) [] idleNode
-unfolding report monitoredRun runFrom monitoredTurn turn initialState tabulate programOf declared countOf startsOf traceBytes snapshotBytes nodesBytes numbersBytes variablesBytes ends idleNode nodePart low
+stops-at-once : (turns : List ℕ) → report (programOf (turnCommands 0)) (monitoredRun (programOf (turnCommands 0)) (0 ∷ turns)) ≡ ends 2 0
+    (entry 0 0 0 0) [] idleNode
+unfolding report monitoredRun runFrom monitoredTurn turn initialState tabulate programOf declared countOf startsOf traceBytes snapshotBytes
+    nodesBytes numbersBytes variablesBytes ends idleNode nodePart low
 stops-at-once turns = refl
 
 many-accepted : (k : ℕ) → suc k ≤ maxTurns → monitored (manyTurns (suc k)) enough ≡ ends 2 0 (entry 0 0 0 0) [] idleNode
 unfolding enough
 many-accepted k h =
     monitored-ran (manyTurns (suc k)) enough (turnCommands (suc k))
-    (decode-for-accepted (manyTurns (suc k)) enough (turnCommands (suc k)) (decoded (suc k) h) (omega (arith, count-turns (suc k))) (omega arith) (omega arith))
+    (decode-for-accepted (manyTurns (suc k)) enough (turnCommands (suc k)) (decoded (suc k) h) (omega (arith, count-turns (suc k)))
+    (omega arith) (omega arith))
     ∙ rw (program-same (suc k), turns-same (suc k)) (stops-at-once (replicate k 0))
 
 many-refused : monitored (manyTurns (suc maxTurns)) enough ≡ refused (refuse 5 8194)
 many-refused =
-    let e = read-accepted (manyTurns maxTurns) (turnCommands maxTurns) (job-accepted (manyTurns maxTurns) (turnCommands maxTurns) (decoded maxTurns (omega arith)) .read) in
+    let e = read-accepted (manyTurns maxTurns) (turnCommands maxTurns)
+    (job-accepted (manyTurns maxTurns) (turnCommands maxTurns) (decoded maxTurns (omega arith)) .read) in
     let r =
-    turn-refused (manyTurns maxTurns) (turnCommands maxTurns) e 0 (omega (arith, count-nodes maxTurns)) (omega (arith, length-many maxTurns))
+    turn-refused (manyTurns maxTurns) (turnCommands maxTurns) e 0 (omega (arith, count-nodes maxTurns))
+    (omega (arith, length-many maxTurns))
     (omega (arith, count-turns maxTurns)) in
-    let s : decode (manyTurns (suc maxTurns)) ≡ rejected (refuse 5 8194) = ap decode (many-snoc maxTurns) ∙ r ∙ ap (λ (m : ℕ). rejected (refuse 5 m)) (length-many maxTurns) in
+    let s : decode (manyTurns (suc maxTurns)) ≡ rejected (refuse 5 8194) = ap decode (many-snoc maxTurns) ∙ r
+    ∙ ap (λ (m : ℕ). rejected (refuse 5 m)) (length-many maxTurns) in
     monitored-refused (manyTurns (suc maxTurns)) enough (refuse 5 8194)
-    (decode-for-rejected (manyTurns (suc maxTurns)) enough (refuse 5 8194) (decode-job-rejected (manyTurns (suc maxTurns)) (refuse 5 8194) s))
+    (decode-for-rejected (manyTurns (suc maxTurns)) enough (refuse 5 8194)
+    (decode-job-rejected (manyTurns (suc maxTurns)) (refuse 5 8194) s))
 
 pub turn-limit : TurnLimit
 turn-limit = record { reached = many-accepted 4095 (omega arith); passed = many-refused }

@@ -11,7 +11,8 @@ use borrow.Author.Tests.{eqb-true, eqb-false, eq-eqb, ne-eqb, lt-ltb, le-ltb}
 use Rattle.model.specs.Declared.{Instruction}
 use Rattle.model.specs.Program.{Program}
 use Rattle.model.specs.State.{State, idle, positionAt, waitingAt}
-use Rattle.model.specs.Turn.{Entry, entry, completed, stopped, oldest, begun, finished, someBelow, delivered, performed, entryOf, blocked, executed, idleTurn, instructionAt, turn}
+use Rattle.model.specs.Turn.{Entry, entry, completed, stopped, oldest, begun, finished, someBelow, delivered, performed, entryOf}
+use Rattle.model.specs.Turn.{blocked, executed, idleTurn, instructionAt, turn}
 use Rattle.model.specs.Permission.{permitted, redacted, enforced, monitoredTurn}
 use Rattle.model.proofs.Logic.{or-left, or-right}
 
@@ -42,7 +43,8 @@ some-found test (suc k) t h e = by-last (eqb t k) refl (some-found test k t)
 
 -- the loop of a send, at a target and at any other node
 module _ (target : ℕ → Bool) (v : ℕ) (qs : List (List ℕ)) (k : ℕ) where
-  pub delivered-target : target k ≡ true → delivered target v qs (suc k) ≡ set (delivered target v qs k) k (getD (delivered target v qs k) k [] ++ (v ∷ []))
+  pub delivered-target : target k ≡ true → delivered target v qs (suc k) ≡ set (delivered target v qs k) k
+      (getD (delivered target v qs k) k [] ++ (v ∷ []))
   unfolding delivered
   delivered-target e = rw e
 
@@ -51,7 +53,8 @@ module _ (target : ℕ → Bool) (v : ℕ) (qs : List (List ℕ)) (k : ℕ) wher
   delivered-other e = rw e
 
 -- a send by the same targets, and a test with the same answers
-pub delivered-agree : (target target′ : ℕ → Bool) → ((t : ℕ) → target t ≡ target′ t) → (v : ℕ) (qs : List (List ℕ)) (k : ℕ) → delivered target v qs k ≡ delivered target′ v qs k
+pub delivered-agree : (target target′ : ℕ → Bool) → ((t : ℕ) → target t ≡ target′ t) → (v : ℕ) (qs : List (List ℕ)) (k : ℕ)
+    → delivered target v qs k ≡ delivered target′ v qs k
 delivered-agree target target′ e v qs k = λ i. delivered (λ t. e t i) v qs k
 
 pub some-agree : (test test′ : ℕ → Bool) → ((t : ℕ) → test t ≡ test′ t) → (k : ℕ) → someBelow test k ≡ someBelow test′ k
@@ -65,19 +68,22 @@ length-delivered target v qs (suc k) = by-target (target k) (length-delivered ta
   where
     by-target :
         (b : Bool) → length (delivered target v qs k) ≡ length qs
-        → length (cond b (set (delivered target v qs k) k (getD (delivered target v qs k) k [] ++ (v ∷ []))) (delivered target v qs k)) ≡ length qs
+        → length (cond b (set (delivered target v qs k) k (getD (delivered target v qs k) k [] ++ (v ∷ [])))
+        (delivered target v qs k)) ≡ length qs
     by-target true h = length-set (delivered target v qs k) k _ ∙ h
     by-target false h = h
 
 -- the queues from k on wait for their value
-pub delivered-later : (target : ℕ → Bool) (v : ℕ) (qs : List (List ℕ)) (k t : ℕ) → k ≤ t → getD (delivered target v qs k) t [] ≡ getD qs t []
+pub delivered-later : (target : ℕ → Bool) (v : ℕ) (qs : List (List ℕ)) (k t : ℕ) → k ≤ t
+    → getD (delivered target v qs k) t [] ≡ getD qs t []
 unfolding delivered
 delivered-later target v qs zero t h = refl
 delivered-later target v qs (suc k) t h = by-target (target k) (delivered-later target v qs k t (omega arith))
   where
     by-target :
         (b : Bool) → getD (delivered target v qs k) t [] ≡ getD qs t []
-        → getD (cond b (set (delivered target v qs k) k (getD (delivered target v qs k) k [] ++ (v ∷ []))) (delivered target v qs k)) t [] ≡ getD qs t []
+        → getD (cond b (set (delivered target v qs k) k (getD (delivered target v qs k) k [] ++ (v ∷ []))) (delivered target v qs k)) t
+        [] ≡ getD qs t []
     by-target true ih = getD-set-other (delivered target v qs k) k t _ [] (λ e. omega arith) ∙ ih
     by-target false ih = ih
 
@@ -91,11 +97,13 @@ module _ (P : Program) (s : State) (n : ℕ) where
   unfolding turn
   turn-begun p w = rw (eq-eqb (positionAt s n) idle p, ne-eqb (waitingAt s n) 0 w)
 
-  pub turn-executed : ¬ (positionAt s n ≡ idle) → positionAt s n < length (P .handler n) → turn P s n ≡ executed P s n (instructionAt P n (positionAt s n))
+  pub turn-executed : ¬ (positionAt s n ≡ idle) → positionAt s n < length (P .handler n)
+      → turn P s n ≡ executed P s n (instructionAt P n (positionAt s n))
   unfolding turn
   turn-executed p l = rw (ne-eqb (positionAt s n) idle p, lt-ltb (positionAt s n) (length (P .handler n)) l)
 
-  pub turn-finished : ¬ (positionAt s n ≡ idle) → length (P .handler n) ≤ positionAt s n → turn P s n ≡ completed (entry n 2 0 0) (finished s n)
+  pub turn-finished : ¬ (positionAt s n ≡ idle) → length (P .handler n) ≤ positionAt s n
+      → turn P s n ≡ completed (entry n 2 0 0) (finished s n)
   unfolding turn
   turn-finished p l = rw (ne-eqb (positionAt s n) idle p, le-ltb (positionAt s n) (length (P .handler n)) l)
 
@@ -111,11 +119,13 @@ module _ (P : Program) (s : State) (n : ℕ) where
   executed-done i e = ap (λ (b : Bool). cond b (stopped 3 (entryOf P s n i)) (completed (entryOf P s n i) (performed P s n i))) e
 
   -- a turn under the lists
-  pub monitored-permitted : (e : Entry) (s′ : State) → turn P s n ≡ completed e s′ → permitted P e ≡ true → monitoredTurn P s n ≡ completed e s′
+  pub monitored-permitted : (e : Entry) (s′ : State) → turn P s n ≡ completed e s′ → permitted P e ≡ true
+      → monitoredTurn P s n ≡ completed e s′
   unfolding monitoredTurn
   monitored-permitted e s′ t p = ap (enforced P) t ∙ ap (λ (b : Bool). cond b (completed e s′) (stopped 1 (redacted e))) p
 
-  pub monitored-forbidden : (e : Entry) (s′ : State) → turn P s n ≡ completed e s′ → permitted P e ≡ false → monitoredTurn P s n ≡ stopped 1 (redacted e)
+  pub monitored-forbidden : (e : Entry) (s′ : State) → turn P s n ≡ completed e s′ → permitted P e ≡ false
+      → monitoredTurn P s n ≡ stopped 1 (redacted e)
   unfolding monitoredTurn
   monitored-forbidden e s′ t p = ap (enforced P) t ∙ ap (λ (b : Bool). cond b (completed e s′) (stopped 1 (redacted e))) p
 

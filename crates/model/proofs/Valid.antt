@@ -7,10 +7,13 @@ use mathlib.Core.Option.{some}
 use native.Mathlib.Omega.{arith}
 use lib.Dec.{leb, eqb}
 use borrow.Author.Tests.{leb-false, ltb-false, eqb-true}
-use Rattle.model.specs.Table.{FLOW, NODE, VAR, FUN, ARG, TURN, OperandKind, scope, owner, start, answer, node, port, target, function, value, variable, jump, absent, limit, isAmong, largestIn, largestOf, maxFlows, maxNodes, maxVariables, maxFunctions, maxArgCommands, maxTurns}
+use Rattle.model.specs.Table.{FLOW, NODE, VAR, FUN, ARG, TURN, OperandKind, scope, owner, start, answer, node, port, target, function}
+use Rattle.model.specs.Table.{value, variable, jump, absent, limit, isAmong, largestIn, largestOf, maxFlows, maxNodes, maxVariables}
+use Rattle.model.specs.Table.{maxFunctions, maxArgCommands, maxTurns}
 use Rattle.model.specs.Command.{Command, is}
 use Rattle.model.specs.Declared.{countOf, countAmong, isHandler, openBody, belongs, bodyLength}
-use Rattle.model.specs.Refusal.{groupFalls, isReached, exceedsCount, countsOf, noOwner, namesNothing, undeclared, outOfReach, repeated, violation, accepted, decode, decodeJob, sizes}
+use Rattle.model.specs.Refusal.{groupFalls, isReached, exceedsCount, countsOf, noOwner, namesNothing, undeclared, outOfReach}
+use Rattle.model.specs.Refusal.{repeated, violation, accepted, decode, decodeJob, sizes}
 use Rattle.model.specs.Conclusion.{Reads, begin, further, Refuses}
 use Rattle.model.specs.Valid.{InRange, Valid, Passes, ValidJob, Named, Limits}
 use Rattle.model.proofs.Reading.{read-at}
@@ -40,7 +43,8 @@ reads-valid {job} (further place past c next reads h e v) = (reads-valid reads, 
 
 -- an accepted job's commands are valid, after tests 1 to 8, 1 to 9 and 1 to 12
 pub decoded-valid : (job : List ℕ) (past : List Command) → decode job ≡ accepted past → Valid past
-decoded-valid job past e = let w : Decides (PassedEight job) (Refuses job (sizes 0 0 0)) (accepted past) = rw e at (decode-walked job (sizes 0 0 0)) in reads-valid (w .reads)
+decoded-valid job past e = let w : Decides (PassedEight job) (Refuses job (sizes 0 0 0)) (accepted past) = rw e at
+    (decode-walked job (sizes 0 0 0)) in reads-valid (w .reads)
 
 pub job-accepted : (job : List ℕ) (past : List Command) → decodeJob job ≡ accepted past → PassedNine job past
 job-accepted job past e = rw e at (decode-job-walked job (sizes 0 0 0))
@@ -49,7 +53,8 @@ pub job-valid : (job : List ℕ) (past : List Command) → decodeJob job ≡ acc
 job-valid job past e = let j = job-accepted job past e in record { commands = reads-valid (j .read .reads); jumps = j .jumps }
 
 -- a largest count is kept
-module _ (past : List Command) (c : Command) (b most : ℕ) (m : largestOf b ≡ some (limit (b ∷ []) most)) (e : exceedsCount past c ≡ false) where
+module _ (past : List Command) (c : Command) (b most : ℕ) (m : largestOf b ≡ some (limit (b ∷ []) most))
+    (e : exceedsCount past c ≡ false) where
   count-step : countOf b past ≤ most → (t : Bool) → is b c ≡ t → cond t (countOf b past + 1) (countOf b past) ≤ most
   unfolding countAmong
   count-step h false p = h
@@ -62,7 +67,8 @@ module _ (past : List Command) (c : Command) (b most : ℕ) (m : largestOf b ≡
 pub count-limit : (past : List Command) → Valid past → (b most : ℕ) → largestOf b ≡ some (limit (b ∷ []) most) → countOf b past ≤ most
 unfolding countOf
 count-limit [] v b most m = zero-le
-count-limit (c ∷ past) v b most m = count-step past c b most m (passes past c (v .2) .counted) (count-limit past (v .0) b most m) (is b c) refl
+count-limit (c ∷ past) v b most m = count-step past c b most m (passes past c (v .2) .counted) (count-limit past (v .0) b most m)
+    (is b c) refl
 
 -- a handler's largest count is kept
 handler-step :

@@ -10,8 +10,10 @@ use lib.ListN.{length}
 use borrow.Author.Tests.{ltb-true, ltb-false, eqb-true, eqb-false}
 use Rattle.model.specs.Table.{maxJob}
 use Rattle.model.specs.Command.{Command, Parsed, whole, unknown, cutShort, readCommand}
-use Rattle.model.specs.Refusal.{violation, Refusal, refuse, Decoded, accepted, rejected, decodeNext, decodeRead, decodeFrom, decode, acceptUnless, andThen, farJump, decodeJob, Sizes, shortBuffer, decodeFor}
-use Rattle.model.specs.Conclusion.{HasLength, Reads, begin, further, Refuses, empty, long, noCommand, cutOff, violates, jumpsFar, hasShortBuffer, Accepts}
+use Rattle.model.specs.Refusal.{violation, Refusal, refuse, Decoded, accepted, rejected, decodeNext, decodeRead, decodeFrom, decode}
+use Rattle.model.specs.Refusal.{acceptUnless, andThen, farJump, decodeJob, Sizes, shortBuffer, decodeFor}
+use Rattle.model.specs.Conclusion.{HasLength, Reads, begin, further, Refuses, empty, long, noCommand, cutOff, violates, jumpsFar}
+use Rattle.model.specs.Conclusion.{hasShortBuffer, Accepts}
 use Rattle.model.proofs.Reading.{read-at}
 
 -- a property of the commands if they are accepted, and one of the refusal if they are not
@@ -26,10 +28,13 @@ module _ (job : List ℕ) (b : Sizes) (size : HasLength job) where
 
   -- the rest of the walk, with a bound on the commands left that is high enough
   abbrev Rest : ℕ → (ℕ → List Command → Decoded) → Type 0
-  Rest fuel rest = (place : ℕ) (past : List Command) → Reads job place past → place ≤ length job → length job ≤ place + fuel → Walked (rest place past)
+  Rest fuel rest = (place : ℕ) (past : List Command) → Reads job place past → place ≤ length job → length job ≤ place + fuel
+      → Walked (rest place past)
 
-  module _ (fuel : ℕ) (rest : ℕ → List Command → Decoded) (ih : Rest fuel rest) (place : ℕ) (past : List Command) (reads : Reads job place past) (h : place < length job) (enough : length job ≤ place + suc fuel) where
-    next-walked : (c : Command) (next k : ℕ) → readCommand job place ≡ whole c next → violation past c ≡ k → Walked (decodeNext rest place past c next k)
+  module _ (fuel : ℕ) (rest : ℕ → List Command → Decoded) (ih : Rest fuel rest) (place : ℕ) (past : List Command)
+      (reads : Reads job place past) (h : place < length job) (enough : length job ≤ place + suc fuel) where
+    next-walked : (c : Command) (next k : ℕ) → readCommand job place ≡ whole c next → violation past c ≡ k
+        → Walked (decodeNext rest place past c next k)
     next-walked c next zero e v =
         let r = read-at job place c next e in
         ih next (c ∷ past) (further place past c next reads h e v) (r .inside) (omega (arith, r .later))
@@ -40,13 +45,16 @@ module _ (job : List ℕ) (b : Sizes) (size : HasLength job) where
     read-walked cutShort e = cutOff size place past reads h e
     read-walked (whole c next) e = next-walked c next (violation past c) e refl
 
-  from-walked : (fuel place : ℕ) (past : List Command) → Reads job place past → place ≤ length job → length job ≤ place + fuel → Walked (decodeFrom fuel job place past)
+  from-walked : (fuel place : ℕ) (past : List Command) → Reads job place past → place ≤ length job → length job ≤ place + fuel
+      → Walked (decodeFrom fuel job place past)
   unfolding decodeFrom
   from-walked zero place past reads i f = let here : place ≡ length job = omega arith in rw here at reads
   from-walked (suc fuel) place past reads i f = by-place (ltb place (length job)) refl (from-walked fuel)
     where
-      by-place : (t : Bool) → ltb place (length job) ≡ t → Rest fuel (decodeFrom fuel job) → Walked (cond t (decodeRead (decodeFrom fuel job) place past (readCommand job place)) (accepted past))
-      by-place true t ih = read-walked fuel (decodeFrom fuel job) ih place past reads (ltb-true place (length job) t) f (readCommand job place) refl
+      by-place : (t : Bool) → ltb place (length job) ≡ t → Rest fuel (decodeFrom fuel job)
+          → Walked (cond t (decodeRead (decodeFrom fuel job) place past (readCommand job place)) (accepted past))
+      by-place true t ih = read-walked fuel (decodeFrom fuel job) ih place past reads (ltb-true place (length job) t) f
+          (readCommand job place) refl
       by-place false t ih = let here : place ≡ length job = omega (arith, ltb-false place (length job) t) in rw here at reads
 
 -- a job whose commands pass the tests 1 to 8
@@ -59,7 +67,8 @@ pub decode-walked : (job : List ℕ) (b : Sizes) → Decides (PassedEight job) (
 unfolding decode
 decode-walked job b = by-length (eqb (length job) 0) refl (ltb maxJob (length job)) refl
   where
-    sized : (size : HasLength job) (d : Decoded) → Decides (Reads job (length job)) (Refuses job b) d → Decides (PassedEight job) (Refuses job b) d
+    sized : (size : HasLength job) (d : Decoded) → Decides (Reads job (length job)) (Refuses job b) d
+        → Decides (PassedEight job) (Refuses job b) d
     sized size (accepted past) q = record { size = size; reads = q }
     sized size (rejected r) q = q
 
@@ -69,13 +78,18 @@ decode-walked job b = by-length (eqb (length job) 0) refl (ltb maxJob (length jo
     by-length true p u q = empty (eqb-true (length job) 0 p)
     by-length false p true q = long (ltb-true maxJob (length job) q)
     by-length false p false q =
-        let size : HasLength job = record { lowest = omega (arith, eqb-false (length job) 0 p); highest = ltb-false maxJob (length job) q } in
+        let size : HasLength job = record {
+          lowest = omega (arith, eqb-false (length job) 0 p);
+          highest = ltb-false maxJob
+              (length job) q;
+        } in
         sized size (decodeFrom (length job) job 0 []) (from-walked job b size (length job) 0 [] begin (omega arith) (omega arith))
 
 -- a further test, if all commands are accepted so far
 and-then-walked :
     (Q S : List Command → Type 0) (R : Refusal → Type 0) (test : List Command → Option Refusal) (d : Decoded)
-    → ((past : List Command) → Q past → test past ≡ none → S past) → ((past : List Command) (r : Refusal) → Q past → test past ≡ some r → R r)
+    → ((past : List Command) → Q past → test past ≡ none → S past)
+    → ((past : List Command) (r : Refusal) → Q past → test past ≡ some r → R r)
     → Decides Q R d → Decides S R (andThen test d)
 and-then-walked Q S R test (rejected r) pass fail q = q
 and-then-walked Q S R test (accepted past) pass fail q = by-test (test past) refl

@@ -8,8 +8,10 @@ use borrow.Author.Tests.{ltb-true, ltb-false, eqb-true, eqb-false}
 use Rattle.model.specs.Table.{SET, TAKE, GET, PUT, ADD, PLUS, JUMPZ, JUMP, SEND, CALL, maxNodes}
 use Rattle.model.specs.Declared.{Instruction}
 use Rattle.model.specs.Program.{Program}
-use Rattle.model.specs.State.{State, idle, positionAt, accumulatorAt, messageAt, waitingAt, variableAt, withPosition, withAccumulator, withQueues, withVariable}
-use Rattle.model.specs.Turn.{Entry, entry, Turned, completed, stopped, oldest, begun, finished, delivered, sum32, performed, advanced, entryOf, blocked, instructionAt, turn}
+use Rattle.model.specs.State.{State, idle, positionAt, accumulatorAt, messageAt, waitingAt, variableAt, withPosition, withAccumulator}
+use Rattle.model.specs.State.{withQueues, withVariable}
+use Rattle.model.specs.Turn.{Entry, entry, Turned, completed, stopped, oldest, begun, finished, delivered, sum32, performed, advanced}
+use Rattle.model.specs.Turn.{entryOf, blocked, instructionAt, turn}
 use Rattle.model.specs.Permission.{permitted, redacted, enforced, monitoredTurn}
 use Rattle.model.proofs.Logic.{or-first, or-second}
 
@@ -42,7 +44,8 @@ pub performed-with :
     → ((x : ℕ) → Q (advanced (withVariable s x (accumulatorAt s n)) n))
     → Q (advanced s n)
     → (isJump i ≡ true → Q (withPosition s n (i .operand)))
-    → (eqb (i .byte) SEND ≡ true → Q (advanced (withQueues s (delivered (P .wired n (i .operand)) (accumulatorAt s n) (s .queue) maxNodes)) n))
+    → (eqb (i .byte) SEND ≡ true → Q (advanced (withQueues s (delivered (P .wired n (i .operand)) (accumulatorAt s n) (s .queue) maxNodes))
+    n))
     → Q (performed P s n i)
 performed-with R Q P s n i new sets writes on jumps sends =
     either Q (eqb (i .byte) SET) _ _ (λ _. sets _ (new .operand)) λ _.
@@ -64,16 +67,19 @@ pub performed-by :
     → ((x : ℕ) → Q (advanced (withVariable s x (accumulatorAt s n)) n))
     → Q (advanced s n)
     → (isJump i ≡ true → Q (withPosition s n (i .operand)))
-    → (eqb (i .byte) SEND ≡ true → Q (advanced (withQueues s (delivered (P .wired n (i .operand)) (accumulatorAt s n) (s .queue) maxNodes)) n))
+    → (eqb (i .byte) SEND ≡ true → Q (advanced (withQueues s (delivered (P .wired n (i .operand)) (accumulatorAt s n) (s .queue) maxNodes))
+    n))
     → Q (performed P s n i)
-performed-by Q P s n i sets = performed-with (λ a. Unit {0}) Q P s n i (record { operand = tt; message = tt; variable = tt; sum = λ a b. tt; answer = tt }) (λ a v. sets a)
+performed-by Q P s n i sets = performed-with (λ a. Unit {0}) Q P s n i
+    (record { operand = tt; message = tt; variable = tt; sum = λ a b. tt; answer = tt }) (λ a v. sets a)
 
 -- the node is not ready, takes a message, is stopped at a full target, carries out a command, or becomes idle
 pub turn-by :
     (Q : Turned → Type 0) (P : Program) (s : State) (n : ℕ)
     → (positionAt s n ≡ idle → waitingAt s n ≡ 0 → Q (stopped 2 (entry n 0 0 0)))
     → (positionAt s n ≡ idle → ¬ (waitingAt s n ≡ 0) → Q (completed (entry n 1 0 (oldest s n)) (begun s n)))
-    → (positionAt s n < length (P .handler n) → blocked P s n (instructionAt P n (positionAt s n)) ≡ true → Q (stopped 3 (entryOf P s n (instructionAt P n (positionAt s n)))))
+    → (positionAt s n < length (P .handler n) → blocked P s n (instructionAt P n (positionAt s n)) ≡ true
+    → Q (stopped 3 (entryOf P s n (instructionAt P n (positionAt s n)))))
     → (positionAt s n < length (P .handler n) → blocked P s n (instructionAt P n (positionAt s n)) ≡ false
     → Q (completed (entryOf P s n (instructionAt P n (positionAt s n))) (performed P s n (instructionAt P n (positionAt s n)))))
     → (length (P .handler n) ≤ positionAt s n → Q (completed (entry n 2 0 0) (finished s n)))
@@ -81,10 +87,12 @@ pub turn-by :
 unfolding turn
 turn-by Q P s n unready begins full does ends =
     either Q (eqb (positionAt s n) idle) _ _
-    (λ p. either Q (eqb (waitingAt s n) 0) (stopped 2 _) (completed _ _) (λ w. unready (eqb-true _ _ p) (eqb-true _ _ w)) (λ w. begins (eqb-true _ _ p) (eqb-false (waitingAt s n) 0 w)))
+    (λ p. either Q (eqb (waitingAt s n) 0) (stopped 2 _) (completed _ _) (λ w. unready (eqb-true _ _ p) (eqb-true _ _ w))
+    (λ w. begins (eqb-true _ _ p) (eqb-false (waitingAt s n) 0 w)))
     λ _.
     either Q (ltb (positionAt s n) (length (P .handler n))) _ _
-    (λ l. either Q (blocked P s n (instructionAt P n (positionAt s n))) (stopped 3 _) (completed _ _) (full (ltb-true _ _ l)) (does (ltb-true _ _ l)))
+    (λ l. either Q (blocked P s n (instructionAt P n (positionAt s n))) (stopped 3 _) (completed _ _) (full (ltb-true _ _ l))
+    (does (ltb-true _ _ l)))
     (λ l. ends (ltb-false (positionAt s n) (length (P .handler n)) l))
 
 -- the lists leave an outcome as it is, or make it stop 1
@@ -92,6 +100,7 @@ pub enforced-by : (Q : Turned → Type 0) (P : Program) (t : Turned) → Q t →
 enforced-by Q P (completed e s) q one = either Q (permitted P e) (completed e s) (stopped 1 (redacted e)) (λ _. q) (λ _. one e)
 enforced-by Q P (stopped k e) q one = q
 
-pub monitored-by : (Q : Turned → Type 0) (P : Program) (s : State) (n : ℕ) → Q (turn P s n) → ((e : Entry) → Q (stopped 1 (redacted e))) → Q (monitoredTurn P s n)
+pub monitored-by : (Q : Turned → Type 0) (P : Program) (s : State) (n : ℕ) → Q (turn P s n) → ((e : Entry) → Q (stopped 1 (redacted e)))
+    → Q (monitoredTurn P s n)
 unfolding monitoredTurn
 monitored-by Q P s n q one = enforced-by Q P (turn P s n) q one

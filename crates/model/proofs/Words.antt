@@ -7,7 +7,8 @@ use native.Mathlib.Omega.{arith}
 use native.Mathlib.Nat.{div-div-eq-div-mul, div-add-mod', mod-eq-of-lt}
 use lib.Dec.{eqb}
 use lib.ListN.{length, getD, set, drop}
-use Rattle.model.specs.Table.{VAR, FUN, START, OperandKind, scope, owner, start, answer, node, port, target, function, value, variable, jump, absent, width, operandAt, maxNodes, maxVariables}
+use Rattle.model.specs.Table.{VAR, FUN, START, OperandKind, scope, owner, start, answer, node, port, target, function, value}
+use Rattle.model.specs.Table.{variable, jump, absent, width, operandAt, maxNodes, maxVariables}
 use Rattle.model.specs.Command.{Operands, Command, is, numberAt, firstAt, secondAt, thirdAt, operandsAt}
 use Rattle.model.specs.Declared.{countOf, declared, belongs, Instruction, instruction, handlerOf, startsOf, turnsOf}
 use Rattle.model.specs.Program.{Program, programOf}
@@ -64,7 +65,12 @@ reads-fit : {job : List ℕ} {place : ℕ} {past : List Command} → Bytes job �
 reads-fit bytes begin = tt
 reads-fit {job} bytes (further place past c next reads h e v) =
     let r = read-at job place c next e in
-    let small : OperandsFit (operandsAt job place (r .kinds)) = record { first = number-fits job bytes (firstAt place) (operandAt (r .kinds) 0); second = number-fits job bytes (secondAt place (r .kinds)) (operandAt (r .kinds) 1); third = number-fits job bytes (thirdAt place (r .kinds)) (operandAt (r .kinds) 2) } in
+    let small : OperandsFit (operandsAt job place (r .kinds)) = record {
+      first = number-fits job bytes (firstAt place) (operandAt (r .kinds) 0);
+      second = number-fits job bytes (secondAt place (r .kinds))
+          (operandAt (r .kinds) 1);
+      third = number-fits job bytes (thirdAt place (r .kinds)) (operandAt (r .kinds) 2);
+    } in
     (reads-fit bytes reads, rw (← r .command) small)
 
 pub job-fit : (job : List ℕ) (past : List Command) → Bytes job → decodeJob job ≡ accepted past → CommandsFit past
@@ -83,18 +89,21 @@ declared-fits f small b (c ∷ past) fit x = by-test (is b c && eqb (countOf b p
     by-test false h = h
 
 -- the operands of a handler, and the first messages
-handler-fits : (past : List Command) → CommandsFit past → (n i : ℕ) → i < length (handlerOf past n) → getD (handlerOf past n) i (instruction 0 0) .operand < 2 ^ 32
+handler-fits : (past : List Command) → CommandsFit past → (n i : ℕ) → i < length (handlerOf past n)
+    → getD (handlerOf past n) i (instruction 0 0) .operand < 2 ^ 32
 unfolding handlerOf
 handler-fits [] fit n = λ i h. absurd (omega arith)
 handler-fits (c ∷ past) fit n =
-    only-each (λ (i : Instruction). i .operand < 2 ^ 32) (instruction 0 0) (handlerOf past n) (belongs past c n) (instruction (c .byte) (c .operands .first))
+    only-each (λ (i : Instruction). i .operand < 2 ^ 32) (instruction 0 0) (handlerOf past n) (belongs past c n)
+    (instruction (c .byte) (c .operands .first))
     (handler-fits past (fit .0) n) (λ _. fit .1 .first)
 
 starts-fit : (past : List Command) → CommandsFit past → (n i : ℕ) → i < length (startsOf past n) → getD (startsOf past n) i 0 < 2 ^ 32
 unfolding startsOf
 starts-fit [] fit n = λ i h. absurd (omega arith)
 starts-fit (c ∷ past) fit n =
-    only-each (λ m. m < 2 ^ 32) 0 (startsOf past n) (is START c && eqb (c .operands .first) n) (c .operands .second) (starts-fit past (fit .0) n) (λ _. fit .1 .second)
+    only-each (λ m. m < 2 ^ 32) 0 (startsOf past n) (is START c && eqb (c .operands .first) n) (c .operands .second)
+    (starts-fit past (fit .0) n) (λ _. fit .1 .second)
 
 program-fits : (past : List Command) → CommandsFit past → ProgramFits (programOf past)
 unfolding programOf
@@ -102,7 +111,8 @@ program-fits past fit =
     record {
       startValue = declared-fits (λ c before. c .operands .third) (λ c before o. o .third) VAR past fit;
       answer = λ f argument. declared-fits (λ c before. c .operands .first) (λ c before o. o .first) FUN past fit f;
-      operand = λ n. getD-each (λ k (i : Instruction). i .operand < 2 ^ 32) (instruction 0 0) (handlerOf past n) (handler-fits past fit n) (λ k. omega arith);
+      operand = λ n. getD-each (λ k (i : Instruction). i .operand < 2 ^ 32) (instruction 0 0) (handlerOf past n) (handler-fits past fit n)
+          (λ k. omega arith);
       firstMessage = λ n. getD-each (λ k m. m < 2 ^ 32) 0 (startsOf past n) (starts-fit past fit n) (λ k. omega arith);
     }
 
@@ -113,7 +123,8 @@ initial-fits P fit =
     record {
       accumulator = replicate-each (λ n a. a < 2 ^ 32) 0 maxNodes 0 (λ n. omega arith) (λ n. omega arith);
       message = replicate-each (λ n a. a < 2 ^ 32) 0 maxNodes 0 (λ n. omega arith) (λ n. omega arith);
-      queue = tabulate-each (λ n (q : List ℕ). (i : ℕ) → getD q i 0 < 2 ^ 32) [] maxNodes (P .firstMessages) (fit .firstMessage) (λ n i. omega arith);
+      queue = tabulate-each (λ n (q : List ℕ). (i : ℕ) → getD q i 0 < 2 ^ 32) [] maxNodes (P .firstMessages) (fit .firstMessage)
+          (λ n i. omega arith);
       variable = tabulate-each (λ x a. a < 2 ^ 32) 0 maxVariables (P .startValue) (fit .startValue) (λ x. omega arith);
     }
 
@@ -137,9 +148,11 @@ delivered-fits to a qs l h (suc k) = by-target (to k) (delivered-fits to a qs l 
   where
     by-target :
         (t : Bool) → ((n i : ℕ) → getD (getD (delivered to a qs k) n []) i 0 < 2 ^ 32)
-        → (n i : ℕ) → getD (getD (cond t (set (delivered to a qs k) k (getD (delivered to a qs k) k [] ++ (a ∷ []))) (delivered to a qs k)) n []) i 0 < 2 ^ 32
+        → (n i : ℕ) → getD (getD (cond t (set (delivered to a qs k) k (getD (delivered to a qs k) k [] ++ (a ∷ []))) (delivered to a qs k))
+        n []) i 0 < 2 ^ 32
     by-target false ih = ih
-    by-target true ih = set-each (λ n (q : List ℕ). (i : ℕ) → getD q i 0 < 2 ^ 32) [] (delivered to a qs k) k (getD (delivered to a qs k) k [] ++ (a ∷ [])) (snoc-fits (getD (delivered to a qs k) k []) a l (ih k)) ih
+    by-target true ih = set-each (λ n (q : List ℕ). (i : ℕ) → getD q i 0 < 2 ^ 32) [] (delivered to a qs k) k
+        (getD (delivered to a qs k) k [] ++ (a ∷ [])) (snoc-fits (getD (delivered to a qs k) k []) a l (ih k)) ih
 
 -- a turn
 module _ (P : Program) (fit : ProgramFits P) (s : State) (n : ℕ) (h : Fits s) where
@@ -149,12 +162,37 @@ module _ (P : Program) (fit : ProgramFits P) (s : State) (n : ℕ) (h : Fits s) 
   performed-fits : (i : Instruction) → i .operand < 2 ^ 32 → Fits (performed P s n i)
   performed-fits i small =
       performed-with (λ a. a < 2 ^ 32) Fits P s n i
-      (record { operand = small; message = h .message n; variable = h .variable (i .operand); sum = λ a b. sum-fits a b; answer = fit .answer (i .operand) (accumulatorAt s n) })
-      (λ a l. record { accumulator = set-fits (s .accumulator) a l (h .accumulator) n; message = h .message; queue = h .queue; variable = h .variable })
-      (λ x. record { accumulator = h .accumulator; message = h .message; queue = h .queue; variable = set-fits (s .variable) (accumulatorAt s n) (h .accumulator n) (h .variable) x })
+      (record {
+        operand = small;
+        message = h .message n;
+        variable = h .variable
+            (i .operand);
+        sum = λ a b. sum-fits a b;
+        answer = fit .answer (i .operand) (accumulatorAt s n);
+      })
+      (λ a l. record {
+        accumulator = set-fits (s .accumulator) a l
+            (h .accumulator) n;
+        message = h .message;
+        queue = h .queue;
+        variable = h .variable;
+      })
+      (λ x. record {
+        accumulator = h .accumulator;
+        message = h .message;
+        queue = h .queue;
+        variable = set-fits (s .variable)
+            (accumulatorAt s n) (h .accumulator n) (h .variable) x;
+      })
       (record { accumulator = h .accumulator; message = h .message; queue = h .queue; variable = h .variable })
       (λ j. record { accumulator = h .accumulator; message = h .message; queue = h .queue; variable = h .variable })
-      (λ e. record { accumulator = h .accumulator; message = h .message; queue = delivered-fits (P .wired n (i .operand)) (accumulatorAt s n) (s .queue) (h .accumulator n) (h .queue) maxNodes; variable = h .variable })
+      (λ e. record {
+        accumulator = h .accumulator;
+        message = h .message;
+        queue = delivered-fits (P .wired n (i .operand))
+            (accumulatorAt s n) (s .queue) (h .accumulator n) (h .queue) maxNodes;
+        variable = h .variable;
+      })
     where
       sum-fits : (a b : ℕ) → sum32 a b < 2 ^ 32
       sum-fits a b = omega arith
@@ -166,7 +204,8 @@ module _ (P : Program) (fit : ProgramFits P) (s : State) (n : ℕ) (h : Fits s) 
       record {
         accumulator = set-fits (s .accumulator) 0 (omega arith) (h .accumulator) n;
         message = set-fits (s .message) _ (h .queue n 0) (h .message) n;
-        queue = set-each (λ m (q : List ℕ). (i : ℕ) → getD q i 0 < 2 ^ 32) [] (s .queue) n _ (rest-fits (queueAt s n) (h .queue n)) (h .queue);
+        queue = set-each (λ m (q : List ℕ). (i : ℕ) → getD q i 0 < 2 ^ 32) [] (s .queue) n _ (rest-fits (queueAt s n) (h .queue n))
+            (h .queue);
         variable = h .variable;
       })
       (λ l f. tt)
@@ -189,11 +228,13 @@ module _ (job : List ℕ) (b : Sizes) (past : List Command) (bytes : Bytes job) 
 
   pub unmonitored-words : (k : ℕ) → Fits (stateAt (unmonitoredOf past) k)
   unfolding unmonitoredRun
-  unmonitored-words = run-each Fits (turn (programOf past)) (turn-fits (programOf past) fitting) (turnsOf past) (initialState (programOf past)) (initial-fits (programOf past) fitting)
+  unmonitored-words = run-each Fits (turn (programOf past)) (turn-fits (programOf past) fitting) (turnsOf past)
+      (initialState (programOf past)) (initial-fits (programOf past) fitting)
 
   pub monitored-words : (k : ℕ) → Fits (stateAt (monitoredOf past) k)
   unfolding monitoredRun
-  monitored-words = run-each Fits (monitoredTurn (programOf past)) (monitored-turn-fits (programOf past) fitting) (turnsOf past) (initialState (programOf past)) (initial-fits (programOf past) fitting)
+  monitored-words = run-each Fits (monitoredTurn (programOf past)) (monitored-turn-fits (programOf past) fitting) (turnsOf past)
+      (initialState (programOf past)) (initial-fits (programOf past) fitting)
 
 -- the 4 bytes of a number below 2^32 are bytes, and spell it again
 pub bytes-below : (v i : ℕ) → getD (bytes4 v) i 0 < 256

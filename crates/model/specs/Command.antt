@@ -34,7 +34,7 @@ pub record Command : Type 0 where
 abbrev pub is : ℕ → Command → Bool
 is b c = eqb (c .byte) b
 
--- the number that so many bytes of a job spell from a place on, lowest byte first
+-- the number that `w` bytes of a job spell from a place on, lowest byte first
 unfoldable pub numberAt : List ℕ → ℕ → ℕ → ℕ
 numberAt job place zero = 0
 numberAt job place (suc w) = getD job place 0 + 256 * numberAt job (place + 1) w
@@ -52,7 +52,7 @@ thirdAt place kinds = secondAt place kinds + width (operandAt kinds 1)
 abbrev pub endAt : ℕ → List OperandKind → ℕ
 endAt place kinds = thirdAt place kinds + width (operandAt kinds 2)
 
--- the operands of these kinds behind a command byte
+-- the operands of these kinds after a command byte
 abbrev pub operandsAt : List ℕ → ℕ → List OperandKind → Operands
 operandsAt job place kinds =
     ternary (numberAt job (firstAt place) (width (operandAt kinds 0)))
@@ -63,7 +63,7 @@ operandsAt job place kinds =
 abbrev pub commandAt : List ℕ → ℕ → List OperandKind → Command
 commandAt job place kinds = record { place = place; byte = getD job place 0; operands = operandsAt job place kinds }
 
--- what is read at a place: a command with the place behind it, no command byte, or a command whose operands run past the end
+-- what is read at a place: a command with the place after it, no command byte, or a command whose operands run past the end
 pub data Parsed : Type 0 where
   whole : Command → ℕ → Parsed
   unknown : Parsed

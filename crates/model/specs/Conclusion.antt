@@ -1,4 +1,5 @@
--- Demand 1 of the definitions: a job is refused at the first test that it fails, by number and place, buffers untouched; every other job runs to one of the four stops.
+-- Demand 1 of the definitions: a job is refused at the first test that it fails, by number and place, buffers untouched; every other job
+-- runs to one of the four stops.
 use Prim.Native.Nat.{ℕ, _*_, _≤_, _<_}
 use mathlib.Core.Path.{_≡_}
 use mathlib.Core.Logic.{_↔_, _⊎_}
@@ -12,7 +13,8 @@ use Rattle.model.specs.Program.{Program, programOf}
 use Rattle.model.specs.Run.{Run, monitoredRun, unmonitoredRun}
 use Rattle.model.specs.Output.{Answer, traceIn, snapshotBytes}
 use Rattle.model.specs.Refusal.{violation, Refusal, refuse, farJump, Sizes, snapshotSize, workSize, shortBuffer}
-use Rattle.model.specs.Result.{Result, refused, ran, report, monitored, unmonitored, Buffers, sizesOf, traceAfter, snapshotAfter, workAfter}
+use Rattle.model.specs.Result.{Result, refused, ran, report, monitored, unmonitored, Buffers, sizesOf, traceAfter, snapshotAfter}
+use Rattle.model.specs.Result.{workAfter}
 
 -- the job is neither empty nor longer than 16,384 bytes
 pub record HasLength (job : List ℕ) : Type 0 where
@@ -40,7 +42,8 @@ pub data Refuses (job : List ℕ) (b : Sizes) : Refusal → Type 0 where
       → Reads job place past → place < length job → readCommand job place ≡ cutShort → Refuses job b (refuse 3 place)
   violates :
       HasLength job → (place : ℕ) (past : List Command) (c : Command) (next k : ℕ)
-      → Reads job place past → place < length job → readCommand job place ≡ whole c next → violation past c ≡ k → ¬ (k ≡ 0) → Refuses job b (refuse k place)
+      → Reads job place past → place < length job → readCommand job place ≡ whole c next → violation past c ≡ k → ¬ (k ≡ 0)
+      → Refuses job b (refuse k place)
   -- 9, after all commands
   jumpsFar :
       HasLength job → (past : List Command) (r : Refusal)
@@ -57,7 +60,8 @@ pub record Accepts (job : List ℕ) (b : Sizes) (past : List Command) : Type 0 w
   pub jumps : farJump past ≡ none
   pub buffers : shortBuffer job b past ≡ none
 
--- a run ends with a stop from 0 to 3 after at most 4,096 turns; its trace has 7 bytes a completed turn, its snapshot at most 2,624, and the buffers hold them
+-- a run ends with a stop from 0 to 3 after at most 4,096 turns; its trace has 7 bytes a completed turn, its snapshot at most 2,624, and the
+-- buffers hold them
 pub record Ends (P : Program) (b : Sizes) (r : Run) : Type 0 where
   pub stops : r .stop ≤ 3
   pub turns : length (r .steps) ≤ maxTurns
@@ -103,11 +107,13 @@ pub record Leaves (result : Result) (b : Buffers) : Type 0 where
   -- a refusal changes none of them
   pub untouched :
       (r : Refusal) → result ≡ refused r
-      → (traceAfter result (b .trace) ≡ b .trace) × (snapshotAfter result (b .snapshot) ≡ b .snapshot) × (workAfter result (b .work) ≡ b .work)
+      → (traceAfter result (b .trace) ≡ b .trace) × (snapshotAfter result (b .snapshot) ≡ b .snapshot) ×
+      (workAfter result (b .work) ≡ b .work)
   -- a run leaves its trace, its snapshot, and 16,384 zero bytes
   pub filled :
       (a : Answer) (t s : List ℕ) → result ≡ ran a t s
-      → Filled t (b .trace) (traceAfter result (b .trace)) × Filled s (b .snapshot) (snapshotAfter result (b .snapshot)) × Filled (replicate workSize 0) (b .work) (workAfter result (b .work))
+      → Filled t (b .trace) (traceAfter result (b .trace)) × Filled s (b .snapshot) (snapshotAfter result (b .snapshot)) × Filled
+      (replicate workSize 0) (b .work) (workAfter result (b .work))
 
 -- demand 1: every job with any buffers, whatever they hold
 pub record Demand1 (job : List ℕ) (b : Buffers) : Type 0 where

@@ -1,4 +1,5 @@
--- The jobs worked by hand ("Jobs worked by hand"): K1 to K11, and 32 and 33 nodes, as rows of one list that is claimed once; 4,096 and 4,097 turns beside them.
+-- The jobs worked by hand ("Jobs worked by hand"): K1 to K11, and 32 and 33 nodes, as rows of one list that is claimed once; 4,096 and
+-- 4,097 turns beside them.
 -- What is expected is written in bytes, so that no definition of the outputs stands on both sides.
 use Prim.Native.Nat.{ℕ, zero, suc}
 use mathlib.Core.Path.{_≡_}
@@ -34,7 +35,7 @@ monitoredRow job expected = record { job = job; buffers = enough; isMonitored = 
 unfoldable pub unmonitoredRow : List ℕ → Result → Example
 unmonitoredRow job expected = record { job = job; buffers = enough; isMonitored = false; expected = expected }
 
--- so many times the bytes
+-- the bytes repeated
 unfoldable pub times : ℕ → List ℕ → List ℕ
 times zero bytes = []
 times (suc k) bytes = bytes ++ times k bytes
@@ -76,7 +77,7 @@ low v = v ∷ 0 ∷ 0 ∷ 0 ∷ []
 unfoldable pub traced : ℕ → ℕ → ℕ → ℕ → List ℕ
 traced n kind number v = n ∷ kind ∷ number ∷ low v
 
--- a node at a position, with accumulator and message below 256 and so many waiting messages, as it stands in the snapshot
+-- a node at a position, with accumulator and message below 256 and this count of waiting messages, as it stands in the snapshot
 unfoldable pub nodePart : ℕ → ℕ → ℕ → ℕ → List ℕ
 nodePart position accumulator message waiting = position ∷ low accumulator ++ low message ++ (waiting ∷ [])
 
@@ -94,7 +95,8 @@ noEntry = entry 0 0 0 0
 
 -- the trace of K1 with this START value and this value sent: the turns of node 0, those of node 1 up to its call, and the last two
 unfoldable pub k1First : List ℕ → ℕ → List ℕ
-k1First start sent = 0 ∷ 1 ∷ 0 ∷ start ++ traced 0 0 0 0 ++ traced 0 3 0 5 ++ traced 0 6 0 sent ++ traced 0 2 0 0 ++ traced 1 1 0 sent ++ traced 1 0 0 0
+k1First start sent = 0 ∷ 1 ∷ 0 ∷ start ++ traced 0 0 0 0 ++ traced 0 3 0 5 ++ traced 0 6 0 sent ++ traced 0 2 0 0 ++ traced 1 1 0 sent ++
+    traced 1 0 0 0
 
 unfoldable pub k1Last : ℕ → List ℕ
 k1Last sent = traced 1 5 0 sent ++ traced 1 2 0 0
@@ -116,7 +118,8 @@ examples =
     ∷ monitoredRow (k1 k1Read (0xFE ∷ 0xFF ∷ 0xFF ∷ 0xFF ∷ []) 0)
     (ends 1 7 (entry 1 5 0 3) (k1First (0xFE ∷ 0xFF ∷ 0xFF ∷ 0xFF ∷ []) 3) (idleNode ++ nodePart 1 3 3 0 ++ low 5))
     -- K7
-    ∷ monitoredRow k7 (ends 3 33 (entry 0 6 0 0) (traced 0 1 0 1 ++ times 16 (traced 0 6 0 0 ++ traced 0 0 0 0)) (nodePart 0 0 1 16 ++ times 16 (low 0)))
+    ∷ monitoredRow k7 (ends 3 33 (entry 0 6 0 0) (traced 0 1 0 1 ++ times 16 (traced 0 6 0 0 ++ traced 0 0 0 0))
+    (nodePart 0 0 1 16 ++ times 16 (low 0)))
     -- K8
     ∷ monitoredRow [] (refused (refuse 1 0))
     -- K9
@@ -131,7 +134,7 @@ examples =
     ∷ monitoredRow (0x01 ∷ times 33 (0x02 ∷ [])) (refused (refuse 5 33))
     ∷ []
 
--- one flow with one node, and so many turns of the node
+-- one flow with one node, and this many turns of the node
 unfoldable pub manyTurns : ℕ → List ℕ
 manyTurns k = 0x01 ∷ 0x02 ∷ times k (0x60 ∷ 0x00 ∷ [])
 

@@ -16,7 +16,8 @@ pub record RanOut (turns : List ℕ) (r : Run) : Type 0 where
   pub stop : r .stop ≡ 0
   pub attempted : r .attempted ≡ entry 0 0 0 0
 
--- another stop: the turn behind the completed ones is stopped, with this stop and this attempted entry, and the last state is the one that it was tried on
+-- another stop: the turn after the completed ones is stopped, with this stop and this attempted entry, and the last state is the one that
+-- it was tried on
 pub record Halted (rule : State → ℕ → Turned) (turns : List ℕ) (r : Run) : Type 0 where
   pub next : length (r .steps) < length turns
   pub stopping : rule (r .final) (getD turns (length (r .steps)) 0) ≡ stopped (r .stop) (r .attempted)

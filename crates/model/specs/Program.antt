@@ -4,7 +4,8 @@ use mathlib.Core.Bool.{Bool, _||_}
 use mathlib.Core.List.{List}
 use Rattle.model.specs.Table.{FLOW, NODE, VAR, FUN, WIRE, ANY, ARG, READ, WRITE}
 use Rattle.model.specs.Command.{Command, binary, ternary}
-use Rattle.model.specs.Declared.{Instruction, countOf, occurs, flowOf, scopeOf, ownerOf, startOf, funAnswerOf, isShared, handlerOf, startsOf}
+use Rattle.model.specs.Declared.{Instruction, countOf, occurs, flowOf, scopeOf, ownerOf, startOf, funAnswerOf, isShared, handlerOf}
+use Rattle.model.specs.Declared.{startsOf}
 
 -- a program
 pub record Program : Type 0 where

@@ -5,13 +5,14 @@ use mathlib.Core.List.{List, [], _∷_, _++_}
 use Rattle.model.specs.Turn.{entry}
 use Rattle.model.specs.Refusal.{refuse, Sizes, sizes}
 use Rattle.model.specs.Result.{Result, refused}
-use Rattle.model.specs.Examples.{Example, RowsHold, monitoredRow, unmonitoredRow, times, low, traced, nodePart, idleNode, ends, noEntry}
+use Rattle.model.specs.Examples.{Example, RowsHold, monitoredRow, unmonitoredRow, times, low, traced, nodePart, idleNode, ends}
+use Rattle.model.specs.Examples.{noEntry}
 
 -- a monitored row with buffers of these lengths
 unfoldable pub within : Sizes → List ℕ → Result → Example
 within buffers job expected = record { job = job; buffers = buffers; isMonitored = true; expected = expected }
 
--- one flow with so many nodes
+-- one flow with this many nodes
 unfoldable pub nodes : ℕ → List ℕ
 nodes k = 0x01 ∷ times k (0x02 ∷ [])
 
@@ -19,7 +20,7 @@ nodes k = 0x01 ∷ times k (0x02 ∷ [])
 unfoldable pub global : ℕ → List ℕ
 global start = 0x10 ∷ 0x02 ∷ 0x00 ∷ low start
 
--- so many turns of a node
+-- this many turns of a node
 unfoldable pub turns : ℕ → ℕ → List ℕ
 turns k n = times k (0x60 ∷ n ∷ [])
 
@@ -61,7 +62,7 @@ variable scope owner = 0x10 ∷ scope ∷ owner ∷ low 0
 -- 6: what is not declared before, and numbers that are not allowed
 unfoldable pub undeclaredRows : List Example
 undeclaredRows =
-    -- the owner of a variable: a node that is declared behind it, and 1 for a global one; scope 3
+    -- the owner of a variable: a node that is declared after it, and 1 for a global one; scope 3
     monitoredRow (0x01 ∷ variable 0 0 ++ (0x02 ∷ [])) (refused (refuse 6 1))
     ∷ monitoredRow (nodes 2 ++ variable 2 1) (refused (refuse 6 3))
     ∷ monitoredRow (nodes 1 ++ variable 3 0) (refused (refuse 6 2))
@@ -142,7 +143,8 @@ turnRows =
     (ends 0 4 noEntry (traced 0 1 0 1 ++ times 3 (traced 0 0 0 0)) (nodePart 3 10 1 0 ++ low 5))
     -- a flow variable that the node may read and write
     ∷ monitoredRow
-    (nodes 1 ++ 0x10 ∷ 0x01 ∷ 0x00 ∷ low 5 ++ 0x32 ∷ 0x00 ∷ 0x00 ∷ 0x33 ∷ 0x00 ∷ 0x00 ∷ 0x40 ∷ 0x00 ∷ 0x43 ∷ 0x00 ∷ 0x45 ∷ low 1 ++ 0x44 ∷ 0x00 ∷ 0x50 ∷ 0x00 ∷ low 1 ++ turns 4 0)
+    (nodes 1 ++ 0x10 ∷ 0x01 ∷ 0x00 ∷ low 5 ++ 0x32 ∷ 0x00 ∷ 0x00 ∷ 0x33 ∷ 0x00 ∷ 0x00 ∷ 0x40 ∷ 0x00 ∷ 0x43 ∷ 0x00 ∷ 0x45 ∷ low 1 ++ 0x44 ∷
+    0x00 ∷ 0x50 ∷ 0x00 ∷ low 1 ++ turns 4 0)
     (ends 0 4 noEntry (traced 0 1 0 1 ++ traced 0 3 0 5 ++ traced 0 0 0 0 ++ traced 0 4 0 6) (nodePart 3 6 1 0 ++ low 6))
     -- a call that ANY permits: the accumulator becomes the answer
     ∷ monitoredRow
@@ -150,7 +152,8 @@ turnRows =
     (ends 0 3 noEntry (traced 0 1 0 5 ++ traced 0 0 0 0 ++ traced 0 5 0 5) (nodePart 2 9 5 0))
     -- JUMPZ with 3, which goes on, and with 0, which jumps over the last SET
     ∷ monitoredRow
-    (nodes 1 ++ 0x40 ∷ 0x00 ∷ 0x41 ∷ low 3 ++ 0x47 ∷ 0x04 ∷ 0x41 ∷ low 0 ++ 0x47 ∷ 0x05 ∷ 0x41 ∷ low 9 ++ 0x45 ∷ low 4 ++ 0x50 ∷ 0x00 ∷ low 1 ++ turns 6 0)
+    (nodes 1 ++ 0x40 ∷ 0x00 ∷ 0x41 ∷ low 3 ++ 0x47 ∷ 0x04 ∷ 0x41 ∷ low 0 ++ 0x47 ∷ 0x05 ∷ 0x41 ∷ low 9 ++ 0x45 ∷ low 4 ++ 0x50 ∷ 0x00 ∷ low
+    1 ++ turns 6 0)
     (ends 0 6 noEntry (traced 0 1 0 1 ++ times 5 (traced 0 0 0 0)) (nodePart 6 4 1 0))
     -- a forbidden write: the attempted entry shows the accumulator, and the variable is not written
     ∷ monitoredRow
@@ -158,16 +161,21 @@ turnRows =
     (ends 1 2 (entry 0 4 0 7) (traced 0 1 0 1 ++ traced 0 0 0 0) (nodePart 1 7 1 0 ++ low 5))
     -- a send to two targets, and one to a port that is not wired
     ∷ monitoredRow
-    (nodes 3 ++ 0x20 ∷ 0x00 ∷ 0x02 ∷ 0x01 ∷ 0x20 ∷ 0x00 ∷ 0x02 ∷ 0x02 ∷ 0x40 ∷ 0x00 ∷ 0x42 ∷ 0x49 ∷ 0x02 ∷ 0x49 ∷ 0x03 ∷ 0x50 ∷ 0x00 ∷ low 9 ++ turns 4 0)
-    (ends 0 4 noEntry (traced 0 1 0 9 ++ traced 0 0 0 0 ++ traced 0 6 2 9 ++ traced 0 6 3 9) (nodePart 3 9 9 0 ++ times 2 (nodePart 255 0 0 1 ++ low 9)))
+    (nodes 3 ++ 0x20 ∷ 0x00 ∷ 0x02 ∷ 0x01 ∷ 0x20 ∷ 0x00 ∷ 0x02 ∷ 0x02 ∷ 0x40 ∷ 0x00 ∷ 0x42 ∷ 0x49 ∷ 0x02 ∷ 0x49 ∷ 0x03 ∷ 0x50 ∷ 0x00 ∷ low
+    9 ++ turns 4 0)
+    (ends 0 4 noEntry (traced 0 1 0 9 ++ traced 0 0 0 0 ++ traced 0 6 2 9 ++ traced 0 6 3 9)
+    (nodePart 3 9 9 0 ++ times 2 (nodePart 255 0 0 1 ++ low 9)))
     -- the oldest message is taken first
     ∷ monitoredRow
     (nodes 2 ++ 0x20 ∷ 0x00 ∷ 0x00 ∷ 0x01 ∷ 0x40 ∷ 0x00 ∷ 0x49 ∷ 0x00 ∷ 0x42 ∷ 0x49 ∷ 0x00 ∷ 0x50 ∷ 0x00 ∷ low 9 ++ turns 4 0 ++ turns 1 1)
-    (ends 0 5 noEntry (traced 0 1 0 9 ++ traced 0 6 0 0 ++ traced 0 0 0 0 ++ traced 0 6 0 9 ++ traced 1 1 0 0) (nodePart 3 9 9 0 ++ nodePart 0 0 0 1 ++ low 9))
+    (ends 0 5 noEntry (traced 0 1 0 9 ++ traced 0 6 0 0 ++ traced 0 0 0 0 ++ traced 0 6 0 9 ++ traced 1 1 0 0)
+    (nodePart 3 9 9 0 ++ nodePart 0 0 0 1 ++ low 9))
     -- a send whose second target is full delivers to nobody
     ∷ monitoredRow
-    (nodes 2 ++ 0x20 ∷ 0x00 ∷ 0x00 ∷ 0x00 ∷ 0x20 ∷ 0x00 ∷ 0x00 ∷ 0x01 ∷ 0x20 ∷ 0x00 ∷ 0x01 ∷ 0x01 ∷ 0x40 ∷ 0x00 ∷ times 16 (0x49 ∷ 0x01 ∷ []) ++ 0x42 ∷ 0x49 ∷ 0x00 ∷ 0x50 ∷ 0x00 ∷ low 3 ++ turns 19 0)
-    (ends 3 18 (entry 0 6 0 3) (traced 0 1 0 3 ++ times 16 (traced 0 6 1 0) ++ traced 0 0 0 0) (nodePart 17 3 3 0 ++ nodePart 255 0 0 16 ++ times 16 (low 0)))
+    (nodes 2 ++ 0x20 ∷ 0x00 ∷ 0x00 ∷ 0x00 ∷ 0x20 ∷ 0x00 ∷ 0x00 ∷ 0x01 ∷ 0x20 ∷ 0x00 ∷ 0x01 ∷ 0x01 ∷ 0x40 ∷ 0x00 ∷ times 16
+    (0x49 ∷ 0x01 ∷ []) ++ 0x42 ∷ 0x49 ∷ 0x00 ∷ 0x50 ∷ 0x00 ∷ low 3 ++ turns 19 0)
+    (ends 3 18 (entry 0 6 0 3) (traced 0 1 0 3 ++ times 16 (traced 0 6 1 0) ++ traced 0 0 0 0)
+    (nodePart 17 3 3 0 ++ nodePart 255 0 0 16 ++ times 16 (low 0)))
     ∷ []
 
 -- every row holds

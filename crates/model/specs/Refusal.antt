@@ -5,7 +5,9 @@ use mathlib.Core.List.{List, [], _∷_}
 use mathlib.Core.Option.{Option, none, some}
 use lib.Dec.{leb, ltb, eqb}
 use lib.ListN.{length}
-use Rattle.model.specs.Table.{FLOW, NODE, VAR, FUN, WIRE, READ, WRITE, BODY, GET, PUT, PLUS, JUMPZ, JUMP, START, TURN, OperandKind, scope, owner, start, answer, node, port, target, function, value, variable, jump, absent, kindAt, groupOf, Limit, largestOf, maxPort, maxHandler, maxJob}
+use Rattle.model.specs.Table.{FLOW, NODE, VAR, FUN, WIRE, READ, WRITE, BODY, GET, PUT, PLUS, JUMPZ, JUMP, START, TURN, OperandKind}
+use Rattle.model.specs.Table.{scope, owner, start, answer, node, port, target, function, value, variable, jump, absent, kindAt}
+use Rattle.model.specs.Table.{groupOf, Limit, largestOf, maxPort, maxHandler, maxJob}
 use Rattle.model.specs.Command.{Command, Parsed, whole, unknown, cutShort, is, readCommand}
 use Rattle.model.specs.Declared.{countOf, countAmong, occurs, flowOf, shared, sees, isHandler, openBody, bodyLength, startedIn}
 
@@ -47,7 +49,8 @@ countsOf past = record { flows = countOf FLOW past; nodes = countOf NODE past; v
 abbrev pub noOwner : Counts → ℕ → ℕ → Bool
 noOwner d s x = cond (eqb s 0) (leb (d .nodes) x) (cond (eqb s 1) (leb (d .flows) x) (not (eqb x 0)))
 
--- an operand names nothing that is declared or allowed: by the command's first operand (a variable's scope), what the operand is, and the operand itself
+-- an operand names nothing that is declared or allowed: by the command's first operand (a variable's scope), what the operand is, and the
+-- operand itself
 abbrev pub namesNothing : Counts → ℕ → OperandKind → ℕ → Bool
 namesNothing d s scope x = ltb 2 x
 namesNothing d s owner x = noOwner d s x
@@ -81,7 +84,8 @@ usesVariable c = is GET c || is PUT c || is PLUS c
 abbrev pub isAccess : Command → Bool
 isAccess c = is READ c || is WRITE c
 
--- 7: a wire into another flow, a handler command with a variable that its node does not see, READ or WRITE of a variable unseen or not shared
+-- 7: a wire into another flow, a handler command with a variable that its node does not see, READ or WRITE of a variable unseen or not
+-- shared
 abbrev pub outOfReach : List Command → Command → Bool
 outOfReach past c =
     anyOf
@@ -126,7 +130,7 @@ pub data Decoded : Type 0 where
   accepted : List Command → Decoded
   rejected : Refusal → Decoded
 
--- decoding goes on by `rest` behind a command without violation; one with a violation is refused at its place
+-- decoding goes on by `rest` after a command without violation; one with a violation is refused at its place
 abbrev pub decodeNext : (ℕ → List Command → Decoded) → ℕ → List Command → Command → ℕ → ℕ → Decoded
 decodeNext rest place past c next zero = rest next (c ∷ past)
 decodeNext rest place past c next (suc k) = rejected (refuse (suc k) place)
@@ -137,10 +141,12 @@ decodeRead rest place past unknown = rejected (refuse 2 place)
 decodeRead rest place past cutShort = rejected (refuse 3 place)
 decodeRead rest place past (whole c next) = decodeNext rest place past c next (violation past c)
 
--- 2 to 8 from a place of the job on, behind the commands `past`; the first number bounds how many commands are left, and the job's length is enough
+-- 2 to 8 from a place of the job on, after the commands `past`; the first number bounds how many commands are left, and the job's length
+-- is enough
 unfoldable pub decodeFrom : ℕ → List ℕ → ℕ → List Command → Decoded
 decodeFrom zero job place past = accepted past
-decodeFrom (suc fuel) job place past = cond (ltb place (length job)) (decodeRead (decodeFrom fuel job) place past (readCommand job place)) (accepted past)
+decodeFrom (suc fuel) job place past = cond (ltb place (length job)) (decodeRead (decodeFrom fuel job) place past (readCommand job place))
+    (accepted past)
 
 -- the commands of a job after the tests 1 to 8, or its refusal
 unfoldable pub decode : List ℕ → Decoded

@@ -27,7 +27,7 @@ ended s k e = record { steps = []; stop = k; attempted = e; final = s }
 abbrev pub after : State → Entry → Run → Run
 after s e r = record { steps = record { before = s; made = e } ∷ r .steps; stop = r .stop; attempted = r .attempted; final = r .final }
 
--- the run that goes on by `rest` behind a completed turn; a stopped turn changes nothing and ends the run
+-- the run that goes on by `rest` after a completed turn; a stopped turn changes nothing and ends the run
 abbrev pub proceed : (State → Run) → State → Turned → Run
 proceed rest s (completed e s′) = after s e (rest s′)
 proceed rest s (stopped k e) = ended s k e
@@ -57,6 +57,6 @@ statesOf steps = map (λ (t : Step). t .before) steps
 abbrev pub entryAt : Run → ℕ → Entry
 entryAt r k = getD (entriesOf (r .steps)) k (entry 0 0 0 0)
 
--- the state that turn k of a run was made from; behind the completed turns the last state
+-- the state that turn k of a run was made from; after the completed turns the last state
 abbrev pub stateAt : Run → ℕ → State
 stateAt r k = getD (statesOf (r .steps)) k (r .final)

@@ -5,7 +5,8 @@ use lib.ListN.{length, getD, set, replicate}
 use Rattle.model.specs.Table.{maxNodes, maxVariables}
 use Rattle.model.specs.Program.{Program}
 
--- of each of 32 nodes the position in its handler, the accumulator ("hand"), the message being handled and the waiting messages, oldest first; of each of 64 variables the value.
+-- of each of 32 nodes the position in its handler, the accumulator ("hand"), the message being handled and the waiting messages, oldest
+-- first; of each of 64 variables the value.
 -- Nodes and variables that are not declared stay as they start, and no output shows them.
 pub record State : Type 0 where
   pub position : List ℕ
@@ -39,13 +40,33 @@ variableAt s x = getD (s .variable) x 0
 
 -- the state with one part changed
 abbrev pub withPosition : State → ℕ → ℕ → State
-withPosition s n p = record { position = set (s .position) n p; accumulator = s .accumulator; message = s .message; queue = s .queue; variable = s .variable }
+withPosition s n p = record {
+  position = set (s .position) n p;
+  accumulator = s .accumulator;
+  message = s .message;
+  queue = s .queue;
+  variable = s .variable;
+}
 
 abbrev pub withAccumulator : State → ℕ → ℕ → State
-withAccumulator s n a = record { position = s .position; accumulator = set (s .accumulator) n a; message = s .message; queue = s .queue; variable = s .variable }
+withAccumulator s n a = record {
+  position = s .position;
+  accumulator = set
+      (s .accumulator) n a;
+  message = s .message;
+  queue = s .queue;
+  variable = s .variable;
+}
 
 abbrev pub withMessage : State → ℕ → ℕ → State
-withMessage s n m = record { position = s .position; accumulator = s .accumulator; message = set (s .message) n m; queue = s .queue; variable = s .variable }
+withMessage s n m = record {
+  position = s .position;
+  accumulator = s .accumulator;
+  message = set
+      (s .message) n m;
+  queue = s .queue;
+  variable = s .variable;
+}
 
 abbrev pub withQueues : State → List (List ℕ) → State
 withQueues s qs = record { position = s .position; accumulator = s .accumulator; message = s .message; queue = qs; variable = s .variable }
@@ -54,7 +75,14 @@ abbrev pub withQueue : State → ℕ → List ℕ → State
 withQueue s n q = withQueues s (set (s .queue) n q)
 
 abbrev pub withVariable : State → ℕ → ℕ → State
-withVariable s x v = record { position = s .position; accumulator = s .accumulator; message = s .message; queue = s .queue; variable = set (s .variable) x v }
+withVariable s x v = record {
+  position = s .position;
+  accumulator = s .accumulator;
+  message = s .message;
+  queue = s .queue;
+  variable = set
+      (s .variable) x v;
+}
 
 -- the values of a function at 0, 1, .. up to below a number
 unfoldable pub tabulate : {A : Type 0} → ℕ → (ℕ → A) → List A

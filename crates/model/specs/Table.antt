@@ -76,7 +76,8 @@ START = 0x50
 abbrev pub TURN : ℕ
 TURN = 0x60
 
--- what an operand is, by the name in its column: `target` is that of a wire, `jump` that of a jump; `absent` stands where a command has no operand
+-- what an operand is, by the name in its column: `target` is that of a wire, `jump` that of a jump; `absent` stands where a command has no
+-- operand
 pub data OperandKind : Type 0 where
   scope owner start answer node port target function value variable jump absent : OperandKind
 
@@ -192,7 +193,7 @@ maxWaiting = 16
 abbrev pub maxJob : ℕ
 maxJob = 16384
 
--- a largest count of commands: at most so many with one of these bytes
+-- a largest count of commands: at most `most` of them have one of these bytes
 pub record Limit : Type 0 where
   pub bytes : List ℕ
   pub most : ℕ

@@ -1,4 +1,5 @@
--- Demand 3: the monitored run beside the unmonitored one ("Watched beside bare"), one claim for every job, and so for every list of turns, and for all buffers.
+-- Demand 3: the monitored run beside the unmonitored one ("Watched beside bare"), one claim for every job, and so for every list of turns,
+-- and for all buffers.
 use Prim.Native.Nat.{ℕ, _<_}
 use mathlib.Core.Path.{_≡_}
 use mathlib.Core.Logic.{_↔_, _⊎_}
@@ -28,7 +29,8 @@ pub record FirstForbidden (P : Program) (r : Run) (n : ℕ) : Type 0 where
   pub isForbidden : Forbidden P r n
   pub earlier : (k : ℕ) → k < n → permitted P (entryAt r k) ≡ true
 
--- a run stopped at its turn n: stop 1, n turns, that entry with value 0 for a read; the first n entries; the state that turn n was made from
+-- a run stopped at its turn n: stop 1, n turns, that entry with value 0 for a read; the first n entries; the state that turn n was made
+-- from
 abbrev pub stoppedAt : Program → Run → ℕ → Result
 stoppedAt P r n =
     ran (record { stop = 1; turns = n; attempted = redacted (entryAt r n) })

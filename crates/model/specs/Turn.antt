@@ -1,4 +1,5 @@
--- One turn ("A turn"): from a program and the state before, and from nothing else, the next state and an entry, or a stop. Permissions are ignored here.
+-- One turn ("A turn"): from a program and the state before, and from nothing else, the next state and an entry, or a stop. Permissions are
+-- ignored here.
 use Prim.Native.Nat.{ℕ, zero, suc, _+_, _%_, _^_}
 use mathlib.Core.Bool.{Bool, false, cond, _&&_, _||_}
 use mathlib.Core.List.{List, [], _∷_, _++_}
@@ -7,7 +8,8 @@ use lib.ListN.{length, getD, set, drop}
 use Rattle.model.specs.Table.{SET, TAKE, GET, PUT, ADD, PLUS, JUMPZ, JUMP, SEND, CALL, maxNodes, maxWaiting}
 use Rattle.model.specs.Declared.{Instruction, instruction}
 use Rattle.model.specs.Program.{Program, sharedIn}
-use Rattle.model.specs.State.{State, idle, positionAt, accumulatorAt, messageAt, queueAt, waitingAt, variableAt, withPosition, withAccumulator, withMessage, withQueues, withQueue, withVariable}
+use Rattle.model.specs.State.{State, idle, positionAt, accumulatorAt, messageAt, queueAt, waitingAt, variableAt, withPosition}
+use Rattle.model.specs.State.{withAccumulator, withMessage, withQueues, withQueue, withVariable}
 
 -- a trace entry: node, kind, number, value
 pub record Entry : Type 0 where
@@ -83,7 +85,7 @@ sum32 a b = (a + b) % 2 ^ 32
 abbrev pub advanced : State → ℕ → State
 advanced s n = withPosition s n (positionAt s n + 1)
 
--- what a handler command does ("what it does"), for the node n whose turn it is; behind all but a taken jump the position moves on by one
+-- what a handler command does ("what it does"), for the node n whose turn it is; after all but a taken jump the position moves on by one
 abbrev pub performed : Program → State → ℕ → Instruction → State
 performed P s n i =
     let x = i .operand in

@@ -1,4 +1,5 @@
--- What holds of the commands of every accepted job, and of every state of its runs: what proofs about code rest on. No definition above uses it.
+-- What holds of the commands of every accepted job, and of every state of its runs: what proofs about code rest on. No definition above
+-- uses it.
 use Prim.Native.Nat.{ℕ, _^_, _≤_, _<_}
 use mathlib.Core.Path.{_≡_}
 use mathlib.Core.Bool.{true, false, _&&_}
@@ -6,7 +7,9 @@ use mathlib.Core.List.{List, [], _∷_}
 use mathlib.Core.Option.{none}
 use lib.Dec.{leb}
 use lib.ListN.{length, getD}
-use Rattle.model.specs.Table.{FLOW, NODE, VAR, FUN, ARG, SET, SKIP, TURN, OperandKind, scope, owner, start, answer, node, port, target, function, value, variable, jump, absent, operandsOf, kindAt, maxFlows, maxNodes, maxVariables, maxFunctions, maxHandler, maxArgCommands, maxTurns, maxPort, maxWaiting}
+use Rattle.model.specs.Table.{FLOW, NODE, VAR, FUN, ARG, SET, SKIP, TURN, OperandKind, scope, owner, start, answer, node, port}
+use Rattle.model.specs.Table.{target, function, value, variable, jump, absent, operandsOf, kindAt, maxFlows, maxNodes, maxVariables}
+use Rattle.model.specs.Table.{maxFunctions, maxHandler, maxArgCommands, maxTurns, maxPort, maxWaiting}
 use Rattle.model.specs.Command.{Operands, Command}
 use Rattle.model.specs.Declared.{Instruction, countOf, bodyLength}
 use Rattle.model.specs.Program.{Program}
@@ -36,7 +39,7 @@ pub record Plain (c : Command) : Type 0 where
   pub second : kindAt (c .byte) 1 ≡ absent → c .operands .second ≡ 0
   pub third : kindAt (c .byte) 2 ≡ absent → c .operands .third ≡ 0
 
--- each command of the list, the latest first, is plain and passes the tests 4 to 8 behind those before it
+-- each command of the list, the latest first, is plain and passes the tests 4 to 8 after those before it
 abbrev pub Valid : List Command → Type 0
 Valid [] = Unit {0}
 Valid (c ∷ past) = Valid past × Plain c × (violation past c ≡ 0)

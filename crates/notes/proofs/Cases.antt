@@ -18,7 +18,8 @@ column true j i k x old y older h p q = by-cell (eqb j i) refl
     by-cell false e = q
 
 -- a mark: the cell, or what was marked
-pub flag : (on : Bool) (j i k old : ℕ) (older : Bool) → (on ≡ true → j < k) → not (eqb old 0) ≡ older → not (eqb (cond (on && (eqb j i && ltb i k)) 1 old) 0) ≡ ((on && eqb j i) || older)
+pub flag : (on : Bool) (j i k old : ℕ) (older : Bool) → (on ≡ true → j < k) → not (eqb old 0) ≡ older
+    → not (eqb (cond (on && (eqb j i && ltb i k)) 1 old) 0) ≡ ((on && eqb j i) || older)
 flag false j i k old older h q = q
 flag true j i k old older h q = by-cell (eqb j i) refl
   where
@@ -28,7 +29,8 @@ flag true j i k old older h q = by-cell (eqb j i) refl
 
 -- a mark at a row and a column
 module _ (a b r x k old : ℕ) where
-  inside : (on : Bool) (older : Bool) → (on ≡ true → a * 64 + b < k) → not (eqb old 0) ≡ older → (eqb (a * 64 + b) (r * 64 + x) ≡ (eqb a r && eqb b x))
+  inside : (on : Bool) (older : Bool) → (on ≡ true → a * 64 + b < k) → not (eqb old 0) ≡ older
+      → (eqb (a * 64 + b) (r * 64 + x) ≡ (eqb a r && eqb b x))
       → not (eqb (cond (on && (eqb (a * 64 + b) (r * 64 + x) && ltb (r * 64 + x) k)) 1 old) 0) ≡ ((on && (eqb a r && eqb b x)) || older)
   inside on older h q e = flag on (a * 64 + b) (r * 64 + x) k old older h q ∙ rw e
 
@@ -43,7 +45,8 @@ module _ (a b r x k old : ℕ) where
   pub grid :
       (on : Bool) (older : Bool) → (on ≡ true → a < 128) → (on ≡ true → b < 64) → (on ≡ true → a * 64 + b < k)
       → ((ltb r 128 && ltb x 64) && not (eqb old 0)) ≡ older
-      → ((ltb r 128 && ltb x 64) && not (eqb (cond ((on && (ltb a 128 && ltb b 64)) && (eqb (a * 64 + b) (r * 64 + x) && ltb (r * 64 + x) k)) 1 old) 0)) ≡ ((on && (eqb a r && eqb b x)) || older)
+      → ((ltb r 128 && ltb x 64) && not (eqb (cond ((on && (ltb a 128 && ltb b 64)) &&
+      (eqb (a * 64 + b) (r * 64 + x) && ltb (r * 64 + x) k)) 1 old) 0)) ≡ ((on && (eqb a r && eqb b x)) || older)
   grid false older h₁ h₂ h₃ q = q
   grid true older h₁ h₂ h₃ q = rw (lt-ltb a 128 (h₁ refl), lt-ltb b 64 (h₂ refl)) (by-range (ltb r 128) refl (ltb x 64) refl q)
     where
@@ -86,6 +89,7 @@ wire true a b d n p m g older h q = by-port (ltb p 4) refl q
     none true = refl
     none false = refl
 
-    by-port : (t : Bool) → ltb p 4 ≡ t → (t && g) ≡ older → (t && ((eqb (a * 4 + b) (n * 4 + p) && eqb d m) || g)) ≡ ((eqb a n && (eqb b p && eqb d m)) || older)
+    by-port : (t : Bool) → ltb p 4 ≡ t → (t && g) ≡ older → (t &&
+        ((eqb (a * 4 + b) (n * 4 + p) && eqb d m) || g)) ≡ ((eqb a n && (eqb b p && eqb d m)) || older)
     by-port true e r = let l = h refl in rw (← r, same-port a b n p (omega arith) (ltb-true p 4 e)) (joined (eqb a n) (eqb b p) (eqb d m))
     by-port false e r = rw (← r, ne-eqb b p (λ z. omega (arith, h refl, ltb-false p 4 e))) (none (eqb a n))

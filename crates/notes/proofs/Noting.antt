@@ -14,14 +14,17 @@ use Rattle.model.specs.Command.{Command, is, ternary, binary}
 use Rattle.model.specs.Declared.{only, countOf, isSame, occurs, declared, flowOf, isHandler, openBody, bodyLength, startsOf, startedIn}
 use Rattle.model.specs.Refusal.{groupFalls}
 use Rattle.model.specs.Valid.{Valid, Named}
-use Rattle.model.proofs.Growth.{count-same, count-other, count-grows, count-below, occurs-next, open-next, body-next, starts-next, started-next}
+use Rattle.model.proofs.Growth.{count-same, count-other, count-grows, count-below, occurs-next, open-next, body-next, starts-next}
+use Rattle.model.proofs.Growth.{started-next}
 use Rattle.model.proofs.Ranges.{open-inside, starts-one}
 use Rattle.model.proofs.Valid.{passes, limits, named}
 use Rattle.command.specs.declared.read.Command.{Command as Code}
 use Rattle.command.specs.Reading.{commandOf}
 use Rattle.tables.specs.declared.cells.Section.{Section}
 use Rattle.tables.specs.Cells.{entryIn, putIn, markIn, gridIn, markAt}
-use Rattle.tables.specs.Tables.{countCells, progressCells, flowCells, scopeCells, ownerCells, startCells, answerCells, lengthCells, bodyCells, startedCells, firstCells, messageCells, argNodeCells, argFunctionCells, argValueCells, readCells, writeCells, anyCells, wireCells, countIn, groupIn, openIn, flowIn, lengthIn, listedIn, wiredIn}
+use Rattle.tables.specs.Tables.{countCells, progressCells, flowCells, scopeCells, ownerCells, startCells, answerCells, lengthCells}
+use Rattle.tables.specs.Tables.{bodyCells, startedCells, firstCells, messageCells, argNodeCells, argFunctionCells, argValueCells, readCells}
+use Rattle.tables.specs.Tables.{writeCells, anyCells, wireCells, countIn, groupIn, openIn, flowIn, lengthIn, listedIn, wiredIn}
 use Rattle.tables.specs.Stands.{Stands}
 use Rattle.notes.proofs.Sections.{Write, write, written, sorted, left, length-written, entry-written}
 use Rattle.command.proofs.Known.{byte-low}
@@ -46,10 +49,14 @@ noteWrites t c =
     ∷ write (is ARG c) argNodeCells (countIn t ARG) (c .operands .first)
     ∷ write (is ARG c) argFunctionCells (countIn t ARG) (c .operands .second)
     ∷ write (is ARG c) argValueCells (countIn t ARG) (c .operands .third)
-    ∷ write (is READ c && (ltb (c .operands .first) 128 && ltb (c .operands .second) 64)) readCells (c .operands .first * 64 + c .operands .second) 1
-    ∷ write (is WRITE c && (ltb (c .operands .first) 128 && ltb (c .operands .second) 64)) writeCells (c .operands .first * 64 + c .operands .second) 1
-    ∷ write (is ANY c && (ltb (c .operands .first) 128 && ltb (c .operands .second) 64)) anyCells (c .operands .first * 64 + c .operands .second) 1
-    ∷ write (is WIRE c && (ltb (c .operands .first * 4 + c .operands .second) 128 && ltb (c .operands .third) 64)) wireCells ((c .operands .first * 4 + c .operands .second) * 64 + c .operands .third) 1
+    ∷ write (is READ c && (ltb (c .operands .first) 128 && ltb (c .operands .second) 64)) readCells
+    (c .operands .first * 64 + c .operands .second) 1
+    ∷ write (is WRITE c && (ltb (c .operands .first) 128 && ltb (c .operands .second) 64)) writeCells
+    (c .operands .first * 64 + c .operands .second) 1
+    ∷ write (is ANY c && (ltb (c .operands .first) 128 && ltb (c .operands .second) 64)) anyCells
+    (c .operands .first * 64 + c .operands .second) 1
+    ∷ write (is WIRE c && (ltb (c .operands .first * 4 + c .operands .second) 128 && ltb (c .operands .third) 64)) wireCells
+    ((c .operands .first * 4 + c .operands .second) * 64 + c .operands .third) 1
     ∷ []
 
 -- the flow of a node is one of those counted
@@ -82,7 +89,8 @@ highest d c g h = by-test (ltb d c) refl
 -- the list is searched alike where the cells are the same
 same-listed :
     (t u : List ℕ) (n f v k : ℕ)
-    → ((i : ℕ) → i < k → (entryIn u argNodeCells i ≡ entryIn t argNodeCells i) × (entryIn u argFunctionCells i ≡ entryIn t argFunctionCells i) × (entryIn u argValueCells i ≡ entryIn t argValueCells i))
+    → ((i : ℕ) → i < k → (entryIn u argNodeCells i ≡ entryIn t argNodeCells i) ×
+    (entryIn u argFunctionCells i ≡ entryIn t argFunctionCells i) × (entryIn u argValueCells i ≡ entryIn t argValueCells i))
     → listedIn u k n f v ≡ listedIn t k n f v
 unfolding listedIn
 same-listed t u n f v zero h = refl
@@ -102,8 +110,10 @@ empty-list (a ∷ l) h = absurd (omega arith)
 
 -- the first message of a node, with one more START
 first-message :
-    (on : Bool) (j i k old message x : ℕ) (older : List ℕ) → (on ≡ true → j < k) → only (not (eqb old 0)) message ≡ older → (on ≡ true → eqb j i ≡ true → older ≡ [])
-    → only (not (eqb (cond (on && (eqb j i && ltb i k)) 1 old) 0)) (cond (on && (eqb j i && ltb i k)) x message) ≡ older ++ only (on && eqb j i) x
+    (on : Bool) (j i k old message x : ℕ) (older : List ℕ) → (on ≡ true → j < k) → only (not (eqb old 0)) message ≡ older
+    → (on ≡ true → eqb j i ≡ true → older ≡ [])
+    → only (not (eqb (cond (on && (eqb j i && ltb i k)) 1 old) 0)) (cond (on && (eqb j i && ltb i k)) x message) ≡ older ++ only
+    (on && eqb j i) x
 first-message false j i k old message x older h q z = q ∙ sym (append-nil older)
 first-message true j i k old message x older h q z = by-cell (eqb j i) refl
   where
@@ -115,8 +125,9 @@ module _ (t : List ℕ) (past : List Command) (c : Command) (s : Stands t past) 
   after : List ℕ
   after = written t (noteWrites t c)
 
-  -- a section behind the writes
-  in-section : (r : Section) → r .0 + r .1 ≤ 15936 → sorted r (noteWrites t c) ≡ true → (i : ℕ) → entryIn after r i ≡ left r (noteWrites t c) i (entryIn t r i)
+  -- a section after the writes
+  in-section : (r : Section) → r .0 + r .1 ≤ 15936 → sorted r (noteWrites t c) ≡ true → (i : ℕ)
+      → entryIn after r i ≡ left r (noteWrites t c) i (entryIn t r i)
   unfolding after
   in-section r h o i = entry-written t (noteWrites t c) r (rw (s .size) h) o i
 
@@ -133,32 +144,38 @@ module _ (t : List ℕ) (past : List Command) (c : Command) (s : Stands t past) 
 
   -- a column of what is declared
   declared-column :
-      (value : Command → List Command → ℕ) (b j k x old i : ℕ) → j ≡ countOf b past → (is b c ≡ true → countOf b past < k) → x ≡ value c past → old ≡ declared value b past i
+      (value : Command → List Command → ℕ) (b j k x old i : ℕ) → j ≡ countOf b past → (is b c ≡ true → countOf b past < k)
+      → x ≡ value c past → old ≡ declared value b past i
       → cond (is b c && (eqb j i && ltb i k)) x old ≡ declared value b (c ∷ past) i
   unfolding declared
-  declared-column value b j k x old i e h p q = rw e (column (is b c) (countOf b past) i k x old (value c past) (declared value b past i) h (λ a d. p) q)
+  declared-column value b j k x old i e h p q = rw e (column (is b c) (countOf b past) i k x old (value c past) (declared value b past i) h
+      (λ a d. p) q)
 
   counts-next : (b : ℕ) → b < 128 → countIn after b ≡ countOf b (c ∷ past)
   unfolding countOf
   counts-next b h =
       in-section countCells (omega arith) refl b
-      ∙ column true (c .byte) b 128 (countIn t (c .byte) + 1) (countIn t b) (countOf b past + 1) (countOf b past) (λ e. byte-low (c .byte) (v .1 .known))
+      ∙ column true (c .byte) b 128 (countIn t (c .byte) + 1) (countIn t b) (countOf b past + 1) (countOf b past)
+      (λ e. byte-low (c .byte) (v .1 .known))
       (λ e q. rw (q, s .counts b h)) (s .counts b h)
 
   group-next : (d : Command) → groupFalls (c ∷ past) d ≡ ltb (groupOf (d .byte)) (groupIn after)
   unfolding groupFalls
   group-next d =
-      let g : groupIn after ≡ groupOf (c .byte) = in-section progressCells (omega arith) refl 0 ∙ other-cell (is BODY c) (c .operands .first) (groupOf (c .byte)) in
+      let g : groupIn after ≡ groupOf (c .byte) = in-section progressCells (omega arith) refl 0
+      ∙ other-cell (is BODY c) (c .operands .first) (groupOf (c .byte)) in
       let l = ltb-false (groupOf (c .byte)) (groupIn t) (sym (s .group c) ∙ passes past c (v .2) .ordered) in
       rw (g, s .group d) (highest (groupOf (d .byte)) (groupOf (c .byte)) (groupIn t) l)
 
   opened-next : openIn after ≡ openBody (c ∷ past)
-  opened-next = in-section progressCells (omega arith) refl 1 ∙ this-cell (is BODY c) (c .operands .first) (openIn t) ∙ rw (s .opened, open-next c past)
+  opened-next = in-section progressCells (omega arith) refl 1 ∙ this-cell (is BODY c) (c .operands .first) (openIn t)
+      ∙ rw (s .opened, open-next c past)
 
   flow-next : (n : ℕ) → flowIn after n ≡ flowOf (c ∷ past) n
   flow-next n =
       in-section flowCells (omega arith) refl n
-      ∙ declared-column (λ c before. countOf FLOW before - 1) NODE (countIn t NODE) 64 (countIn t FLOW - 1) (flowIn t n) n (s .counts NODE (omega arith))
+      ∙ declared-column (λ c before. countOf FLOW before - 1) NODE (countIn t NODE) 64 (countIn t FLOW - 1) (flowIn t n) n
+      (s .counts NODE (omega arith))
       (λ e. omega (arith, room NODE 32 (limits (c ∷ past) v .nodes) e)) (rw (s .counts FLOW (omega arith))) (s .flow n)
 
   module _ (x : ℕ) where
@@ -168,22 +185,26 @@ module _ (t : List ℕ) (past : List Command) (c : Command) (s : Stands t past) 
     scope-next : entryIn after scopeCells x ≡ declared (λ c before. c .operands .first) VAR (c ∷ past) x
     scope-next =
         in-section scopeCells (omega arith) refl x
-        ∙ declared-column (λ c before. c .operands .first) VAR (countIn t VAR) 64 (c .operands .first) (entryIn t scopeCells x) x (s .counts VAR (omega arith)) variable-room refl (s .scope x)
+        ∙ declared-column (λ c before. c .operands .first) VAR (countIn t VAR) 64 (c .operands .first) (entryIn t scopeCells x) x
+        (s .counts VAR (omega arith)) variable-room refl (s .scope x)
 
     owner-next : entryIn after ownerCells x ≡ declared (λ c before. c .operands .second) VAR (c ∷ past) x
     owner-next =
         in-section ownerCells (omega arith) refl x
-        ∙ declared-column (λ c before. c .operands .second) VAR (countIn t VAR) 64 (c .operands .second) (entryIn t ownerCells x) x (s .counts VAR (omega arith)) variable-room refl (s .owner x)
+        ∙ declared-column (λ c before. c .operands .second) VAR (countIn t VAR) 64 (c .operands .second) (entryIn t ownerCells x) x
+        (s .counts VAR (omega arith)) variable-room refl (s .owner x)
 
     start-next : entryIn after startCells x ≡ declared (λ c before. c .operands .third) VAR (c ∷ past) x
     start-next =
         in-section startCells (omega arith) refl x
-        ∙ declared-column (λ c before. c .operands .third) VAR (countIn t VAR) 64 (c .operands .third) (entryIn t startCells x) x (s .counts VAR (omega arith)) variable-room refl (s .startValue x)
+        ∙ declared-column (λ c before. c .operands .third) VAR (countIn t VAR) 64 (c .operands .third) (entryIn t startCells x) x
+        (s .counts VAR (omega arith)) variable-room refl (s .startValue x)
 
   answer-next : (f : ℕ) → entryIn after answerCells f ≡ declared (λ c before. c .operands .first) FUN (c ∷ past) f
   answer-next f =
       in-section answerCells (omega arith) refl f
-      ∙ declared-column (λ c before. c .operands .first) FUN (countIn t FUN) 64 (c .operands .first) (entryIn t answerCells f) f (s .counts FUN (omega arith))
+      ∙ declared-column (λ c before. c .operands .first) FUN (countIn t FUN) 64 (c .operands .first) (entryIn t answerCells f) f
+      (s .counts FUN (omega arith))
       (λ e. omega (arith, room FUN 32 (limits (c ∷ past) v .functions) e)) refl (s .answer f)
 
   lengths-next : (n : ℕ) → lengthIn after n ≡ bodyLength (c ∷ past) n
@@ -202,7 +223,8 @@ module _ (t : List ℕ) (past : List Command) (c : Command) (s : Stands t past) 
   unfolding operandsOf operandsIn
   start-range e = rw (byte-is START e) at (range .first)
 
-  access-range : (b : ℕ) → (b ≡ READ) ⊎ (b ≡ WRITE) → is b c ≡ true → (c .operands .first < 32) × (c .operands .second < 64) × (c .operands .third ≡ 0)
+  access-range : (b : ℕ) → (b ≡ READ) ⊎ (b ≡ WRITE) → is b c ≡ true
+      → (c .operands .first < 32) × (c .operands .second < 64) × (c .operands .third ≡ 0)
   unfolding operandsOf operandsIn
   access-range b (inl p) e = let r = rw (byte-is b e, p) at range in (r .first, r .second, r .third)
   access-range b (inr p) e = let r = rw (byte-is b e, p) at range in (r .first, r .second, r .third)
@@ -216,10 +238,13 @@ module _ (t : List ℕ) (past : List Command) (c : Command) (s : Stands t past) 
   wire-range e = let r = rw (byte-is WIRE e) at range in (r .first, r .second, r .third)
 
   -- where the last operands are absent, a command is the same if the others are
-  same-one : (b n : ℕ) → (is b c ≡ true → (c .operands .second ≡ 0) × (c .operands .third ≡ 0)) → isSame b (binary n 0) c ≡ (is b c && eqb (c .operands .first) n)
+  same-one : (b n : ℕ) → (is b c ≡ true → (c .operands .second ≡ 0) × (c .operands .third ≡ 0))
+      → isSame b (binary n 0) c ≡ (is b c && eqb (c .operands .first) n)
   same-one b n h = by-byte (is b c) h
     where
-      by-byte : (p : Bool) → (p ≡ true → (c .operands .second ≡ 0) × (c .operands .third ≡ 0)) → (p && (eqb (c .operands .first) n && (eqb (c .operands .second) 0 && eqb (c .operands .third) 0))) ≡ (p && eqb (c .operands .first) n)
+      by-byte : (p : Bool) → (p ≡ true → (c .operands .second ≡ 0) × (c .operands .third ≡ 0))
+          → (p && (eqb (c .operands .first) n && (eqb (c .operands .second) 0 && eqb (c .operands .third) 0))) ≡ (p && eqb
+          (c .operands .first) n)
       by-byte true h = rw (h refl .0, h refl .1) (and-true (eqb (c .operands .first) n))
       by-byte false h = refl
 
@@ -227,7 +252,8 @@ module _ (t : List ℕ) (past : List Command) (c : Command) (s : Stands t past) 
   unfolding markIn
   bodies-next n =
       rw (in-section bodyCells (omega arith) refl n)
-      (flag (is BODY c) (c .operands .first) n 64 (entryIn t bodyCells n) (occurs BODY (binary n 0) past) (λ e. omega (arith, body-range e .0)) (s .bodies n)
+      (flag (is BODY c) (c .operands .first) n 64 (entryIn t bodyCells n) (occurs BODY (binary n 0) past)
+      (λ e. omega (arith, body-range e .0)) (s .bodies n)
       ∙ rw (occurs-next c past BODY (binary n 0), same-one BODY n (λ e. (body-range e .1, body-range e .2))))
 
   started-after : (f : ℕ) → markIn after startedCells f ≡ startedIn (c ∷ past) f
@@ -240,7 +266,8 @@ module _ (t : List ℕ) (past : List Command) (c : Command) (s : Stands t past) 
 
   grid-next :
       (r : Section) (b : ℕ) → r .1 ≡ 2048 → (row x : ℕ)
-      → entryIn after r (row * 64 + x) ≡ cond ((is b c && (ltb (c .operands .first) 128 && ltb (c .operands .second) 64)) && (eqb (c .operands .first * 64 + c .operands .second) (row * 64 + x) && ltb (row * 64 + x) 2048)) 1 (entryIn t r (row * 64 + x))
+      → entryIn after r (row * 64 + x) ≡ cond ((is b c && (ltb (c .operands .first) 128 && ltb (c .operands .second) 64)) &&
+      (eqb (c .operands .first * 64 + c .operands .second) (row * 64 + x) && ltb (row * 64 + x) 2048)) 1 (entryIn t r (row * 64 + x))
       → (is b c ≡ true → (c .operands .first < 32) × (c .operands .second < 64) × (c .operands .third ≡ 0))
       → gridIn t r row x ≡ occurs b (binary row x) past → gridIn after r row x ≡ occurs b (binary row x) (c ∷ past)
   unfolding gridIn markIn
@@ -254,42 +281,57 @@ module _ (t : List ℕ) (past : List Command) (c : Command) (s : Stands t past) 
       same-two = by-byte (is b c) h
         where
           by-byte : (p : Bool) → (p ≡ true → (c .operands .first < 32) × (c .operands .second < 64) × (c .operands .third ≡ 0))
-              → (p && (eqb (c .operands .first) row && eqb (c .operands .second) x)) ≡ (p && (eqb (c .operands .first) row && (eqb (c .operands .second) x && eqb (c .operands .third) 0)))
+              → (p && (eqb (c .operands .first) row && eqb (c .operands .second) x)) ≡ (p &&
+              (eqb (c .operands .first) row && (eqb (c .operands .second) x && eqb (c .operands .third) 0)))
           by-byte false h = refl
-          by-byte true h = rw (h refl .2) (ap (λ (y : Bool). eqb (c .operands .first) row && y) (sym (and-true (eqb (c .operands .second) x))))
+          by-byte true h = rw (h refl .2) (ap (λ (y : Bool). eqb (c .operands .first) row && y)
+              (sym (and-true (eqb (c .operands .second) x))))
 
   reads-next : (n x : ℕ) → gridIn after readCells n x ≡ occurs READ (binary n x) (c ∷ past)
-  reads-next n x = grid-next readCells READ refl n x (in-section readCells (omega arith) refl (n * 64 + x)) (access-range READ (inl refl)) (s .reads n x)
+  reads-next n x = grid-next readCells READ refl n x (in-section readCells (omega arith) refl (n * 64 + x)) (access-range READ (inl refl))
+      (s .reads n x)
 
   writes-next : (n x : ℕ) → gridIn after writeCells n x ≡ occurs WRITE (binary n x) (c ∷ past)
-  writes-next n x = grid-next writeCells WRITE refl n x (in-section writeCells (omega arith) refl (n * 64 + x)) (access-range WRITE (inr refl)) (s .writes n x)
+  writes-next n x = grid-next writeCells WRITE refl n x (in-section writeCells (omega arith) refl (n * 64 + x))
+      (access-range WRITE (inr refl)) (s .writes n x)
 
   anys-next : (n f : ℕ) → gridIn after anyCells n f ≡ occurs ANY (binary n f) (c ∷ past)
   anys-next n f =
-      grid-next anyCells ANY refl n f (in-section anyCells (omega arith) refl (n * 64 + f)) (λ e. let r = any-range e in (r .0, omega (arith, r .1), r .2)) (s .anys n f)
+      grid-next anyCells ANY refl n f (in-section anyCells (omega arith) refl (n * 64 + f)) (λ e. let r = any-range e in
+      (r .0, omega (arith, r .1), r .2)) (s .anys n f)
 
-  wire-grid : (row m : ℕ) → gridIn after wireCells row m ≡ ((is WIRE c && (eqb (c .operands .first * 4 + c .operands .second) row && eqb (c .operands .third) m)) || gridIn t wireCells row m)
+  wire-grid : (row m : ℕ) → gridIn after wireCells row m ≡ ((is WIRE c &&
+      (eqb (c .operands .first * 4 + c .operands .second) row && eqb (c .operands .third) m)) || gridIn t wireCells row m)
   unfolding gridIn markIn
   wire-grid row m =
       rw (in-section wireCells (omega arith) refl (row * 64 + m))
-      (grid (c .operands .first * 4 + c .operands .second) (c .operands .third) row m 8192 (entryIn t wireCells (row * 64 + m)) (is WIRE c) ((ltb row 128 && ltb m 64) && not (eqb (entryIn t wireCells (row * 64 + m)) 0))
-      (λ p. omega (arith, wire-range p .0, wire-range p .1)) (λ p. omega (arith, wire-range p .2)) (λ p. omega (arith, wire-range p .0, wire-range p .1, wire-range p .2)) refl)
+      (grid (c .operands .first * 4 + c .operands .second) (c .operands .third) row m 8192 (entryIn t wireCells (row * 64 + m)) (is WIRE c)
+      ((ltb row 128 && ltb m 64) && not (eqb (entryIn t wireCells (row * 64 + m)) 0))
+      (λ p. omega (arith, wire-range p .0, wire-range p .1)) (λ p. omega (arith, wire-range p .2))
+      (λ p. omega (arith, wire-range p .0, wire-range p .1, wire-range p .2)) refl)
 
   wires-next : (n p m : ℕ) → wiredIn after n p m ≡ occurs WIRE (ternary n p m) (c ∷ past)
   wires-next n p m =
-      let e : gridIn after wireCells (n * 4 + p) m ≡ ((is WIRE c && (eqb (c .operands .first * 4 + c .operands .second) (n * 4 + p) && eqb (c .operands .third) m)) || gridIn t wireCells (n * 4 + p) m) = in-grid in
+      let e : gridIn after wireCells (n * 4 + p) m ≡ ((is WIRE c &&
+      (eqb (c .operands .first * 4 + c .operands .second) (n * 4 + p) && eqb (c .operands .third) m)) || gridIn t wireCells
+      (n * 4 + p) m) = in-grid in
       rw (e, occurs-next c past WIRE (ternary n p m))
-      (wire (is WIRE c) (c .operands .first) (c .operands .second) (c .operands .third) n p m (gridIn t wireCells (n * 4 + p) m) (occurs WIRE (ternary n p m) past) (λ q. wire-range q .1) (s .wires n p m))
+      (wire (is WIRE c) (c .operands .first) (c .operands .second) (c .operands .third) n p m (gridIn t wireCells (n * 4 + p) m)
+      (occurs WIRE (ternary n p m) past) (λ q. wire-range q .1) (s .wires n p m))
     where
-      in-grid : gridIn after wireCells (n * 4 + p) m ≡ ((is WIRE c && (eqb (c .operands .first * 4 + c .operands .second) (n * 4 + p) && eqb (c .operands .third) m)) || gridIn t wireCells (n * 4 + p) m)
+      in-grid : gridIn after wireCells (n * 4 + p) m ≡ ((is WIRE c &&
+          (eqb (c .operands .first * 4 + c .operands .second) (n * 4 + p) && eqb (c .operands .third) m)) || gridIn t wireCells
+          (n * 4 + p) m)
       in-grid = wire-grid (n * 4 + p) m
 
   firsts-next : (n : ℕ) → only (markIn after firstCells n) (entryIn after messageCells n) ≡ startsOf (c ∷ past) n
   unfolding markIn
   firsts-next n =
       rw (in-section firstCells (omega arith) refl n, in-section messageCells (omega arith) refl n, starts-next c past n)
-      (first-message (is START c) (c .operands .first) n 64 (entryIn t firstCells n) (entryIn t messageCells n) (c .operands .second) (startsOf past n)
-      (λ e. omega (arith, start-range e)) (s .firsts n) (λ e q. alone (rw (e, q) at (rw (starts-next c past n) at (starts-one (c ∷ past) v n)))))
+      (first-message (is START c) (c .operands .first) n 64 (entryIn t firstCells n) (entryIn t messageCells n) (c .operands .second)
+      (startsOf past n)
+      (λ e. omega (arith, start-range e)) (s .firsts n) (λ e q. alone
+      (rw (e, q) at (rw (starts-next c past n) at (starts-one (c ∷ past) v n)))))
     where
       alone : length (startsOf past n ++ (c .operands .second ∷ [])) ≤ 1 → startsOf past n ≡ []
       alone h = empty-list (startsOf past n) (omega (arith, length-append (startsOf past n) (c .operands .second ∷ [])))
@@ -297,20 +339,30 @@ module _ (t : List ℕ) (past : List Command) (c : Command) (s : Stands t past) 
   -- the cells of ARG command i
   argument-cells :
       (i : ℕ)
-      → (entryIn after argNodeCells i ≡ cond (is ARG c && (eqb (countIn t ARG) i && ltb i 256)) (c .operands .first) (entryIn t argNodeCells i))
-      × (entryIn after argFunctionCells i ≡ cond (is ARG c && (eqb (countIn t ARG) i && ltb i 256)) (c .operands .second) (entryIn t argFunctionCells i))
-      × (entryIn after argValueCells i ≡ cond (is ARG c && (eqb (countIn t ARG) i && ltb i 256)) (c .operands .third) (entryIn t argValueCells i))
-  argument-cells i = (in-section argNodeCells (omega arith) refl i, in-section argFunctionCells (omega arith) refl i, in-section argValueCells (omega arith) refl i)
+      → (entryIn after argNodeCells i ≡ cond (is ARG c && (eqb (countIn t ARG) i && ltb i 256)) (c .operands .first)
+      (entryIn t argNodeCells i))
+      × (entryIn after argFunctionCells i ≡ cond (is ARG c && (eqb (countIn t ARG) i && ltb i 256)) (c .operands .second)
+      (entryIn t argFunctionCells i))
+      × (entryIn after argValueCells i ≡ cond (is ARG c && (eqb (countIn t ARG) i && ltb i 256)) (c .operands .third)
+      (entryIn t argValueCells i))
+  argument-cells i = (
+    in-section argNodeCells (omega arith) refl i,
+    in-section argFunctionCells
+        (omega arith) refl i,
+    in-section argValueCells (omega arith) refl i,
+  )
 
   -- those before keep their cells
   argument-kept : (i : ℕ) → (is ARG c && (eqb (countIn t ARG) i && ltb i 256)) ≡ false
-      → (entryIn after argNodeCells i ≡ entryIn t argNodeCells i) × (entryIn after argFunctionCells i ≡ entryIn t argFunctionCells i) × (entryIn after argValueCells i ≡ entryIn t argValueCells i)
+      → (entryIn after argNodeCells i ≡ entryIn t argNodeCells i) × (entryIn after argFunctionCells i ≡ entryIn t argFunctionCells i) ×
+      (entryIn after argValueCells i ≡ entryIn t argValueCells i)
   argument-kept i e = let a = argument-cells i in (a .0 ∙ rw e, a .1 ∙ rw e, a .2 ∙ rw e)
 
   -- those so far are searched as before
   listed-before : (n f w : ℕ) → listedIn after (countIn t ARG) n f w ≡ occurs ARG (ternary n f w) past
   listed-before n f w =
-      same-listed t after n f w (countIn t ARG) (λ i h. argument-kept i (rw (ne-eqb (countIn t ARG) i (λ e. omega arith)) (and-false (is ARG c)))) ∙ s .arguments n f w
+      same-listed t after n f w (countIn t ARG) (λ i h. argument-kept i
+      (rw (ne-eqb (countIn t ARG) i (λ e. omega arith)) (and-false (is ARG c)))) ∙ s .arguments n f w
 
   arguments-next : (n f w : ℕ) → listedIn after (countIn after ARG) n f w ≡ occurs ARG (ternary n f w) (c ∷ past)
   arguments-next n f w = rw (counts-next ARG (omega arith), occurs-next c past ARG (ternary n f w)) (by-byte (is ARG c) refl)
@@ -320,11 +372,19 @@ module _ (t : List ℕ) (past : List Command) (c : Command) (s : Stands t past) 
           let h : countIn t ARG < 256 = omega (arith, s .counts ARG (omega arith), room ARG 256 (limits (c ∷ past) v .arguments) e) in
           rw (e, eq-eqb (countIn t ARG) (countIn t ARG) refl, lt-ltb (countIn t ARG) 256 h)
 
-      by-byte : (b : Bool) → is ARG c ≡ b → listedIn after (countOf ARG (c ∷ past)) n f w ≡ ((b && (eqb (c .operands .first) n && (eqb (c .operands .second) f && eqb (c .operands .third) w))) || occurs ARG (ternary n f w) past)
+      by-byte : (b : Bool) → is ARG c ≡ b → listedIn after (countOf ARG (c ∷ past)) n f
+          w ≡ ((b && (eqb (c .operands .first) n && (eqb (c .operands .second) f && eqb (c .operands .third) w))) || occurs ARG
+          (ternary n f w) past)
       by-byte true e =
           let a = argument-cells (countIn t ARG) in
-          let q : countOf ARG (c ∷ past) ≡ countIn t ARG + 1 = count-same ARG c past e ∙ ap (λ (y : ℕ). y + 1) (sym (s .counts ARG (omega arith))) in
-          rw (q, listed-next after (countIn t ARG) n f w (c .operands .first) (c .operands .second) (c .operands .third) (a .0 ∙ rw (new e)) (a .1 ∙ rw (new e)) (a .2 ∙ rw (new e)), listed-before n f w)
+          let q : countOf ARG (c ∷ past) ≡ countIn t ARG + 1 = count-same ARG c past e
+          ∙ ap (λ (y : ℕ). y + 1) (sym (s .counts ARG (omega arith))) in
+          rw (
+            q,
+            listed-next after (countIn t ARG) n f w (c .operands .first) (c .operands .second) (c .operands .third) (a .0 ∙ rw (new e))
+                (a .1 ∙ rw (new e)) (a .2 ∙ rw (new e)),
+            listed-before n f w,
+          )
       by-byte false e =
           let q : countOf ARG (c ∷ past) ≡ countIn t ARG = count-other ARG c past e ∙ sym (s .counts ARG (omega arith)) in
           rw q (listed-before n f w)
@@ -354,12 +414,13 @@ module _ (t : List ℕ) (past : List Command) (c : Command) (s : Stands t past) 
         arguments = arguments-next;
       }
 
--- the tables behind the writes as the code makes them, one after the other
+-- the tables after the writes as the code makes them, one after the other
 pub stands-noted :
     (t : List ℕ) (c : Code) (have flows nodes variables functions arguments opened len flow more longer less : ℕ) (body : Bool)
     (u₁ u₂ u₃ u₄ u₅ u₆ u₇ u₈ u₉ u₁₀ u₁₁ u₁₂ u₁₃ u₁₄ u₁₅ u₁₆ u₁₇ u₁₈ u₁₉ u₂₀ : List ℕ) (past : List Command)
     → c .group ≡ groupOf (c .byte) → Stands t past → Valid (commandOf c ∷ past) → length past < 65536
-    → have ≡ countIn t (c .byte) → flows ≡ countIn t FLOW → nodes ≡ countIn t NODE → variables ≡ countIn t VAR → functions ≡ countIn t FUN → arguments ≡ countIn t ARG
+    → have ≡ countIn t (c .byte) → flows ≡ countIn t FLOW → nodes ≡ countIn t NODE → variables ≡ countIn t VAR → functions ≡ countIn t FUN
+    → arguments ≡ countIn t ARG
     → opened ≡ openIn t → len ≡ lengthIn t opened → flow ≡ flowIn t (c .first) → body ≡ (leb 0x41 (c .byte) && leb (c .byte) 0x4B)
     → (have < 65536 → more ≡ have + 1) → (len < 65536 → longer ≡ len + 1) → less ≡ flows - 1
     → u₁ ≡ putIn t true countCells (c .byte) more
@@ -384,8 +445,49 @@ pub stands-noted :
     → u₂₀ ≡ markAt u₁₉ (eqb (c .byte) WIRE) wireCells (c .first * 4 + c .second) (c .third)
     → Stands u₂₀ (commandOf c ∷ past)
 unfolding markAt
-stands-noted t c have flows nodes variables functions arguments opened len flow more longer less body u₁ u₂ u₃ u₄ u₅ u₆ u₇ u₈ u₉ u₁₀ u₁₁ u₁₂ u₁₃ u₁₄ u₁₅ u₁₆ u₁₇ u₁₈ u₁₉ u₂₀ past g s v l a₁ a₂ a₃ a₄ a₅ a₆ a₇ a₈ a₉ b₁ b₂ b₃ b₄ e₁ e₂ e₃ e₄ e₅ e₆ e₇ e₈ e₉ e₁₀ e₁₁ e₁₂ e₁₃ e₁₄ e₁₅ e₁₆ e₁₇ e₁₈ e₁₉ e₂₀ =
-    let p : more ≡ countIn t (c .byte) + 1 = b₂ (omega (arith, s .counts (c .byte) (byte-low (c .byte) (v .1 .known)), count-below (c .byte) past)) ∙ rw a₁ in
+stands-noted t c have flows nodes variables functions arguments opened len flow more longer less body u₁ u₂ u₃ u₄ u₅ u₆ u₇ u₈ u₉ u₁₀ u₁₁ u₁₂
+    u₁₃ u₁₄ u₁₅ u₁₆ u₁₇ u₁₈ u₁₉ u₂₀ past g s v l a₁ a₂ a₃ a₄ a₅ a₆ a₇ a₈ a₉ b₁ b₂ b₃ b₄ e₁ e₂ e₃ e₄ e₅ e₆ e₇ e₈ e₉ e₁₀ e₁₁ e₁₂ e₁₃ e₁₄ e₁₅
+    e₁₆ e₁₇ e₁₈ e₁₉ e₂₀ =
+    let p : more ≡ countIn t (c .byte) + 1 = b₂ (omega (
+      arith,
+      s .counts (c .byte) (byte-low (c .byte) (v .1 .known)),
+      count-below
+          (c .byte) past,
+    )) ∙ rw a₁ in
     let q : longer ≡ lengthIn t (openIn t) + 1 = b₃ (omega (arith, s .lengths opened, limits past (v .0) .handlers opened)) ∙ rw (a₈, a₇) in
-    let same : u₂₀ ≡ written t (noteWrites t (commandOf c)) = rw (e₂₀, e₁₉, e₁₈, e₁₇, e₁₆, e₁₅, e₁₄, e₁₃, e₁₂, e₁₁, e₁₀, e₉, e₈, e₇, e₆, e₅, e₄, e₃, e₂, e₁, g, p, q, b₄, b₁, a₂, a₃, a₄, a₅, a₆, a₇, a₉) in
+    let same : u₂₀ ≡ written t (noteWrites t (commandOf c)) =
+    rw (
+      e₂₀,
+      e₁₉,
+      e₁₈,
+      e₁₇,
+      e₁₆,
+      e₁₅,
+      e₁₄,
+      e₁₃,
+      e₁₂,
+      e₁₁,
+      e₁₀,
+      e₉,
+      e₈,
+      e₇,
+      e₆,
+      e₅,
+      e₄,
+      e₃,
+      e₂,
+      e₁,
+      g,
+      p,
+      q,
+      b₄,
+      b₁,
+      a₂,
+      a₃,
+      a₄,
+      a₅,
+      a₆,
+      a₇,
+      a₉,
+    ) in
     rw same (stands-next t past (commandOf c) s v)

@@ -29,7 +29,7 @@ isSection s r = eqb (s .0) (r .0) && eqb (s .1) (r .1)
 abbrev pub isApart : Section → Section → Bool
 isApart s r = leb (s .0 + s .1) (r .0) || leb (r .0 + r .1) (s .0)
 
--- cell i of section s behind a write to section r
+-- cell i of section s after a write to section r
 abbrev pub changed : Section → Bool → Section → ℕ → ℕ → ℕ → ℕ → ℕ
 changed s on r j x i old = cond (isSection s r) (cond (on && (eqb j i && ltb i (s .1))) x old) old
 
@@ -84,7 +84,8 @@ module _ (t : List ℕ) (s r : Section) (j x i : ℕ) (fits : s .0 + s .1 ≤ le
       by-range false p = rw (put-outside t r j x (ltb-false j (r .1) p))
 
   -- one write
-  pub entry-put : (on : Bool) → (isSection s r || isApart s r) ≡ true → entryIn (putIn t on r j x) s i ≡ changed s on r j x i (entryIn t s i)
+  pub entry-put : (on : Bool) → (isSection s r || isApart s r) ≡ true
+      → entryIn (putIn t on r j x) s i ≡ changed s on r j x i (entryIn t s i)
   entry-put false o = rw (put-off t r j x) (sym (both (isSection s r)))
     where
       both : (b : Bool) → cond b (entryIn t s i) (entryIn t s i) ≡ entryIn t s i
@@ -101,14 +102,21 @@ module _ (t : List ℕ) (s r : Section) (j x i : ℕ) (fits : s .0 + s .1 ≤ le
       inside true old = refl
       inside false old = refl
 
-      by-section : i < s .1 → (b : Bool) → isSection s r ≡ b → entryIn (putIn t true r j x) s i ≡ cond b (cond (eqb j i && true) x (entryIn t s i)) (entryIn t s i)
+      by-section : i < s .1 → (b : Bool) → isSection s r ≡ b → entryIn (putIn t true r j x) s i ≡ cond b
+          (cond (eqb j i && true) x (entryIn t s i)) (entryIn t s i)
       by-section h true e = at-same e h ∙ sym (inside (eqb j i) (entryIn t s i))
       by-section h false e = at-apart (either (isSection s r) (isApart s r) o e) h
 
-      by-range : (b : Bool) → ltb i (s .1) ≡ b → entryIn (putIn t true r j x) s i ≡ cond (isSection s r) (cond (eqb j i && b) x (entryIn t s i)) (entryIn t s i)
+      by-range : (b : Bool) → ltb i (s .1) ≡ b → entryIn (putIn t true r j x) s i ≡ cond (isSection s r)
+          (cond (eqb j i && b) x (entryIn t s i)) (entryIn t s i)
       by-range true p = by-section (ltb-true i (s .1) p) (isSection s r) refl
       by-range false p =
-          rw (none (isSection s r) (eqb j i) (entryIn t s i), entry-outside (putIn t true r j x) s i (ltb-false i (s .1) p), entry-outside t s i (ltb-false i (s .1) p))
+          rw (
+            none (isSection s r) (eqb j i) (entryIn t s i),
+            entry-outside (putIn t true r j x) s i
+                (ltb-false i (s .1) p),
+            entry-outside t s i (ltb-false i (s .1) p),
+          )
 
 -- a write: on, section, cell, value
 pub record Write : Type 0 where
@@ -120,7 +128,7 @@ pub record Write : Type 0 where
 abbrev pub write : Bool → Section → ℕ → ℕ → Write
 write on s i x = record { on = on; section = s; cell = i; value = x }
 
--- the cells behind writes, the first one first
+-- the cells after writes, the first one first
 abbrev pub written : List ℕ → List Write → List ℕ
 written t [] = t
 written t (w ∷ ws) = written (putIn t (w .on) (w .section) (w .cell) (w .value)) ws
@@ -130,17 +138,22 @@ abbrev pub sorted : Section → List Write → Bool
 sorted s [] = true
 sorted s (w ∷ ws) = (isSection s (w .section) || isApart s (w .section)) && sorted s ws
 
--- cell i of a section behind writes
+-- cell i of a section after writes
 abbrev pub left : Section → List Write → ℕ → ℕ → ℕ
 left s [] i old = old
 left s (w ∷ ws) i old = left s ws i (changed s (w .on) (w .section) (w .cell) (w .value) i old)
 
 pub length-written : (t : List ℕ) (ws : List Write) → length (written t ws) ≡ length t
 length-written t [] = refl
-length-written t (w ∷ ws) = length-written (putIn t (w .on) (w .section) (w .cell) (w .value)) ws ∙ length-put t (w .on) (w .section) (w .cell) (w .value)
+length-written t (w ∷ ws) = length-written (putIn t (w .on) (w .section) (w .cell) (w .value)) ws
+    ∙ length-put t (w .on) (w .section) (w .cell) (w .value)
 
-pub entry-written : (t : List ℕ) (ws : List Write) (s : Section) → s .0 + s .1 ≤ length t → sorted s ws ≡ true → (i : ℕ) → entryIn (written t ws) s i ≡ left s ws i (entryIn t s i)
+pub entry-written : (t : List ℕ) (ws : List Write) (s : Section) → s .0 + s .1 ≤ length t → sorted s ws ≡ true → (i : ℕ)
+    → entryIn (written t ws) s i ≡ left s ws i (entryIn t s i)
 entry-written t [] s fits o i = refl
 entry-written t (w ∷ ws) s fits o i =
-    entry-written (putIn t (w .on) (w .section) (w .cell) (w .value)) ws s (rw (length-put t (w .on) (w .section) (w .cell) (w .value)) fits) (and-right (isSection s (w .section) || isApart s (w .section)) _ o) i
-    ∙ ap (left s ws i) (entry-put t s (w .section) (w .cell) (w .value) i fits (w .on) (and-left (isSection s (w .section) || isApart s (w .section)) _ o))
+    entry-written (putIn t (w .on) (w .section) (w .cell) (w .value)) ws s
+    (rw (length-put t (w .on) (w .section) (w .cell) (w .value)) fits)
+    (and-right (isSection s (w .section) || isApart s (w .section)) _ o) i
+    ∙ ap (left s ws i) (entry-put t s (w .section) (w .cell) (w .value) i fits (w .on)
+    (and-left (isSection s (w .section) || isApart s (w .section)) _ o))

@@ -20,9 +20,11 @@ use Rattle.writing.proofs.Words.{numbers-next}
 use Rattle.output.specs.Written.{partBytes, shownBytes}
 
 -- how long the waiting messages are
-pub length-messages : (slots : List ℕ) (first waiting : ℕ) → first + waiting ≤ length slots → length (numbersBytes (take waiting (drop first slots))) ≡ 4 * waiting
+pub length-messages : (slots : List ℕ) (first waiting : ℕ) → first + waiting ≤ length slots
+    → length (numbersBytes (take waiting (drop first slots))) ≡ 4 * waiting
 length-messages slots first waiting h =
-    length-numbers (take waiting (drop first slots)) ∙ ap (λ (k : ℕ). 4 * k) (length-take-le waiting (drop first slots) (omega (arith, length-drop first slots)))
+    length-numbers (take waiting (drop first slots)) ∙ ap (λ (k : ℕ). 4 * k)
+    (length-take-le waiting (drop first slots) (omega (arith, length-drop first slots)))
 
 -- the registers of a node in a state
 abbrev pub registersOf : State → ℕ → Registers
@@ -46,13 +48,16 @@ module _ (s : State) (bounded : BoundedCounts (s .waiting)) (counts : length (s 
       rw (count-at (s .waiting) (s .queue) bounded (omega arith) n, queue-at (s .waiting) (s .queue) n, e)
 
   pub one-shown :
-      (before : List ℕ) (n : ℕ) (snapshot : List ℕ) (at : ℕ) (after : List ℕ) (next : ℕ) → n < 32 → 74 * n + 74 ≤ length before → length after ≡ length snapshot
-      → Shown s before n snapshot at → Writes (partBytes (registersOf s n) (getD (s .waiting) n 0) (s .queue) (n * 16)) snapshot at after next
+      (before : List ℕ) (n : ℕ) (snapshot : List ℕ) (at : ℕ) (after : List ℕ) (next : ℕ) → n < 32 → 74 * n + 74 ≤ length before
+      → length after ≡ length snapshot
+      → Shown s before n snapshot at → Writes (partBytes (registersOf s n) (getD (s .waiting) n 0) (s .queue) (n * 16)) snapshot at after
+      next
       → Shown s before (n + 1) after next
   one-shown before n snapshot at after next inside fits same w p =
       let long = length-messages (s .queue) (n * 16) (getD (s .waiting) n 0) (omega (arith, bounded n)) in
       let short : length (partBytes (registersOf s n) (getD (s .waiting) n 0) (s .queue) (n * 16)) ≤ 74 = omega (arith, long, bounded n) in
-      let e : nodesBytes (view s) (n + 1) ≡ nodesBytes (view s) n ++ partBytes (registersOf s n) (getD (s .waiting) n 0) (s .queue) (n * 16) =
+      let e : nodesBytes (view s) (n + 1) ≡ nodesBytes (view s) n ++ partBytes (registersOf s n) (getD (s .waiting) n 0) (s .queue)
+      (n * 16) =
       ap (nodesBytes (view s)) (add-one n) ∙ nodes-next (view s) n ∙ ap (λ (l : List ℕ). nodesBytes (view s) n ++ l) (part-node n) in
       record {
         writes = rw e (writes-on _ _ before 0 snapshot at after next (omega (arith, w .place, w .writes .place)) (w .writes) p);
@@ -60,14 +65,15 @@ module _ (s : State) (bounded : BoundedCounts (s .waiting)) (counts : length (s 
         size = same ∙ w .size;
       }
 
--- the variables are numbers one behind the other
+-- the variables are numbers one after the other
 pub variables-numbers : (s : State) (k : ℕ) → k ≤ length (s .variable) → variablesBytes (view s) k ≡ numbersBytes (take k (s .variable))
 unfolding variablesBytes numbersBytes
 variables-numbers s zero h = refl
 variables-numbers s (suc k) h =
-    ap (λ (l : List ℕ). l ++ bytes4 (variableAt (view s) k)) (variables-numbers s k (omega arith)) ∙ sym (numbers-next (s .variable) k (omega arith)) ∙ ap (λ (i : ℕ). numbersBytes (take i (s .variable))) (add-one k)
+    ap (λ (l : List ℕ). l ++ bytes4 (variableAt (view s) k)) (variables-numbers s k (omega arith))
+    ∙ sym (numbers-next (s .variable) k (omega arith)) ∙ ap (λ (i : ℕ). numbersBytes (take i (s .variable))) (add-one k)
 
--- nodes, and behind them the variables
+-- nodes, and after them the variables
 pub all-shown :
     (s : State) (before : List ℕ) (nodes variables : ℕ) (snapshot : List ℕ) (at : ℕ) (after : List ℕ) (next : ℕ)
     → variables ≤ length (s .variable) → at + 4 * variables ≤ length before

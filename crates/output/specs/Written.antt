@@ -21,7 +21,7 @@ Narrow e = (e .node < 256) × (e .kind < 256) × (e .number < 256)
 abbrev pub NarrowPositions : Held → Type 0
 NarrowPositions s = (n : ℕ) → getD (s .position) n 0 < 256
 
--- the part of one node: its registers, how many messages wait, and these, in the slots from the first named on
+-- the part of one node: its registers, how many messages wait, and these, in the slots from `first` on
 abbrev pub partBytes : Registers → ℕ → List ℕ → ℕ → List ℕ
 partBytes x waiting slots first =
     x .position ∷ bytes4 (x .accumulator) ++ bytes4 (x .message) ++ (waiting ∷ numbersBytes (take waiting (drop first slots)))

@@ -33,7 +33,7 @@ fn put_node(
     put_words(snapshot, messages, queue, first, waiting as usize)
 }
 
-// Writes the snapshot of a state with so many nodes and variables.
+// Writes the snapshot of a state: its first nodes and its first variables, as many as are asked for.
 pub fn put_snapshot(snapshot: &mut [u8], s: State, nodes: usize, variables: usize) -> usize
     requires { ⌜ (snapshotSize ≤ length (now snapshot)) × (nodes ≤ maxNodes) × (variables ≤ maxVariables) ⌝ }
     requires { ⌜ BoundedCounts (s .waiting) ⌝ }

@@ -36,14 +36,16 @@ use Rattle.effects.proofs.Carrying.{stays}
 use Rattle.plans.specs.Plans.{entryBy, plan, Waits, judged, Plans}
 
 -- a full target by the tables and the counts is one of the program and the state
-pub full-blocks : (t : List ℕ) (hs : Handlers) (ws : List ℕ) (s : State) (n port : ℕ) → Waits s ws → full (wiredIn t n port) (countAt ws) ≡ blocked (programIn t hs) s n (instructionOf (i.Send port))
+pub full-blocks : (t : List ℕ) (hs : Handlers) (ws : List ℕ) (s : State) (n port : ℕ) → Waits s ws
+    → full (wiredIn t n port) (countAt ws) ≡ blocked (programIn t hs) s n (instructionOf (i.Send port))
 full-blocks t hs ws s n port h = some-agree _ _ (λ k. rw (wired-by t hs n port k, h k)) _
 
 -- the commands but SEND
 abbrev pub silent : List ℕ
 silent = 0 ∷ 1 ∷ 2 ∷ 3 ∷ 4 ∷ 5 ∷ 6 ∷ 7 ∷ 9 ∷ 10 ∷ []
 
-pub silent-goes : (P : Program) (s : State) (n : ℕ) (k : Instruction) → OneOf silent (tagOf the-type k) → false ≡ blocked P s n (instructionOf k)
+pub silent-goes : (P : Program) (s : State) (n : ℕ) (k : Instruction) → OneOf silent (tagOf the-type k)
+    → false ≡ blocked P s n (instructionOf k)
 silent-goes P s n (i.Set v) h = refl
 silent-goes P s n i.Take h = refl
 silent-goes P s n (i.Get x) h = refl
@@ -57,7 +59,8 @@ silent-goes P s n (i.Call f) h = refl
 silent-goes P s n i.Skip h = refl
 
 -- a command whose entry is not permitted is no send, so that no target is full
-forbidden-goes : (P : Program) (s : State) (n : ℕ) (k : Instruction) → permitted P (entryOf P s n (instructionOf k)) ≡ false → blocked P s n (instructionOf k) ≡ false
+forbidden-goes : (P : Program) (s : State) (n : ℕ) (k : Instruction) → permitted P (entryOf P s n (instructionOf k)) ≡ false
+    → blocked P s n (instructionOf k) ≡ false
 forbidden-goes P s n (i.Set v) h = refl
 forbidden-goes P s n i.Take h = refl
 forbidden-goes P s n (i.Get x) h = refl
@@ -81,7 +84,8 @@ pub judged-stopped : (monitored : Bool) (P : Program) (k : ℕ) (x : Meant) → 
 judged-stopped true P k x = refl
 judged-stopped false P k x = refl
 
-pub judged-made : (monitored : Bool) (P : Program) (x : Meant) (s : State) → (monitored && not (permitted P x)) ≡ false → judged monitored P (completed x s) ≡ completed x s
+pub judged-made : (monitored : Bool) (P : Program) (x : Meant) (s : State) → (monitored && not (permitted P x)) ≡ false
+    → judged monitored P (completed x s) ≡ completed x s
 judged-made true P x s h = by-permitted (permitted P x) h
   where
     by-permitted : (b : Bool) → not b ≡ false → cond b (completed x s) (stopped 1 (redacted x)) ≡ completed x s
@@ -89,7 +93,8 @@ judged-made true P x s h = by-permitted (permitted P x) h
     by-permitted false e = true-false e
 judged-made false P x s h = refl
 
-judged-forbidden : (monitored : Bool) (P : Program) (x : Meant) (s : State) → (monitored && not (permitted P x)) ≡ true → judged monitored P (completed x s) ≡ stopped 1 (redacted x)
+judged-forbidden : (monitored : Bool) (P : Program) (x : Meant) (s : State) → (monitored && not (permitted P x)) ≡ true
+    → judged monitored P (completed x s) ≡ stopped 1 (redacted x)
 judged-forbidden true P x s h = by-permitted (permitted P x) h
   where
     by-permitted : (b : Bool) → not b ≡ true → cond b (completed x s) (stopped 1 (redacted x)) ≡ stopped 1 (redacted x)
@@ -105,39 +110,55 @@ not-permitted false b h = true-false (sym h)
 module _ (P : Program) (s : State) (node : NodeNum) where
   -- a plan that leaves everything as it is, for a stop
   pub stop-planned :
-      (l : Registers) → registersAt s (node .0) ≡ l → (turned : Turned) (k : ℕ) (x : Meant) → turned ≡ stopped k x → (outcome : Outcome) → ((after : State) → turnedBy outcome after ≡ stopped k x)
+      (l : Registers) → registersAt s (node .0) ≡ l → (turned : Turned) (k : ℕ) (x : Meant) → turned ≡ stopped k x → (outcome : Outcome)
+      → ((after : State) → turnedBy outcome after ≡ stopped k x)
       → Plans P s (node .0) turned (plan l c.Nothing outcome)
   stop-planned l own turned k x e outcome tells =
       record {
-        comes = record { tells = tells _ ∙ sym e; leaves = subst (λ (o : Registers). carried P s (node .0) o c.Nothing ≡ s) own (stays P s (node .0)) ∙ ap (stateAfter s) (sym e) };
+        comes = record {
+          tells = tells _ ∙ sym e;
+          leaves = subst (λ (o : Registers). carried P s (node .0) o c.Nothing ≡ s) own
+              (stays P s (node .0)) ∙ ap (stateAfter s) (sym e);
+        };
         possible = tt;
         stays = λ _. (sym own, refl);
       }
 
   -- a plan for a completed turn
   pub made-planned :
-      (l : Registers) (change : Change) (turned : Turned) (x : Meant) (after : State) → turned ≡ completed x after → (event : Event) → entryFor (node .0) event ≡ x → carried P s (node .0) l change ≡ after
+      (l : Registers) (change : Change) (turned : Turned) (x : Meant) (after : State) → turned ≡ completed x after → (event : Event)
+      → entryFor (node .0) event ≡ x → carried P s (node .0) l change ≡ after
       → Possible (P .wired (node .0)) (node .0) (waitingAt s) change
       → Plans P s (node .0) turned (plan l change (o.Made (entryBy node event)))
   made-planned l change turned x after e event same leads can =
-      record { comes = record { tells = rw (same, leads) (sym e); leaves = leads ∙ ap (stateAfter s) (sym e) }; possible = can; stays = λ h. true-false (sym h) }
+      record {
+        comes = record { tells = rw (same, leads) (sym e); leaves = leads ∙ ap (stateAfter s) (sym e) };
+        possible = can;
+        stays = λ h.
+            true-false (sym h);
+      }
 
 -- the turn of a node at a handler command, by the event that the command leaves
-module _ (P : Program) (s : State) (node : NodeNum) (monitored : Bool) (k : Instruction) (event : Event) (left : entryFor (node .0) event ≡ entryOf P s (node .0) (instructionOf k)) where
+module _ (P : Program) (s : State) (node : NodeNum) (monitored : Bool) (k : Instruction) (event : Event)
+    (left : entryFor (node .0) event ≡ entryOf P s (node .0) (instructionOf k)) where
   pub forbidden-planned :
-      (l : Registers) → registersAt s (node .0) ≡ l → (monitored && not (permitted P (entryFor (node .0) event))) ≡ true → (shown : Event) → entryFor (node .0) shown ≡ redacted (entryFor (node .0) event)
-      → Plans P s (node .0) (judged monitored P (executed P s (node .0) (instructionOf k))) (plan l c.Nothing (o.Stopped (st.Forbidden (entryBy node shown))))
+      (l : Registers) → registersAt s (node .0) ≡ l → (monitored && not (permitted P (entryFor (node .0) event))) ≡ true → (shown : Event)
+      → entryFor (node .0) shown ≡ redacted (entryFor (node .0) event)
+      → Plans P s (node .0) (judged monitored P (executed P s (node .0) (instructionOf k)))
+      (plan l c.Nothing (o.Stopped (st.Forbidden (entryBy node shown))))
   forbidden-planned l own h shown same =
       let n = node .0 in
       let f : (monitored && not (permitted P (entryOf P s n (instructionOf k)))) ≡ true = rw (← left) h in
       let goes = forbidden-goes P s n k (not-permitted monitored _ f) in
       stop-planned P s node l own _ 1 (redacted (entryOf P s n (instructionOf k)))
-      (ap (judged monitored P) (executed-done P s n (instructionOf k) goes) ∙ judged-forbidden monitored P _ (performed P s n (instructionOf k)) f)
+      (ap (judged monitored P) (executed-done P s n (instructionOf k) goes)
+      ∙ judged-forbidden monitored P _ (performed P s n (instructionOf k)) f)
       (o.Stopped (st.Forbidden (entryBy node shown))) (λ after. ap (stopped 1) (same ∙ ap redacted left))
 
   pub full-planned :
       (l : Registers) → registersAt s (node .0) ≡ l → blocked P s (node .0) (instructionOf k) ≡ true
-      → Plans P s (node .0) (judged monitored P (executed P s (node .0) (instructionOf k))) (plan l c.Nothing (o.Stopped (st.Full (entryBy node event))))
+      → Plans P s (node .0) (judged monitored P (executed P s (node .0) (instructionOf k)))
+      (plan l c.Nothing (o.Stopped (st.Full (entryBy node event))))
   full-planned l own h =
       let n = node .0 in
       stop-planned P s node l own _ 3 (entryOf P s n (instructionOf k))
@@ -145,11 +166,14 @@ module _ (P : Program) (s : State) (node : NodeNum) (monitored : Bool) (k : Inst
       (o.Stopped (st.Full (entryBy node event))) (λ after. ap (stopped 3) left)
 
   pub made-by :
-      (monitored && not (permitted P (entryFor (node .0) event))) ≡ false → blocked P s (node .0) (instructionOf k) ≡ false → (x : Effect) → Does P s (node .0) (instructionOf k) x
-      → Plans P s (node .0) (judged monitored P (executed P s (node .0) (instructionOf k))) (plan (x .registers) (x .change) (o.Made (entryBy node event)))
+      (monitored && not (permitted P (entryFor (node .0) event))) ≡ false → blocked P s (node .0) (instructionOf k) ≡ false → (x : Effect)
+      → Does P s (node .0) (instructionOf k) x
+      → Plans P s (node .0) (judged monitored P (executed P s (node .0) (instructionOf k)))
+      (plan (x .registers) (x .change) (o.Made (entryBy node event)))
   made-by h goes x does =
       let n = node .0 in
       let f : (monitored && not (permitted P (entryOf P s n (instructionOf k)))) ≡ false = rw (← left) h in
       made-planned P s node (x .registers) (x .change) _ (entryOf P s n (instructionOf k)) (performed P s n (instructionOf k))
-      (ap (judged monitored P) (executed-done P s n (instructionOf k) goes) ∙ judged-made monitored P (entryOf P s n (instructionOf k)) (performed P s n (instructionOf k)) f)
+      (ap (judged monitored P) (executed-done P s n (instructionOf k) goes)
+      ∙ judged-made monitored P (entryOf P s n (instructionOf k)) (performed P s n (instructionOf k)) f)
       event left (does .state) (does .possible goes)

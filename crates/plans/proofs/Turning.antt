@@ -34,29 +34,38 @@ module _ (P : Program) (s : State) (node : NodeNum) (monitored : Bool) (l : Regi
   ruled : (turned : Turned) → turn P s (node .0) ≡ turned → ruleOf monitored P s (node .0) ≡ judged monitored P turned
   ruled turned h = rule-judged monitored P s (node .0) ∙ ap (judged monitored P) h
 
-  pub unready-planned : l .position ≡ 255 → waitingAt s (node .0) ≡ 0 → Plans P s (node .0) (ruleOf monitored P s (node .0)) (plan l c.Nothing (o.Stopped (st.Unready node)))
+  pub unready-planned : l .position ≡ 255 → waitingAt s (node .0) ≡ 0
+      → Plans P s (node .0) (ruleOf monitored P s (node .0)) (plan l c.Nothing (o.Stopped (st.Unready node)))
   unready-planned p none =
-      stop-planned P s node l own _ 2 (entry (node .0) 0 0 0) (ruled _ (turn-unready P s (node .0) (at ∙ p) none) ∙ judged-stopped monitored P 2 (entry (node .0) 0 0 0)) (o.Stopped (st.Unready node)) (λ after. refl)
+      stop-planned P s node l own _ 2 (entry (node .0) 0 0 0)
+      (ruled _ (turn-unready P s (node .0) (at ∙ p) none) ∙ judged-stopped monitored P 2 (entry (node .0) 0 0 0))
+      (o.Stopped (st.Unready node)) (λ after. refl)
 
   pub begun-planned :
       l .position ≡ 255 → ¬ (waitingAt s (node .0) ≡ 0) → (first : ℕ) → oldest s (node .0) ≡ first
       → Plans P s (node .0) (ruleOf monitored P s (node .0)) (plan (registers 0 0 first) c.Take (o.Made (entryBy node (e.Begin first))))
   begun-planned p some first h =
-      subst (λ (v : ℕ). Plans P s (node .0) (ruleOf monitored P s (node .0)) (plan (registers 0 0 v) c.Take (o.Made (entryBy node (e.Begin v))))) h
+      subst (λ (v : ℕ). Plans P s (node .0) (ruleOf monitored P s (node .0))
+      (plan (registers 0 0 v) c.Take (o.Made (entryBy node (e.Begin v))))) h
       (made-planned P s node (registers 0 0 (oldest s (node .0))) c.Take _ (entry (node .0) 1 0 (oldest s (node .0))) (begun s (node .0))
-      (ruled _ (turn-begun P s (node .0) (at ∙ p) some) ∙ judged-made monitored P (entry (node .0) 1 0 (oldest s (node .0))) (begun s (node .0)) (never monitored))
+      (ruled _ (turn-begun P s (node .0) (at ∙ p) some) ∙ judged-made monitored P (entry (node .0) 1 0 (oldest s (node .0)))
+      (begun s (node .0)) (never monitored))
       (e.Begin (oldest s (node .0))) refl refl (omega (arith, some)))
 
   pub finished-planned :
-      ¬ (l .position ≡ 255) → length (P .handler (node .0)) ≤ l .position → Plans P s (node .0) (ruleOf monitored P s (node .0)) (plan (registers 255 0 0) c.Nothing (o.Made (entryBy node e.Finish)))
+      ¬ (l .position ≡ 255) → length (P .handler (node .0)) ≤ l .position
+      → Plans P s (node .0) (ruleOf monitored P s (node .0)) (plan (registers 255 0 0) c.Nothing (o.Made (entryBy node e.Finish)))
   finished-planned p h =
       made-planned P s node (registers 255 0 0) c.Nothing _ (entry (node .0) 2 0 0) (finished s (node .0))
-      (ruled _ (turn-finished P s (node .0) (λ q. p (sym at ∙ q)) (omega (arith, at))) ∙ judged-made monitored P (entry (node .0) 2 0 0) (finished s (node .0)) (never monitored))
+      (ruled _ (turn-finished P s (node .0) (λ q. p (sym at ∙ q)) (omega (arith, at)))
+      ∙ judged-made monitored P (entry (node .0) 2 0 0) (finished s (node .0)) (never monitored))
       e.Finish refl refl tt
 
   pub executed-planned :
-      ¬ (l .position ≡ 255) → l .position < length (P .handler (node .0)) → (i : Instruction) → i ≡ instructionAt P (node .0) (l .position) → (p : Plan)
+      ¬ (l .position ≡ 255) → l .position < length (P .handler (node .0)) → (i : Instruction) → i ≡ instructionAt P (node .0) (l .position)
+      → (p : Plan)
       → Plans P s (node .0) (judged monitored P (executed P s (node .0) i)) p → Plans P s (node .0) (ruleOf monitored P s (node .0)) p
   executed-planned q h i same p plans =
       subst (λ (x : Turned). Plans P s (node .0) x p)
-      (sym (ruled _ (turn-executed P s (node .0) (λ r. q (sym at ∙ r)) (omega (arith, at))) ∙ ap (λ (j : Instruction). judged monitored P (executed P s (node .0) j)) (ap (instructionAt P (node .0)) at ∙ sym same))) plans
+      (sym (ruled _ (turn-executed P s (node .0) (λ r. q (sym at ∙ r)) (omega (arith, at)))
+      ∙ ap (λ (j : Instruction). judged monitored P (executed P s (node .0) j)) (ap (instructionAt P (node .0)) at ∙ sym same))) plans

@@ -50,10 +50,12 @@ pub record Plans (P : Program) (s : State) (n : ℕ) (turned : Turned) (p : Plan
   pub possible : Possible (P .wired n) n (waitingAt s) (p .change)
   pub stays : isStop (p .outcome) ≡ true → (p .registers ≡ registersAt s n) × (p .change ≡ c.Nothing)
 
--- the plan is what the node's turn at the handler command comes to, in every state with these registers, counts and variables, whatever the handlers are
+-- the plan is what the node's turn at the handler command comes to, in every state with these registers, counts and variables, whatever the
+-- handlers are
 abbrev pub PlansCommand : List ℕ → NodeNum → Bool → Instruction → Registers → List ℕ → List ℕ → Plan → Type 0
 PlansCommand t n monitored i l ws variables p =
-    (hs : Handlers) (s : State) → Shows s (n .0) l variables → Waits s ws → Plans (programIn t hs) s (n .0) (judged monitored (programIn t hs) (executed (programIn t hs) s (n .0) (instructionOf i))) p
+    (hs : Handlers) (s : State) → Shows s (n .0) l variables → Waits s ws
+    → Plans (programIn t hs) s (n .0) (judged monitored (programIn t hs) (executed (programIn t hs) s (n .0) (instructionOf i))) p
 
 -- the plan is the node's turn, in every state with these registers, counts and variables and, if a message waits, this oldest one,
 -- whatever the handlers are, if this stands in the node's own at its position

@@ -85,7 +85,8 @@ fn decide<'a>(
     variable: &'a [u32],
 ) -> Plan
     requires { ⌜ registers .position < 4294967295 ⌝ }
-    ensures { λ r. ⌜ PlansCommand (now (tables .entry)) n monitored instruction registers (now (waiting .entry)) (now (variable .entry)) r ⌝ }
+    ensures { λ r. ⌜ PlansCommand (now (tables .entry)) n monitored instruction registers (now (waiting .entry))
+        (now (variable .entry)) r ⌝ }
 {
     let event = event_of(tables, instruction, registers.accumulator, variable);
     let effect = effect_of(tables, instruction, registers, variable);
@@ -123,7 +124,8 @@ pub fn plan_turn<'a>(
     variable: &'a [u32],
 ) -> Plan
     requires { ⌜ (n .0 < 32) × (registers .position < 256) ⌝ }
-    ensures { λ r. ⌜ PlansTurn (now (tables .entry)) fetched n monitored registers oldest (now (waiting .entry)) (now (variable .entry)) r ⌝ }
+    ensures { λ r. ⌜ PlansTurn (now (tables .entry)) fetched n monitored registers oldest (now (waiting .entry))
+        (now (variable .entry)) r ⌝ }
 {
     let i = n.0 as usize;
     if registers.position == IDLE {

@@ -1,4 +1,4 @@
--- What is printed of bytes depends on those alone that are named: bytes behind them change no line.
+-- What is printed of bytes depends on those alone that are named: bytes after them change no line.
 use Prim.Native.Nat.{ℕ, zero, suc, _+_, _*_, _≤_, _<_}
 use mathlib.Core.Path.{_≡_, refl, ap, _∙_}
 use mathlib.Core.List.{List, [], _∷_, _++_, append-assoc}

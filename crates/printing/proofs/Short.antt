@@ -6,7 +6,8 @@ use native.Mathlib.Nat.{mul-suc}
 use native.Mathlib.Omega.{arith}
 use lib.ListN.{length, length-append}
 use Rattle.text.specs.Text.{decimal, field, fields, line, joined}
-use Rattle.lines.specs.Lines.{endWord, nodeWord, varWord, refusedWord, entryLine, endLine, messagesAt, waitingAt, partAt, nodeLine, variableLine, nodeLines, snapshotLines, runLines, refusedLine}
+use Rattle.lines.specs.Lines.{endWord, nodeWord, varWord, refusedWord, entryLine, endLine, messagesAt, waitingAt, partAt, nodeLine}
+use Rattle.lines.specs.Lines.{variableLine, nodeLines, snapshotLines, runLines, refusedLine}
 use Rattle.text.proofs.Decimals.{decimal-short, decimal-20}
 use Rattle.lines.proofs.Parts.{partLine}
 use Rattle.lines.proofs.Texts.{messageField, messages-each}
@@ -35,7 +36,7 @@ no-fields = refl
 length-line : (first numbers : List ℕ) → length (line first numbers) ≡ length first + length (fields numbers) + 1
 length-line first numbers = omega (arith, length-append first (fields numbers ++ (10 ∷ [])), length-append (fields numbers) (10 ∷ []))
 
--- texts of at most so many bytes each
+-- texts of at most this many bytes each
 first-short : (f : ℕ → List ℕ) (most : ℕ) → ((k : ℕ) → length (f k) ≤ most) → (n : ℕ) → length (joined f n) ≤ most * n
 unfolding joined
 first-short f most h zero = omega arith
@@ -61,11 +62,26 @@ module _ (xs : List ℕ) (bytes : Bytes xs) where
       let kind = numberAt xs (7 * k + 1) 1 in
       let number = numberAt xs (7 * k + 2) 1 in
       let value = numberAt xs (7 * k + 3) 4 in
-      omega (arith, length-line (decimal (numberAt xs (7 * k) 1)) (kind ∷ number ∷ value ∷ []), length-fields kind (number ∷ value ∷ []), length-fields number (value ∷ []), length-fields value [], no-fields, decimal-short 3 (numberAt xs (7 * k) 1) (omega arith) (byte-short (7 * k)), byte-field (7 * k + 1), byte-field (7 * k + 2), word-field (7 * k + 3))
+      omega (
+        arith,
+        length-line (decimal (numberAt xs (7 * k) 1)) (kind ∷ number ∷ value ∷ []),
+        length-fields kind
+            (number ∷ value ∷ []),
+        length-fields number (value ∷ []),
+        length-fields value [],
+        no-fields,
+        decimal-short 3
+            (numberAt xs (7 * k) 1) (omega arith) (byte-short (7 * k)),
+        byte-field (7 * k + 1),
+        byte-field (7 * k + 2),
+        word-field
+            (7 * k + 3),
+      )
 
   -- the lines of a snapshot
   messages-short : (place count : ℕ) → length (fields (messagesAt xs place count)) ≤ 11 * count
-  messages-short place count = rw (← messages-each xs place count) (first-short (messageField xs place) 11 (λ i. word-field (place + 4 * i)) count)
+  messages-short place count = rw (← messages-each xs place count)
+      (first-short (messageField xs place) 11 (λ i. word-field (place + 4 * i)) count)
 
   node-short : (place n : ℕ) → length (nodeLine xs place n) ≤ 56 + 11 * waitingAt xs place
   unfolding nodeLine
@@ -75,7 +91,25 @@ module _ (xs : List ℕ) (bytes : Bytes xs) where
       let message = numberAt xs (place + 5) 4 in
       let waiting = waitingAt xs place in
       let messages = messagesAt xs (place + 10) waiting in
-      omega (arith, length-line nodeWord (n ∷ position ∷ accumulator ∷ message ∷ waiting ∷ messages), length-fields n (position ∷ accumulator ∷ message ∷ waiting ∷ messages), length-fields position (accumulator ∷ message ∷ waiting ∷ messages), length-fields accumulator (message ∷ waiting ∷ messages), length-fields message (waiting ∷ messages), length-fields waiting messages, messages-short (place + 10) waiting, field-21 n, byte-field place, word-field (place + 1), word-field (place + 5), byte-field (place + 9))
+      omega (
+        arith,
+        length-line nodeWord (n ∷ position ∷ accumulator ∷ message ∷ waiting ∷ messages),
+        length-fields n
+            (position ∷ accumulator ∷ message ∷ waiting ∷ messages),
+        length-fields position
+            (accumulator ∷ message ∷ waiting ∷ messages),
+        length-fields accumulator (message ∷ waiting ∷ messages),
+        length-fields message
+            (waiting ∷ messages),
+        length-fields waiting messages,
+        messages-short
+            (place + 10) waiting,
+        field-21 n,
+        byte-field place,
+        word-field (place + 1),
+        word-field (place + 5),
+        byte-field (place + 9),
+      )
 
   nodes-short : (n : ℕ) → length (nodeLines xs n) ≤ 9 * partAt xs n
   unfolding joined partAt
@@ -86,25 +120,69 @@ module _ (xs : List ℕ) (bytes : Bytes xs) where
   unfolding variableLine
   variable-short place x =
       let value = numberAt xs (place + 4 * x) 4 in
-      omega (arith, length-line varWord (x ∷ value ∷ []), length-fields x (value ∷ []), length-fields value [], no-fields, field-21 x, word-field (place + 4 * x))
+      omega (
+        arith,
+        length-line varWord (x ∷ value ∷ []),
+        length-fields x
+            (value ∷ []),
+        length-fields value [],
+        no-fields,
+        field-21 x,
+        word-field (place + 4 * x),
+      )
 
   snapshot-short : (nodes variables : ℕ) → length (snapshotLines xs nodes variables) ≤ 9 * (partAt xs nodes + 4 * variables)
   unfolding snapshotLines
   snapshot-short nodes variables =
       let lines = joined (variableLine xs (partAt xs nodes)) variables in
-      omega (arith, nodes-short nodes, first-short (variableLine xs (partAt xs nodes)) 36 (variable-short (partAt xs nodes)) variables, length-append (nodeLines xs nodes) lines)
+      omega (
+        arith,
+        nodes-short nodes,
+        first-short (variableLine xs (partAt xs nodes)) 36
+            (variable-short (partAt xs nodes)) variables,
+        length-append (nodeLines xs nodes) lines,
+      )
 
 -- the line of an answer and of a refusal
 end-short : (x : Answer) → length (endLine x) ≤ 130
 unfolding endLine fields
 end-short x =
     let e = x .attempted in
-    omega (arith, length-line endWord (x .stop ∷ x .turns ∷ e .node ∷ e .kind ∷ e .number ∷ e .value ∷ []), length-fields (x .stop) (x .turns ∷ e .node ∷ e .kind ∷ e .number ∷ e .value ∷ []), length-fields (x .turns) (e .node ∷ e .kind ∷ e .number ∷ e .value ∷ []), length-fields (e .node) (e .kind ∷ e .number ∷ e .value ∷ []), length-fields (e .kind) (e .number ∷ e .value ∷ []), length-fields (e .number) (e .value ∷ []), length-fields (e .value) [], no-fields, field-21 (x .stop), field-21 (x .turns), field-21 (e .node), field-21 (e .kind), field-21 (e .number), field-21 (e .value))
+    omega (
+      arith,
+      length-line endWord (x .stop ∷ x .turns ∷ e .node ∷ e .kind ∷ e .number ∷ e .value ∷ []),
+      length-fields (x .stop)
+          (x .turns ∷ e .node ∷ e .kind ∷ e .number ∷ e .value ∷ []),
+      length-fields (x .turns)
+          (e .node ∷ e .kind ∷ e .number ∷ e .value ∷ []),
+      length-fields (e .node) (e .kind ∷ e .number ∷ e .value ∷ []),
+      length-fields
+          (e .kind) (e .number ∷ e .value ∷ []),
+      length-fields (e .number) (e .value ∷ []),
+      length-fields (e .value) [],
+      no-fields,
+      field-21
+          (x .stop),
+      field-21 (x .turns),
+      field-21 (e .node),
+      field-21 (e .kind),
+      field-21 (e .number),
+      field-21 (e .value),
+    )
 
 pub refused-short : (number place : ℕ) → length (refusedLine number place) ≤ 50
 unfolding refusedLine
 refused-short number place =
-    omega (arith, length-line refusedWord (number ∷ place ∷ []), length-fields number (place ∷ []), length-fields place [], no-fields, field-21 number, field-21 place)
+    omega (
+      arith,
+      length-line refusedWord (number ∷ place ∷ []),
+      length-fields number
+          (place ∷ []),
+      length-fields place [],
+      no-fields,
+      field-21 number,
+      field-21 place,
+    )
 
 -- a run
 pub run-short :
@@ -113,4 +191,13 @@ pub run-short :
 unfolding runLines
 run-short x trace snapshot b c nodes variables =
     let shown = snapshotLines snapshot nodes variables in
-    omega (arith, first-short (entryLine trace) 23 (entry-short trace b) (x .turns), end-short x, snapshot-short snapshot c nodes variables, length-append (joined (entryLine trace) (x .turns)) (endLine x ++ shown), length-append (endLine x) shown)
+    omega (
+      arith,
+      first-short (entryLine trace) 23 (entry-short trace b)
+          (x .turns),
+      end-short x,
+      snapshot-short snapshot c nodes variables,
+      length-append (joined (entryLine trace) (x .turns))
+          (endLine x ++ shown),
+      length-append (endLine x) shown,
+    )

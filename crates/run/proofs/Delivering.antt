@@ -13,7 +13,8 @@ use Rattle.model.specs.Program.{programOf}
 use Rattle.model.specs.State.{State}
 use Rattle.model.specs.Run.{monitoredRun, unmonitoredRun}
 use Rattle.model.specs.Output.{snapshotBytes}
-use Rattle.model.specs.Refusal.{Refusal, Decoded, accepted, rejected, acceptUnless, andThen, decodeJob, Sizes, workSize, shortBuffer, decodeFor}
+use Rattle.model.specs.Refusal.{Refusal, Decoded, accepted, rejected, acceptUnless, andThen, decodeJob, Sizes, workSize, shortBuffer}
+use Rattle.model.specs.Refusal.{decodeFor}
 use Rattle.model.specs.Result.{Result, refused, report, monitored, unmonitored, Buffers, sizesOf, written}
 use Rattle.model.specs.Result.{traceAfter, snapshotAfter, workAfter}
 use Rattle.model.specs.Valid.{Bytes, ValidJob}
@@ -37,8 +38,9 @@ use Rattle.run.specs.declared.answer.Answer.the-variants as a
 use Rattle.run.specs.Delivered.{AcceptedWith, DeliversRun}
 use Rattle.run.specs.Answers.{answer, toldBy, toldIn, resultFor, buffers, Delivers}
 
--- accepted behind a further test: accepted before it, and the test finds nothing
-pub and-then-accepted : (test : List Command → Option Refusal) (d : Decoded) (past : List Command) → andThen test d ≡ accepted past → (d ≡ accepted past) × (test past ≡ none)
+-- accepted after a further test: accepted before it, and the test finds nothing
+pub and-then-accepted : (test : List Command → Option Refusal) (d : Decoded) (past : List Command) → andThen test d ≡ accepted past
+    → (d ≡ accepted past) × (test past ≡ none)
 and-then-accepted test (accepted all) past e = by-test (test all) refl e
   where
     by-test : (r : Option Refusal) → test all ≡ r → acceptUnless all r ≡ accepted past → (accepted all ≡ accepted past) × (test past ≡ none)
@@ -52,7 +54,8 @@ drop-same n xs ys e same =
     ext-getD 0 (drop n xs) (drop n ys) (length-drop n xs ∙ ap (λ (k : ℕ). k - n) e ∙ sym (length-drop n ys))
     (λ i h. getD-drop n xs i 0 ∙ same (n + i) (omega arith) ∙ sym (getD-drop n ys i 0))
 
-over-same : (size : ℕ) (xs ys : List ℕ) → length xs ≡ length ys → ((i : ℕ) → size ≤ i → getD xs i 0 ≡ getD ys i 0) → written (replicate size 0) xs ≡ written (replicate size 0) ys
+over-same : (size : ℕ) (xs ys : List ℕ) → length xs ≡ length ys → ((i : ℕ) → size ≤ i → getD xs i 0 ≡ getD ys i 0)
+    → written (replicate size 0) xs ≡ written (replicate size 0) ys
 over-same size xs ys e same =
     let long = length-replicate {A = ℕ} size 0 in
     ap (λ (l : List ℕ). replicate size 0 ++ l) (drop-same (length (replicate {A = ℕ} size 0)) xs ys e (λ i h. same i (omega arith)))
@@ -110,7 +113,8 @@ module _ (job t : List ℕ) (b : Sizes) (f : AcceptedWith job t b) where
 module _ (job t : List ℕ) (before : Buffers) (f : AcceptedWith job t (sizesOf before)) (m : Bool) where
   pub hands-over :
       (trace : List ℕ) (x : Ran) → ((past : List Command) → decodeJob job ≡ accepted past → RunsAs (runOf m past) (before .trace) trace x)
-      → (snapshot : List ℕ) (next : ℕ) → Writes (shownBytes (view (x .state)) (countIn t NODE) (countIn t VAR)) (before .snapshot) 0 snapshot next
+      → (snapshot : List ℕ) (next : ℕ) → Writes (shownBytes (view (x .state)) (countIn t NODE) (countIn t VAR))
+      (before .snapshot) 0 snapshot next
       → (work : List ℕ) (last : ℕ) → Writes (replicate workSize 0) (loaded (before .work) (commandsOf (decodeJob job))) 0 work last
       → DeliversRun m job before (buffers trace snapshot work) (x .ending)
   unfolding report
@@ -118,19 +122,25 @@ module _ (job t : List ℕ) (before : Buffers) (f : AcceptedWith job t (sizesOf 
       let d = f .decoded in
       let same : f .past ≡ past = cc in
       let r : RunsAs (runOf m (f .past)) (before .trace) trace x = runs (f .past) (both job t (sizesOf before) f .0) in
-      let shown = ap (λ (s : State). shownBytes s (countIn t NODE) (countIn t VAR)) (r .state) ∙ shown-snapshot job t (sizesOf before) f (runOf m (f .past) .final) in
-      let given : Delivers (report (programOf (f .past)) (runOf m (f .past))) before (buffers trace snapshot work) (a.Ended (x .ending)) = record {
+      let shown = ap (λ (s : State). shownBytes s (countIn t NODE) (countIn t VAR)) (r .state)
+      ∙ shown-snapshot job t (sizesOf before) f (runOf m (f .past) .final) in
+      let given : Delivers (report (programOf (f .past)) (runOf m (f .past))) before (buffers trace snapshot work)
+      (a.Ended (x .ending)) = record {
         told = ap answer (r .answer);
         left = record {
           trace = r .trace;
           snapshot = shows .buffer ∙ placed-front (before .snapshot) _ ∙ ap (λ (l : List ℕ). written l (before .snapshot)) shown;
-          work = zeros .buffer ∙ placed-front _ (replicate workSize 0) ∙ ap (written (replicate workSize 0)) (loads job t (sizesOf before) f (before .work)) ∙ zeros-over job t (sizesOf before) f (before .work);
+          work = zeros .buffer ∙ placed-front _ (replicate workSize 0)
+              ∙ ap (written (replicate workSize 0)) (loads job t (sizesOf before) f (before .work))
+              ∙ zeros-over job t (sizesOf before) f (before .work);
         };
       } in
-      subst (λ (p : List Command). Delivers (report (programOf p) (runOf m p)) before (buffers trace snapshot work) (a.Ended (x .ending))) same given
+      subst (λ (p : List Command). Delivers (report (programOf p) (runOf m p)) before (buffers trace snapshot work) (a.Ended (x .ending)))
+      same given
 
 -- the model's result of a job that is accepted, and of one that is refused
-pub result-ran : (m : Bool) (job : List ℕ) (b : Sizes) (past : List Command) → decodeFor job b ≡ accepted past → resultFor m job b ≡ report (programOf past) (runOf m past)
+pub result-ran : (m : Bool) (job : List ℕ) (b : Sizes) (past : List Command) → decodeFor job b ≡ accepted past
+    → resultFor m job b ≡ report (programOf past) (runOf m past)
 unfolding monitored unmonitored monitoredRun unmonitoredRun
 result-ran true job b past e = rw e
 result-ran false job b past e = rw e
@@ -142,16 +152,22 @@ result-refused false job b r e = rw e
 
 -- what the entry points deliver
 module _ (m : Bool) (job : List ℕ) (before : Buffers) where
-  pub delivers-refused : (q : Refused) → decodeFor job (sizesOf before) ≡ rejected (refusalOf q) → Delivers (resultFor m job (sizesOf before)) before before (a.Refused q)
-  delivers-refused q e = subst (λ (r : Result). Delivers r before before (a.Refused q)) (sym (result-refused m job (sizesOf before) (refusalOf q) e)) (record { told = refl; left = record { trace = refl; snapshot = refl; work = refl } })
+  pub delivers-refused : (q : Refused) → decodeFor job (sizesOf before) ≡ rejected (refusalOf q)
+      → Delivers (resultFor m job (sizesOf before)) before before (a.Refused q)
+  delivers-refused q e = subst (λ (r : Result). Delivers r before before (a.Refused q))
+      (sym (result-refused m job (sizesOf before) (refusalOf q) e))
+      (record { told = refl; left = record { trace = refl; snapshot = refl; work = refl } })
 
-  pub delivers-ran : (after : Buffers) (x : Ending) (past : List Command) → decodeFor job (sizesOf before) ≡ accepted past → DeliversRun m job before after x → Delivers (resultFor m job (sizesOf before)) before after (a.Ended x)
-  delivers-ran after x past e h = subst (λ (r : Result). Delivers r before after (a.Ended x)) (sym (result-ran m job (sizesOf before) past e)) (h past e)
+  pub delivers-ran : (after : Buffers) (x : Ending) (past : List Command) → decodeFor job (sizesOf before) ≡ accepted past
+      → DeliversRun m job before after x → Delivers (resultFor m job (sizesOf before)) before after (a.Ended x)
+  delivers-ran after x past e h = subst (λ (r : Result). Delivers r before after (a.Ended x))
+      (sym (result-ran m job (sizesOf before) past e)) (h past e)
 
 -- what is delivered, from what is told and the three buffers
 pub delivers-by :
     (result : Result) (before after : Buffers) (x : Answer)
-    → toldBy x ≡ toldIn result → after .trace ≡ traceAfter result (before .trace) → after .snapshot ≡ snapshotAfter result (before .snapshot)
+    → toldBy x ≡ toldIn result → after .trace ≡ traceAfter result (before .trace)
+    → after .snapshot ≡ snapshotAfter result (before .snapshot)
     → after .work ≡ workAfter result (before .work) → Delivers result before after x
 delivers-by result before after x told trace snapshot work =
     record { told = told; left = record { trace = trace; snapshot = snapshot; work = work } }

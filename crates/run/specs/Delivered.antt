@@ -22,4 +22,5 @@ pub record AcceptedWith (job t : List ℕ) (b : Sizes) : Type 0 where
 -- the answer and the buffers afterwards are those of the run of the job's commands
 abbrev pub DeliversRun : Bool → List ℕ → Buffers → Buffers → Ending → Type 0
 DeliversRun monitored job before after x =
-    (past : List Command) → decodeFor job (sizesOf before) ≡ accepted past → Delivers (report (programOf past) (runOf monitored past)) before after (a.Ended x)
+    (past : List Command) → decodeFor job (sizesOf before) ≡ accepted past
+    → Delivers (report (programOf past) (runOf monitored past)) before after (a.Ended x)

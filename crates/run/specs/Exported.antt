@@ -8,7 +8,8 @@ use Rattle.run.specs.Answers.{Told, refusal, answer, toldIn, BuffersAfte
 -- what is told, as eight numbers: number and place of the refusal, stop, completed turns, and the attempted entry; 0 where there is none
 abbrev pub numbersIn : Told → List ℕ
 numbersIn (refusal r) = r .number ∷ r .place ∷ 0 ∷ 0 ∷ 0 ∷ 0 ∷ 0 ∷ 0 ∷ []
-numbersIn (answer x) = 0 ∷ 0 ∷ x .stop ∷ x .turns ∷ x .attempted .node ∷ x .attempted .kind ∷ x .attempted .number ∷ x .attempted .value ∷ []
+numbersIn (answer x) = 0 ∷ 0 ∷ x .stop ∷ x .turns ∷ x .attempted .node ∷ x .attempted .kind ∷ x .attempted .number ∷ x .attempted .value ∷
+    []
 
 -- the eight numbers and the three buffers afterwards are those of a result
 pub record Exports (result : Result) (before after : Buffers) (numbers : List ℕ) : Type 0 where

@@ -19,7 +19,8 @@ use turns::ending::Ending;
 use turns::run_turns;
 use writing::put_zeros;
 
-// The run of an accepted job: how it ended; its trace and its snapshot (01's "picture") at the front of their buffers, zeros at that of the work buffer.
+// The run of an accepted job: how it ended; its trace and its snapshot (01's "picture") at the front of their buffers, zeros at that of the
+// work buffer.
 fn run_accepted(
     job: &[u8],
     tables: &[u32; CELLS],
@@ -57,7 +58,8 @@ pub fn run(
     ensures trace { λ _. ⌜ now (trace .exit) ≡ traceAfter
         (resultWith monitored (now (job .entry)) (now (trace .entry)) (now (snapshot .entry)) (now (work .entry))) (now (trace .entry)) ⌝ }
     ensures snapshot { λ _. ⌜ now (snapshot .exit) ≡ snapshotAfter
-        (resultWith monitored (now (job .entry)) (now (trace .entry)) (now (snapshot .entry)) (now (work .entry))) (now (snapshot .entry)) ⌝ }
+        (resultWith monitored (now (job .entry)) (now (trace .entry)) (now (snapshot .entry)) (now (work .entry)))
+        (now (snapshot .entry)) ⌝ }
     ensures work { λ _. ⌜ now (work .exit) ≡ workAfter
         (resultWith monitored (now (job .entry)) (now (trace .entry)) (now (snapshot .entry)) (now (work .entry))) (now (work .entry)) ⌝ }
 {

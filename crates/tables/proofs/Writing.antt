@@ -74,4 +74,5 @@ module _ (t : List ℕ) (s : Section) (row column : ℕ) where
 pub blank-each : (t : List ℕ) (i : ℕ) → length t ≡ 15936 → length t ≤ i → ((k : ℕ) → k < i → getD t k 0 ≡ 0) → t ≡ blank
 unfolding blank
 blank-each t i e h zeros =
-    ext-getD 0 t _ (e ∙ sym (length-replicate {A = ℕ} 15936 0)) (λ k l. zeros k (omega arith) ∙ sym (getD-replicate {A = ℕ} 15936 k 0 0 (omega arith)))
+    ext-getD 0 t _ (e ∙ sym (length-replicate {A = ℕ} 15936 0))
+    (λ k l. zeros k (omega arith) ∙ sym (getD-replicate {A = ℕ} 15936 k 0 0 (omega arith)))

@@ -1,4 +1,5 @@
--- The tables stand for the commands read so far: each name in `Tables` has the value that the model gives it, also where nothing is declared.
+-- The tables stand for the commands read so far: each name in `Tables` has the value that the model gives it, also where nothing is
+-- declared.
 -- What this leaves open of the cells: docs/DECISIONS.md.
 use Prim.Native.Nat.{ℕ, _<_}
 use mathlib.Core.Path.{_≡_}
@@ -10,7 +11,8 @@ use Rattle.model.specs.Command.{Command, ternary, binary}
 use Rattle.model.specs.Declared.{countOf, occurs, flowOf, scopeOf, ownerOf, startOf, funAnswerOf, openBody, bodyLength, startsOf, startedIn}
 use Rattle.model.specs.Refusal.{groupFalls}
 use Rattle.tables.specs.Cells.{cellCount}
-use Rattle.tables.specs.Tables.{countIn, groupIn, openIn, flowIn, scopeIn, ownerIn, startIn, funAnswerIn, lengthIn, bodyIn, startedAt, firstsIn, wiredIn, readIn, writeIn, anyIn, listedIn}
+use Rattle.tables.specs.Tables.{countIn, groupIn, openIn, flowIn, scopeIn, ownerIn, startIn, funAnswerIn, lengthIn, bodyIn, startedAt}
+use Rattle.tables.specs.Tables.{firstsIn, wiredIn, readIn, writeIn, anyIn, listedIn}
 
 pub record Stands (t : List ℕ) (past : List Command) : Type 0 where
   pub size : length t ≡ cellCount

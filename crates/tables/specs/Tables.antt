@@ -134,10 +134,11 @@ writeIn t n x = gridIn t writeCells n x
 abbrev pub anyIn : List ℕ → ℕ → ℕ → Bool
 anyIn t n f = gridIn t anyCells n f
 
--- one of the first ARG commands, so many of them, permits the call with this argument
+-- one of the first ARG commands, up to this count, permits the call with this argument
 unfoldable pub listedIn : List ℕ → ℕ → ℕ → ℕ → ℕ → Bool
 listedIn t zero n f v = false
-listedIn t (suc i) n f v = (eqb (entryIn t argNodeCells i) n && (eqb (entryIn t argFunctionCells i) f && eqb (entryIn t argValueCells i) v)) || listedIn t i n f v
+listedIn t (suc i) n f v = (eqb (entryIn t argNodeCells i) n && (eqb (entryIn t argFunctionCells i) f && eqb (entryIn t argValueCells i) v))
+    || listedIn t i n f v
 
 -- the call with this argument is permitted
 abbrev pub callIn : List ℕ → ℕ → ℕ → ℕ → Bool

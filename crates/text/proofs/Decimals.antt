@@ -46,7 +46,8 @@ at-most-20 n r small fewest =
     (lt-of-not-le
     (λ (more : 21 ≤ r).
     not-le-of-lt small
-    (le-trans (le-trans (lit≤ tt) (pow-le-pow-right (lit< tt) {i = 20} {j = r - 1} (omega (arith, more)))) (fewest .2 (omega (arith, more))))))
+    (le-trans (le-trans (lit≤ tt) (pow-le-pow-right (lit< tt) {i = 20} {j = r - 1} (omega (arith, more))))
+    (fewest .2 (omega (arith, more))))))
 
 pub decimal-taken : (n r : ℕ) (out : List ℕ) → n < 2 ^ 64 → Fewest 10 1 n r → take r out ≡ digits 10 r n → take r out ≡ decimal n
 unfolding decimal
@@ -58,7 +59,8 @@ unfolding digitsWithin
 short-within zero k n h l = omega arith
 short-within (suc m) zero n h l = absurd (omega arith)
 short-within (suc m) (suc zero) n h l = let small : n < 10 = l in rw (lt-ltb n 10 small) (omega arith)
-short-within (suc m) (suc (suc k)) n h l = by-test (ltb n 10) (short-within m (suc k) (n / 10) (omega arith) (omega (arith, pow-suc 10 (suc k))))
+short-within (suc m) (suc (suc k)) n h l = by-test (ltb n 10)
+    (short-within m (suc k) (n / 10) (omega arith) (omega (arith, pow-suc 10 (suc k))))
   where
     by-test :
         (b : Bool) → length (digitsWithin m (n / 10)) ≤ suc k

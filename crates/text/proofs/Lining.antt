@@ -20,5 +20,6 @@ module _ (first numbers before : List ℕ) (at : ℕ) (fits : at + length (line 
       pub feed-room : three < length third
       feed-room = omega (arith, room-third first (fields numbers) (10 ∷ []) before at fits second two p third three q)
 
-      pub line-put : (after : List ℕ) (last : ℕ) → Writes (10 ∷ []) third three after last → Writes (line first numbers) before at after last
+      pub line-put : (after : List ℕ) (last : ℕ) → Writes (10 ∷ []) third three after last
+          → Writes (line first numbers) before at after last
       line-put = three-put first (fields numbers) (10 ∷ []) before at fits second two p third three q

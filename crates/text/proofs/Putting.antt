@@ -1,4 +1,4 @@
--- Texts that are put one behind the other.
+-- Texts that are put one after the other.
 use Prim.Native.Nat.{ℕ, zero, suc, _+_, _-_, _≤_, _<_}
 use mathlib.Core.Path.{_≡_, refl, sym, ap, _∙_}
 use mathlib.Core.List.{List, [], _∷_, _++_, append-assoc, append-nil}
@@ -33,7 +33,8 @@ pub none-put : (f : ℕ → List ℕ) (before : List ℕ) (at : ℕ) → Put f b
 unfolding joined
 none-put f before at = record { writes = writes-nothing before at; size = refl }
 
-module _ (f : ℕ → List ℕ) (before : List ℕ) (at n : ℕ) (fits : at + length (joined f n) ≤ length before) (k : ℕ) (inside : k < n) (buffer : List ℕ) (next : ℕ) (w : Put f before at k buffer next) where
+module _ (f : ℕ → List ℕ) (before : List ℕ) (at n : ℕ) (fits : at + length (joined f n) ≤ length before) (k : ℕ) (inside : k < n)
+    (buffer : List ℕ) (next : ℕ) (w : Put f before at k buffer next) where
   pub room : next + length (f k) ≤ length buffer
   room = omega (arith, first-fits f k n inside, w .writes .place, w .size)
 
@@ -69,7 +70,7 @@ unfolding joined fields
 fields-each [] = refl
 fields-each (n ∷ ns) = first-shift (λ i. field (getD (n ∷ ns) i 0)) (length ns) ∙ ap (λ (l : List ℕ). field n ++ l) (fields-each ns)
 
--- fields behind fields
+-- fields after fields
 pub fields-append : (xs ys : List ℕ) → fields (xs ++ ys) ≡ fields xs ++ fields ys
 unfolding fields
 fields-append [] ys = refl
@@ -83,7 +84,7 @@ fields-first number (suc k) =
     ∙ ap (λ (l : List ℕ). l ++ (field (number k) ++ [])) (fields-first number k)
     ∙ ap (λ (l : List ℕ). joined (λ i. field (number i)) k ++ l) (append-nil (field (number k)))
 
--- a text behind another: room for each, and both
+-- a text after another: room for each, and both
 module _ (xs ys before : List ℕ) (at : ℕ) (fits : at + length (xs ++ ys) ≤ length before) where
   sizes : at + length xs + length ys ≤ length before
   sizes = omega (arith, length-append xs ys)

@@ -4,7 +4,7 @@ use mathlib.Core.Bool.{cond}
 use mathlib.Core.List.{List, [], _∷_, _++_}
 use lib.Dec.{ltb}
 
--- a number without leading zeros, in at most so many decimal digits
+-- a number without leading zeros, in at most this many decimal digits
 unfoldable pub digitsWithin : ℕ → ℕ → List ℕ
 digitsWithin zero n = []
 digitsWithin (suc k) n = cond (ltb n 10) ((48 + n) ∷ []) (digitsWithin k (n / 10) ++ ((48 + n % 10) ∷ []))
@@ -13,20 +13,20 @@ digitsWithin (suc k) n = cond (ltb n 10) ((48 + n) ∷ []) (digitsWithin k (n / 
 unfoldable pub decimal : ℕ → List ℕ
 decimal n = digitsWithin 20 n
 
--- a number behind another field, one space between
+-- a number after another field, one space between
 unfoldable pub field : ℕ → List ℕ
 field n = 32 ∷ decimal n
 
--- numbers behind another field
+-- numbers after another field
 unfoldable pub fields : List ℕ → List ℕ
 fields [] = []
 fields (n ∷ ns) = field n ++ fields ns
 
--- a line: its first field, the numbers behind it, a line feed
+-- a line: its first field, the numbers after it, a line feed
 abbrev pub line : List ℕ → List ℕ → List ℕ
 line first numbers = first ++ (fields numbers ++ (10 ∷ []))
 
--- the first k of these texts, one behind the other
+-- the first k of these texts, one after the other
 unfoldable pub joined : (ℕ → List ℕ) → ℕ → List ℕ
 joined text zero = []
 joined text (suc k) = joined text k ++ text k

@@ -1,4 +1,4 @@
-// Numbers and lines, put into a text from one place to the next: each function answers the place behind what it put.
+// Numbers and lines, put into a text from one place to the next: each function answers the place after what it put.
 ghost use Prim.Native.Nat.{_+_, _≤_};
 ghost use lib.ListN.{length};
 ghost use Rattle.writing.specs.Writing.{Writes};
@@ -29,7 +29,7 @@ pub fn put_decimal(text: &mut [u8], at: usize, number: u64) -> usize
     put(text, at, &digits[..count])
 }
 
-// Puts a number behind another field: a space, then the number.
+// Puts a number after another field: a space, then the number.
 pub fn put_field(text: &mut [u8], at: usize, number: u64) -> usize
     requires { ⌜ at + length (field number) ≤ length (now text) ⌝ }
     ensures { λ r. ⌜ Writes (field number) (now (text .entry)) at (now (text .exit)) r ⌝ }
@@ -38,7 +38,7 @@ pub fn put_field(text: &mut [u8], at: usize, number: u64) -> usize
     put_decimal(text, next, number)
 }
 
-// Puts numbers behind another field.
+// Puts numbers after another field.
 pub fn put_fields(text: &mut [u8], at: usize, numbers: &[u64]) -> usize
     requires { ⌜ at + length (fields (now numbers)) ≤ length (now text) ⌝ }
     ensures { λ r. ⌜ Writes (fields (now (numbers .entry))) (now (text .entry)) at (now (text .exit)) r ⌝ }
@@ -52,7 +52,7 @@ pub fn put_fields(text: &mut [u8], at: usize, numbers: &[u64]) -> usize
     next
 }
 
-// Puts a line: a word, the numbers behind it, a line feed.
+// Puts a line: a word, the numbers after it, a line feed.
 pub fn put_line(text: &mut [u8], at: usize, word: &[u8], numbers: &[u64]) -> usize
     requires { ⌜ at + length (line (now word) (now numbers)) ≤ length (now text) ⌝ }
     ensures { λ r. ⌜ Writes (line (now (word .entry)) (now (numbers .entry))) (now (text .entry)) at (now (text .exit)) r ⌝ }

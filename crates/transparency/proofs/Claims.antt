@@ -48,10 +48,12 @@ module _ (past : List Command) (m : Call) where
   One n = (e : Entry) × (m .told ≡ answer (record { stop = 1; turns = n; attempted = e }))
 
   parted :
-      ((n : ℕ) × FirstForbidden P u n) ⊎ AllPermitted P u → (AllPermitted P u → Gives (report P u) m) → ((n : ℕ) → FirstForbidden P u n → Gives (stoppedAt P u n) m) → ¬ (u .stop ≡ 1)
+      ((n : ℕ) × FirstForbidden P u n) ⊎ AllPermitted P u → (AllPermitted P u → Gives (report P u) m)
+      → ((n : ℕ) → FirstForbidden P u n → Gives (stoppedAt P u n) m) → ¬ (u .stop ≡ 1)
       → (n : ℕ) → One n → FirstForbidden P u n
   unfolding report
-  parted (inl (k, first)) identical stops never n (e, told) = subst (FirstForbidden P u) (ap turnsIn (sym (stops k first .told) ∙ told)) first
+  parted (inl (k, first)) identical stops never n (e, told) = subst (FirstForbidden P u)
+      (ap turnsIn (sym (stops k first .told) ∙ told)) first
   parted (inr all) identical stops never n (e, told) = absurd (never (ap stopIn (sym (identical all .told) ∙ told)))
 
 pub transparency : TransparencyHolds
@@ -59,27 +61,43 @@ transparency job m u gm gu =
     let both = demand3 job (m .before) (u .before) in
     let one = demand1 job (m .before) .concluded in
     let other = demand1 job (u .before) .concluded in
-    let refusesM : (r : Refusal) → Gives (refused r) m ↔ (monitored job (sizesOf (m .before)) ≡ refused r) = gives-refused (monitored job (sizesOf (m .before))) m gm in
-    let refusesU : (r : Refusal) → Gives (refused r) u ↔ (unmonitored job (sizesOf (u .before)) ≡ refused r) = gives-refused (unmonitored job (sizesOf (u .before))) u gu in
+    let refusesM : (r : Refusal) → Gives (refused r) m ↔ (monitored job (sizesOf (m .before)) ≡ refused r) = gives-refused
+    (monitored job (sizesOf (m .before))) m gm in
+    let refusesU : (r : Refusal) → Gives (refused r) u ↔ (unmonitored job (sizesOf (u .before)) ≡ refused r) = gives-refused
+    (unmonitored job (sizesOf (u .before))) u gu in
     record {
       monitoredRefuses = λ r. Iff·trans (refusesM r) (one .monitoredRefuses r);
       unmonitoredRefuses = λ r. Iff·trans (refusesU r) (other .unmonitoredRefuses r);
       refuseAlike = λ same r. Iff·trans (Iff·trans (refusesM r) (both .refuseAlike same r)) (Iff·symm (refusesU r));
       bothRun = λ past a b.
           let run = both .bothRun past a b in
-          let identical : AllPermitted (programOf past) (unmonitoredOf past) → Gives (report (programOf past) (unmonitoredOf past)) m = λ all. subst (λ (x : Result). Gives x m) (run .monitoredReports ∙ run .comparison .identical all) gm in
-          let stops : (n : ℕ) → FirstForbidden (programOf past) (unmonitoredOf past) n → Gives (stoppedAt (programOf past) (unmonitoredOf past) n) m = λ n first. subst (λ (x : Result). Gives x m) (run .monitoredReports ∙ run .comparison .stops n first) gm in
+          let identical : AllPermitted (programOf past) (unmonitoredOf past)
+          → Gives (report (programOf past) (unmonitoredOf past)) m = λ all. subst (λ (x : Result). Gives x m)
+          (run .monitoredReports ∙ run .comparison .identical all) gm in
+          let stops : (n : ℕ) → FirstForbidden (programOf past) (unmonitoredOf past) n
+          → Gives (stoppedAt (programOf past) (unmonitoredOf past) n) m = λ n first. subst (λ (x : Result). Gives x m)
+          (run .monitoredReports ∙ run .comparison .stops n first) gm in
           record {
             unmonitoredRuns = subst (λ (x : Result). Gives x u) (run .unmonitoredReports) gu;
             decided = run .comparison .decided;
             identical = identical;
             stops = stops;
-            parts = λ n. (λ first. (_, stops n first .told), parted past m (run .comparison .decided) identical stops (one .runs past a .neverOne) n);
+            parts = λ n. (
+              λ first. (_, stops n first .told),
+              parted past m (run .comparison .decided) identical stops
+                  (one .runs past a .neverOne) n,
+            );
           };
     }
 
 pub exports-transparency : ExportsTransparent
 exports-transparency job before after before′ after′ numbers numbers′ em eu =
     let m = toldIn (monitored job (sizesOf before)) in
-    let u = toldIn (unmonitored job (sizesOf before′)) in
-    (m, u, em .told, eu .told, transparency job (call before after m) (call before′ after′ u) (record { told = refl; left = em .left }) (record { told = refl; left = eu .left }))
+    let u = toldIn (unmonitored job (sizesOf before′)) in (
+      m,
+      u,
+      em .told,
+      eu .told,
+      transparency job (call before after m) (call before′ after′ u) (record { told = refl; left = em .left })
+          (record { told = refl; left = eu .left }),
+    )

@@ -24,7 +24,8 @@ pub record CallsRun (past : List Command) (m u : Call) : Type 0 where
   -- if it has one, the monitored call hands over that run stopped there
   pub stops : (n : ℕ) → FirstForbidden (programOf past) (unmonitoredOf past) n → Gives (stoppedAt (programOf past) (unmonitoredOf past) n) m
   -- the two part at turn n exactly if the monitored call tells stop 1 and n turns
-  pub parts : (n : ℕ) → FirstForbidden (programOf past) (unmonitoredOf past) n ↔ ((e : Entry) × (m .told ≡ answer (record { stop = 1; turns = n; attempted = e })))
+  pub parts : (n : ℕ) → FirstForbidden (programOf past) (unmonitoredOf past) n ↔
+      ((e : Entry) × (m .told ≡ answer (record { stop = 1; turns = n; attempted = e })))
 
 -- the two calls of a job, each with buffers of its own, whatever they held before
 pub record Transparent (job : List ℕ) (m u : Call) : Type 0 where
@@ -45,4 +46,5 @@ abbrev pub ExportsTransparent : Type 0
 ExportsTransparent =
     (job : List ℕ) (before after before′ after′ : Buffers) (numbers numbers′ : List ℕ)
     → Exports (monitored job (sizesOf before)) before after numbers → Exports (unmonitored job (sizesOf before′)) before′ after′ numbers′
-    → (m : Told) × (u : Told) × (numbers ≡ numbersIn m) × (numbers′ ≡ numbersIn u) × Transparent job (call before after m) (call before′ after′ u)
+    → (m : Told) × (u : Told) × (numbers ≡ numbersIn m) × (numbers′ ≡ numbersIn u) × Transparent job (call before after m)
+    (call before′ after′ u)

@@ -5,7 +5,8 @@ use run::answer::Answer;
 use run::run_monitored;
 use run::run_unmonitored;
 
-// The two answers. If both runs accept the job, they part exactly if the monitored one ends with stop 1, and then behind as many turns as it has completed.
+// The two answers. If both runs accept the job, they part exactly if the monitored one ends with stop 1, and then after as many turns as
+// it has completed.
 pub struct Both {
     pub monitored: Answer,
     pub unmonitored: Answer,
@@ -26,12 +27,14 @@ pub fn run_both(
         (buffers (now (trace .exit)) (now (snapshot .exit)) (now (work .exit))) (toldBy (r .monitored))) ⌝ }
     ensures unmonitored { λ r. ⌜ Unmonitored (now (job .entry))
         (call (buffers (now («unmonitored_trace» .entry)) (now («unmonitored_snapshot» .entry)) (now («unmonitored_work» .entry)))
-        (buffers (now («unmonitored_trace» .exit)) (now («unmonitored_snapshot» .exit)) (now («unmonitored_work» .exit))) (toldBy (r .unmonitored))) ⌝ }
+        (buffers (now («unmonitored_trace» .exit)) (now («unmonitored_snapshot» .exit)) (now («unmonitored_work» .exit)))
+        (toldBy (r .unmonitored))) ⌝ }
     ensures compared { λ r. ⌜ Transparent (now (job .entry))
         (call (buffers (now (trace .entry)) (now (snapshot .entry)) (now (work .entry)))
         (buffers (now (trace .exit)) (now (snapshot .exit)) (now (work .exit))) (toldBy (r .monitored)))
         (call (buffers (now («unmonitored_trace» .entry)) (now («unmonitored_snapshot» .entry)) (now («unmonitored_work» .entry)))
-        (buffers (now («unmonitored_trace» .exit)) (now («unmonitored_snapshot» .exit)) (now («unmonitored_work» .exit))) (toldBy (r .unmonitored))) ⌝ }
+        (buffers (now («unmonitored_trace» .exit)) (now («unmonitored_snapshot» .exit)) (now («unmonitored_work» .exit)))
+        (toldBy (r .unmonitored))) ⌝ }
 {
     let monitored = run_monitored(job, trace, snapshot, work);
     let unmonitored = run_unmonitored(

@@ -37,9 +37,12 @@ module _ (i : Instruction) (named : NamedInstruction i) where
   unfolding operandsOf operandsIn
   left-narrow P s n h =
       let other : Narrow (entry n 0 0 0) = (h, omega arith, omega arith) in
-      either Narrow (eqb (i .byte) GET) _ _ (λ e. either Narrow (sharedIn P (i .operand)) _ _ (λ _. let g = operand-small GET e in (h, omega arith, omega (arith, g))) (λ _. other)) λ _.
-      either Narrow (eqb (i .byte) PLUS) _ _ (λ e. either Narrow (sharedIn P (i .operand)) _ _ (λ _. let g = operand-small PLUS e in (h, omega arith, omega (arith, g))) (λ _. other)) λ _.
-      either Narrow (eqb (i .byte) PUT) _ _ (λ e. either Narrow (sharedIn P (i .operand)) _ _ (λ _. let g = operand-small PUT e in (h, omega arith, omega (arith, g))) (λ _. other)) λ _.
+      either Narrow (eqb (i .byte) GET) _ _ (λ e. either Narrow (sharedIn P (i .operand)) _ _ (λ _. let g = operand-small GET e in
+      (h, omega arith, omega (arith, g))) (λ _. other)) λ _.
+      either Narrow (eqb (i .byte) PLUS) _ _ (λ e. either Narrow (sharedIn P (i .operand)) _ _ (λ _. let g = operand-small PLUS e in
+      (h, omega arith, omega (arith, g))) (λ _. other)) λ _.
+      either Narrow (eqb (i .byte) PUT) _ _ (λ e. either Narrow (sharedIn P (i .operand)) _ _ (λ _. let g = operand-small PUT e in
+      (h, omega arith, omega (arith, g))) (λ _. other)) λ _.
       either Narrow (eqb (i .byte) CALL) _ _ (λ e. let g = operand-small CALL e in (h, omega arith, omega (arith, g))) λ _.
       either Narrow (eqb (i .byte) SEND) _ _ (λ e. let g = operand-small SEND e in (h, omega arith, omega (arith, g))) (λ _. other)
 
@@ -48,7 +51,8 @@ module _ (past : List Command) (v : Valid past) (s : State) (n : ℕ) (h : n < 2
   unfolding programOf
   turn-narrow =
       turn-by (Makes Narrow) (programOf past) s n (λ p w. tt) (λ p w. (h, omega arith, omega arith)) (λ l b. tt)
-      (λ l b. left-narrow (instructionAt (programOf past) n (positionAt s n)) (handler-named past v n (positionAt s n) l) (programOf past) s n h)
+      (λ l b. left-narrow (instructionAt (programOf past) n (positionAt s n)) (handler-named past v n (positionAt s n) l)
+      (programOf past) s n h)
       (λ l. (h, omega arith, omega arith))
 
   pub rule-narrow : (monitored : Bool) → Makes Narrow (ruleOf monitored (programOf past) s n)

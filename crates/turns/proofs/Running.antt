@@ -47,7 +47,7 @@ use Rattle.turns.specs.Endings.{answerOf, answerAt}
 use Rattle.turns.specs.Runs.{runOf, Loaded, RunsAs}
 use Rattle.turns.proofs.Narrow.{rule-narrow, placed-narrow}
 
--- the run behind k completed turns, whose entries stand at the front of the trace
+-- the run after k completed turns, whose entries stand at the front of the trace
 pub record Underway (monitored : Bool) (past : List Command) (before : List ℕ) (s : State) (trace : List ℕ) (at k : ℕ) : Type 0 where
   pub done : List Step
   pub count : length done ≡ k
@@ -58,13 +58,15 @@ pub record Underway (monitored : Bool) (past : List Command) (before : List ℕ)
   pub bounded : BoundedCounts (s .waiting)
   pub placed : Placed (programOf past) (view s)
 
--- what the loop keeps: while it goes on, the run behind k turns; when it is left, the run that is over
-pub record Reached (monitored : Bool) (past : List Command) (before : List ℕ) (turns : ℕ) (trace : List ℕ) (s : State) (halt : Halt) (last at k : ℕ) : Type 0 where
+-- what the loop keeps: while it goes on, the run after k turns; when it is left, the run that is over
+pub record Reached (monitored : Bool) (past : List Command) (before : List ℕ) (turns : ℕ) (trace : List ℕ) (s : State) (halt : Halt)
+    (last at k : ℕ) : Type 0 where
   pub size : length trace ≡ length before
   pub all : k < last → last ≡ turns
   pub never : k < last → halt ≡ v.RanOut
   pub going : k < last → Underway monitored past before s trace at k
-  pub ended : last ≤ k → (x : Ending) → answerOf x ≡ answerAt k halt → RunsAs (runOf monitored past) before trace (record { state = s; ending = x })
+  pub ended : last ≤ k → (x : Ending) → answerOf x ≡ answerAt k halt
+      → RunsAs (runOf monitored past) before trace (record { state = s; ending = x })
 
 module _ (monitored : Bool) (job t w : List ℕ) (ready : Loaded job t w) where
   abbrev past : List Command
@@ -80,10 +82,12 @@ module _ (monitored : Bool) (job t w : List ℕ) (ready : Loaded job t w) where
   valid = job-valid job past (ready .decoded)
 
   prepares : Prepared job t (ready .before) w past
-  prepares = subst (λ (x : List ℕ). Prepared job t (ready .before) x (ready .past)) (sym (ready .holds)) (prepared job t (ready .before) past (ready .bytes) (ready .decoded) (ready .stands) (ready .long))
+  prepares = subst (λ (x : List ℕ). Prepared job t (ready .before) x (ready .past)) (sym (ready .holds))
+      (prepared job t (ready .before) past (ready .bytes) (ready .decoded) (ready .stands) (ready .long))
 
   meets : EngineMeets job t w past
-  meets = subst (λ (x : List ℕ). EngineMeets job t x (ready .past)) (sym (ready .holds)) (engine-holds job t (ready .before) past (ready .bytes) (ready .decoded) (ready .stands) (ready .long))
+  meets = subst (λ (x : List ℕ). EngineMeets job t x (ready .past)) (sym (ready .holds))
+      (engine-holds job t (ready .before) past (ready .bytes) (ready .decoded) (ready .stands) (ready .long))
 
   -- before the loop
   pub underway-none : (s : State) (before : List ℕ) → Starts t s → Underway monitored past before s before 0 0
@@ -105,7 +109,8 @@ module _ (monitored : Bool) (job t w : List ℕ) (ready : Loaded job t w) where
   pub node-inside : (k : ℕ) → k < countIn t TURN → turnIn job t k < 32
   node-inside k h = meets .nodes k (omega (arith, prepares .turns))
 
-  pub position-narrow : {before : List ℕ} {s : State} {trace : List ℕ} {at k : ℕ} → Underway monitored past before s trace at k → (n : ℕ) → positionAt (view s) n < 256
+  pub position-narrow : {before : List ℕ} {s : State} {trace : List ℕ} {at k : ℕ} → Underway monitored past before s trace at k → (n : ℕ)
+      → positionAt (view s) n < 256
   position-narrow {s = s} u n = placed-narrow past (valid .commands) (view s) (u .placed) n
 
   pub turns-few : countIn t TURN ≤ 4096
@@ -113,7 +118,8 @@ module _ (monitored : Bool) (job t w : List ℕ) (ready : Loaded job t w) where
 
   -- the run is over
   over :
-      {before : List ℕ} {s : State} {trace : List ℕ} {at k : ℕ} (u : Underway monitored past before s trace at k) (x : Ran) (j : ℕ) (e : Numbered)
+      {before : List ℕ} {s : State} {trace : List ℕ} {at k : ℕ} (u : Underway monitored past before s trace at k) (x : Ran) (j : ℕ)
+      (e : Numbered)
       → runOf monitored past ≡ record { steps = u .done; stop = j; attempted = e; final = view s }
       → view (x .state) ≡ view s → BoundedCounts (x .state .waiting) → answerOf (x .ending) ≡ record { stop = j; turns = k; attempted = e }
       → RunsAs (runOf monitored past) before trace x
@@ -124,11 +130,13 @@ module _ (monitored : Bool) (job t w : List ℕ) (ready : Loaded job t w) where
         trace = rw is (u .writes .buffer ∙ placed-front before (traceBytes (entriesOf (u .done))));
         state = rw is same;
         bounded = bounded;
-        positions = λ n. subst (λ (y : Meant). positionAt y n < 256) (sym same) (placed-narrow past (valid .commands) (view s) (u .placed) n);
+        positions = λ n. subst (λ (y : Meant). positionAt y n < 256) (sym same)
+            (placed-narrow past (valid .commands) (view s) (u .placed) n);
       }
 
   -- turn k of the loop
-  module _ (before : List ℕ) (s : State) (trace : List ℕ) (at k : ℕ) (u : Underway monitored past before s trace at k) (more : k < countIn t TURN) (n : ℕ) (node : n ≡ turnIn job t k)
+  module _ (before : List ℕ) (s : State) (trace : List ℕ) (at k : ℕ) (u : Underway monitored past before s trace at k)
+      (more : k < countIn t TURN) (n : ℕ) (node : n ≡ turnIn job t k)
       (fetched : Fetched) (at-position : fetchedOf fetched ≡ commandIn (handlersIn t w n) (positionAt (view s) n))
       (turned : Turned) (turns : Turns t fetched n monitored s turned) where
     inside : k < length (turnsOf past)
@@ -157,20 +165,24 @@ module _ (monitored : Bool) (job t w : List ℕ) (ready : Loaded job t w) where
       -- it made its entry
       pub underway-next :
           (shown : Numbered) → shown ≡ numbersOf x
-          → (after : List ℕ) (next : ℕ) → 7 * countIn t TURN ≤ length before → length after ≡ length trace → Writes (entryBytes shown) trace at after next
+          → (after : List ℕ) (next : ℕ) → 7 * countIn t TURN ≤ length before → length after ≡ length trace
+          → Writes (entryBytes shown) trace at after next
           → Underway monitored past before (turned .state) after next (k + 1)
       underway-next shown is after next fits same q =
           let p = subst (λ (y : Numbered). Writes (entryBytes y) trace at after next) is q in
           let step : Step = record { before = view s; made = numbersOf x } in
-          let e : rule (view s) (getD (turnsOf past) k 0) ≡ completed (numbersOf x) (view (turned .state)) = ap (rule (view s)) (sym named) ∙ sym completes in
-          let bytes : traceBytes (entriesOf (u .done ++ (step ∷ []))) ≡ traceBytes (entriesOf (u .done)) ++ entryBytes (numbersOf x) = ap traceBytes (entries-snoc (u .done) step) ∙ trace-snoc (entriesOf (u .done)) (numbersOf x) in
+          let e : rule (view s) (getD (turnsOf past) k 0) ≡ completed (numbersOf x) (view (turned .state)) = ap (rule (view s)) (sym named)
+          ∙ sym completes in
+          let bytes : traceBytes (entriesOf (u .done ++ (step ∷ []))) ≡ traceBytes (entriesOf (u .done)) ++ entryBytes
+          (numbersOf x) = ap traceBytes (entries-snoc (u .done) step) ∙ trace-snoc (entriesOf (u .done)) (numbersOf x) in
           let long = length-trace (entriesOf (u .done)) in
           let many = length-map (u .done) (λ (x : Step). x .made) in
           record {
             done = u .done ++ (step ∷ []);
             count = length-append (u .done) (step ∷ []) ∙ omega (arith, u .count);
             same = u .same ∙ behind-completed rule (turnsOf past) (u .done) k (view s) (numbersOf x) (view (turned .state)) inside e;
-            writes = rw bytes (writes-on (traceBytes (entriesOf (u .done))) (entryBytes (numbersOf x)) before 0 trace at after next (omega (arith, long, many, u .count)) (u .writes) p);
+            writes = rw bytes (writes-on (traceBytes (entriesOf (u .done))) (entryBytes (numbersOf x)) before 0 trace at after next
+                (omega (arith, long, many, u .count)) (u .writes) p);
             place = omega (arith, p .place, u .place);
             size = same ∙ u .size;
             bounded = turns .bounded;
@@ -182,14 +194,17 @@ module _ (monitored : Bool) (job t w : List ℕ) (ready : Loaded job t w) where
         (stop : Stop) → turned .outcome ≡ o.Stopped stop → (x : Ending) → answerOf x ≡ answerAt k (v.Stopped stop)
         → RunsAs (runOf monitored past) before trace (record { state = turned .state; ending = x })
     underway-stopped stop is x told =
-        let e : rule (view s) n ≡ stopped (stopNumber stop) (attemptedBy stop) = sym (comes .tells) ∙ ap (λ (y : Outcome). turnedBy y (view (turned .state))) is in
+        let e : rule (view s) n ≡ stopped (stopNumber stop) (attemptedBy stop) = sym (comes .tells)
+        ∙ ap (λ (y : Outcome). turnedBy y (view (turned .state))) is in
         over u (record { state = turned .state; ending = x }) (stopNumber stop) (attemptedBy stop)
-        (u .same ∙ behind-stopped rule (turnsOf past) (u .done) k (view s) (stopNumber stop) (attemptedBy stop) inside (ap (rule (view s)) (sym named) ∙ e))
+        (u .same ∙ behind-stopped rule (turnsOf past) (u .done) k (view s) (stopNumber stop) (attemptedBy stop) inside
+        (ap (rule (view s)) (sym named) ∙ e))
         (comes .leaves ∙ ap (stateAfter (view s)) e) (turns .bounded) told
 
-  -- behind the last turn the run is over
+  -- after the last turn the run is over
   pub reached :
-      (before : List ℕ) (s : State) (trace : List ℕ) (at k turns last : ℕ) → last ≡ turns → turns ≡ countIn t TURN → k ≤ turns → Underway monitored past before s trace at k
+      (before : List ℕ) (s : State) (trace : List ℕ) (at k turns last : ℕ) → last ≡ turns → turns ≡ countIn t TURN → k ≤ turns
+      → Underway monitored past before s trace at k
       → (halt : Halt) → halt ≡ v.RanOut
       → Reached monitored past before turns trace s halt last at k
   reached before s trace at k turns last same counted inside u halt none =
@@ -206,8 +221,16 @@ module _ (monitored : Bool) (job t w : List ℕ) (ready : Loaded job t w) where
 
 -- the run is over at a stop
 pub halted :
-    (monitored : Bool) (past : List Command) (before : List ℕ) (turns : ℕ) (trace : List ℕ) (s : State) (halt : Halt) (at k : ℕ) → length trace ≡ length before
+    (monitored : Bool) (past : List Command) (before : List ℕ) (turns : ℕ) (trace : List ℕ) (s : State) (halt : Halt) (at k : ℕ)
+    → length trace ≡ length before
     → ((x : Ending) → answerOf x ≡ answerAt k halt → RunsAs (runOf monitored past) before trace (record { state = s; ending = x }))
     → Reached monitored past before turns trace s halt k at k
 halted monitored past before turns trace s halt at k size r =
-    record { size = size; all = λ h. absurd (omega (arith, h)); never = λ h. absurd (omega (arith, h)); going = λ h. absurd (omega (arith, h)); ended = λ h. r }
+    record {
+      size = size;
+      all = λ h. absurd (omega (arith, h));
+      never = λ h. absurd (omega (arith, h));
+      going = λ h. absurd
+          (omega (arith, h));
+      ended = λ h. r;
+    }

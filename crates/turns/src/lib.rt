@@ -33,7 +33,8 @@ pub struct Ran {
 pub fn run_turns(job: &[u8], tables: &[u32], work: &[u8], trace: &mut [u8], monitored: bool) -> Ran
     requires { ⌜ Loaded (now job) (now tables) (now work) ⌝ }
     requires { ⌜ 7 * countIn (now tables) TURN ≤ length (now trace) ⌝ }
-    ensures { λ r. ⌜ ((past : List Command) → decodeJob (now (job .entry)) ≡ accepted past → RunsAs (runOf monitored past) (now (trace .entry)) (now (trace .exit)) r) ⌝ }
+    ensures { λ r. ⌜ ((past : List Command) → decodeJob (now (job .entry)) ≡ accepted past
+        → RunsAs (runOf monitored past) (now (trace .entry)) (now (trace .exit)) r) ⌝ }
 {
     let turns = count_of(tables, bytes::TURN);
     let mut s = start(tables);

@@ -8,7 +8,8 @@ use native.Mathlib.Omega.{arith}
 use lib.Dec.{ltb, leb, eqb}
 use lib.ListN.{getD}
 use borrow.Author.Tests.{eqb-true, ne-eqb}
-use Rattle.model.specs.Table.{FLOW, NODE, VAR, FUN, WIRE, ANY, ARG, READ, WRITE, BODY, GET, PUT, PLUS, START, operandsIn, operandsOf, kindAt, start, answer, value, jump, absent, groupOf, largestOf}
+use Rattle.model.specs.Table.{FLOW, NODE, VAR, FUN, WIRE, ANY, ARG, READ, WRITE, BODY, GET, PUT, PLUS, START, operandsIn, operandsOf}
+use Rattle.model.specs.Table.{kindAt, start, answer, value, jump, absent, groupOf, largestOf}
 use Rattle.model.specs.Command.{Command, Operands, ternary, binary}
 use Rattle.model.specs.Declared.{countOf, occurs, openBody, flowOf, sees}
 use Rattle.model.specs.Refusal.{isReached, exceedsCount, Counts, namesNothing, undeclared, outOfReach, mustDiffer, repeated, violation}
@@ -20,7 +21,8 @@ use Rattle.command.specs.declared.read.Command.{Command as Code}
 use Rattle.command.specs.Rows.{rowAt, kindOf, limitOf, Says, RowOf}
 use Rattle.command.specs.Reading.{commandOf, Known}
 use Rattle.command.proofs.Known.{byte-low, permission-byte}
-use Rattle.tables.specs.Tables.{countIn, groupIn, openIn, flowIn, lengthIn, seesIn, sharedIn, wiredIn, anyIn, listedIn, readIn, writeIn, bodyIn, startedAt}
+use Rattle.tables.specs.Tables.{countIn, groupIn, openIn, flowIn, lengthIn, seesIn, sharedIn, wiredIn, anyIn, listedIn, readIn, writeIn}
+use Rattle.tables.specs.Tables.{bodyIn, startedAt}
 use Rattle.tables.specs.Stands.{Stands}
 
 -- a known byte is in the table
@@ -42,7 +44,8 @@ reached b zero have past e = refl
 reached b (suc k) have past e = rw (ne-eqb (suc k) 0 (λ z. omega arith), among-one b past, e)
 
 -- the kinds from 7 on name nothing
-pub names-none : (d : Counts) (s k x : ℕ) → ¬ (k ≡ 0) → ¬ (k ≡ 1) → ¬ (k ≡ 2) → ¬ (k ≡ 3) → ¬ (k ≡ 4) → ¬ (k ≡ 5) → ¬ (k ≡ 6) → namesNothing d s (kindOf k) x ≡ false
+pub names-none : (d : Counts) (s k x : ℕ) → ¬ (k ≡ 0) → ¬ (k ≡ 1) → ¬ (k ≡ 2) → ¬ (k ≡ 3) → ¬ (k ≡ 4) → ¬ (k ≡ 5) → ¬ (k ≡ 6)
+    → namesNothing d s (kindOf k) x ≡ false
 names-none d s zero x n₀ n₁ n₂ n₃ n₄ n₅ n₆ = absurd (n₀ refl)
 names-none d s (suc zero) x n₀ n₁ n₂ n₃ n₄ n₅ n₆ = absurd (n₁ refl)
 names-none d s (suc (suc zero)) x n₀ n₁ n₂ n₃ n₄ n₅ n₆ = absurd (n₂ refl)
@@ -73,10 +76,14 @@ module _ (t : List ℕ) (c : Code) (past : List Command) (s : Stands t past) whe
   -- 6
   pub undeclared-same :
       (row : Shape) (flows nodes variables functions bodies : ℕ) (body x y z : Bool) → Known c → Says (rowAt (c .row)) row
-      → flows ≡ countIn t FLOW → nodes ≡ countIn t NODE → variables ≡ countIn t VAR → functions ≡ countIn t FUN → bodies ≡ countIn t BODY → body ≡ (leb 0x41 (c .byte) && leb (c .byte) 0x4B)
-      → x ≡ namesNothing (record { flows = flows; nodes = nodes; variables = variables; functions = functions }) (c .first) (kindOf (row .5)) (c .first)
-      → y ≡ namesNothing (record { flows = flows; nodes = nodes; variables = variables; functions = functions }) (c .first) (kindOf (row .6)) (c .second)
-      → z ≡ namesNothing (record { flows = flows; nodes = nodes; variables = variables; functions = functions }) (c .first) (kindOf (row .7)) (c .third)
+      → flows ≡ countIn t FLOW → nodes ≡ countIn t NODE → variables ≡ countIn t VAR → functions ≡ countIn t FUN → bodies ≡ countIn t BODY
+      → body ≡ (leb 0x41 (c .byte) && leb (c .byte) 0x4B)
+      → x ≡ namesNothing (record { flows = flows; nodes = nodes; variables = variables; functions = functions }) (c .first)
+      (kindOf (row .5)) (c .first)
+      → y ≡ namesNothing (record { flows = flows; nodes = nodes; variables = variables; functions = functions }) (c .first)
+      (kindOf (row .6)) (c .second)
+      → z ≡ namesNothing (record { flows = flows; nodes = nodes; variables = variables; functions = functions }) (c .first)
+      (kindOf (row .7)) (c .third)
       → ((eqb (c .byte) NODE && eqb flows 0) || ((body && eqb bodies 0) || (x || (y || z)))) ≡ undeclared past (commandOf c)
   undeclared-same row flows nodes variables functions bodies body x y z r says f n v k d b p q u =
       rw (
@@ -109,35 +116,69 @@ module _ (t : List ℕ) (c : Code) (past : List Command) (s : Stands t past) whe
   sees-same n x = rw (s .scope x, s .owner x, s .flow n)
 
   -- 7: a wire, a handler command that names a variable, a permission that does, and all others
-  pub wire-reach : (r : Bool) (from to : ℕ) → c .byte ≡ WIRE → from ≡ flowIn t (c .first) → to ≡ flowIn t (c .third) → r ≡ not (eqb from to) → r ≡ outOfReach past (commandOf c)
-  wire-reach r from to e f g q = q ∙ rw (any-next, any-next, any-next, any-last, e, f, g, s .flow (c .first), s .flow (c .third)) (sym (or-false (not (eqb (flowOf past (c .first)) (flowOf past (c .third))))))
+  pub wire-reach : (r : Bool) (from to : ℕ) → c .byte ≡ WIRE → from ≡ flowIn t (c .first) → to ≡ flowIn t (c .third) → r ≡ not (eqb from to)
+      → r ≡ outOfReach past (commandOf c)
+  wire-reach r from to e f g q = q ∙ rw (any-next, any-next, any-next, any-last, e, f, g, s .flow (c .first), s .flow (c .third))
+      (sym (or-false (not (eqb (flowOf past (c .first)) (flowOf past (c .third))))))
 
   module _ (other : ¬ (c .byte ≡ WIRE)) (uses : Bool) (same : uses ≡ ((eqb (c .byte) GET || eqb (c .byte) PUT) || eqb (c .byte) PLUS)) where
-    pub use-reach : uses ≡ true → (r own : Bool) (opened : ℕ) → opened ≡ openIn t → own ≡ seesIn t opened (c .first) → r ≡ not own → r ≡ outOfReach past (commandOf c)
+    pub use-reach : uses ≡ true → (r own : Bool) (opened : ℕ) → opened ≡ openIn t → own ≡ seesIn t opened (c .first) → r ≡ not own
+        → r ≡ outOfReach past (commandOf c)
     use-reach u r own opened o p q =
         let h = sym same ∙ u in
-        q ∙ rw (any-next, any-next, any-next, any-last, ne-eqb (c .byte) WIRE other, h, uses-apart (c .byte) h, p, o, sees-same (openIn t) (c .first), s .opened)
+        q ∙ rw (
+          any-next,
+          any-next,
+          any-next,
+          any-last,
+          ne-eqb (c .byte) WIRE other,
+          h,
+          uses-apart (c .byte) h,
+          p,
+          o,
+          sees-same (openIn t)
+              (c .first),
+          s .opened,
+        )
         (sym (or-false (not (sees past (openBody past) (c .first)))))
 
     module _ (u : uses ≡ false) (access : Bool) (alike : access ≡ (eqb (c .byte) READ || eqb (c .byte) WRITE)) where
       pub access-reach :
-          access ≡ true → (r seen common : Bool) → seen ≡ seesIn t (c .first) (c .second) → common ≡ sharedIn t (c .second) → r ≡ (not seen || not common) → r ≡ outOfReach past (commandOf c)
+          access ≡ true → (r seen common : Bool) → seen ≡ seesIn t (c .first) (c .second) → common ≡ sharedIn t (c .second)
+          → r ≡ (not seen || not common) → r ≡ outOfReach past (commandOf c)
       access-reach a r seen common p q h =
-          h ∙ rw (any-next, any-next, any-next, any-last, ne-eqb (c .byte) WIRE other, sym same ∙ u, sym alike ∙ a, p, q, sees-same (c .first) (c .second), s .scope (c .second))
+          h ∙ rw (
+            any-next,
+            any-next,
+            any-next,
+            any-last,
+            ne-eqb (c .byte) WIRE other,
+            sym same ∙ u,
+            sym alike
+                ∙ a,
+            p,
+            q,
+            sees-same (c .first) (c .second),
+            s .scope (c .second),
+          )
 
       pub other-reach : access ≡ false → false ≡ outOfReach past (commandOf c)
       other-reach a = rw (any-next, any-next, any-next, any-last, ne-eqb (c .byte) WIRE other, sym same ∙ u, sym alike ∙ a)
 
   -- 8: a byte of those that may not be repeated, a START, and every other known byte
-  repeated-as : (b : ℕ) (x : Operands) (r : Bool) → c .byte ≡ b → mustDiffer (record { place = 0; byte = b; operands = x }) ≡ true → eqb b START ≡ false → commandOf c .operands ≡ x → r ≡ occurs b x past → r ≡ repeated past (commandOf c)
+  repeated-as : (b : ℕ) (x : Operands) (r : Bool) → c .byte ≡ b → mustDiffer (record { place = 0; byte = b; operands = x }) ≡ true
+      → eqb b START ≡ false → commandOf c .operands ≡ x → r ≡ occurs b x past → r ≡ repeated past (commandOf c)
   repeated-as b x r e m n o q = rw (any-next, any-last, e, o, n, m, ← q) (sym (or-false r))
 
   module _ (plain : Plain (commandOf c)) where
     pub wire-same : (r : Bool) → c .byte ≡ WIRE → r ≡ wiredIn t (c .first) (c .second) (c .third) → r ≡ repeated past (commandOf c)
-    wire-same r e q = repeated-as WIRE (ternary (c .first) (c .second) (c .third)) r e refl refl refl (q ∙ s .wires (c .first) (c .second) (c .third))
+    wire-same r e q = repeated-as WIRE (ternary (c .first) (c .second) (c .third)) r e refl refl refl
+        (q ∙ s .wires (c .first) (c .second) (c .third))
 
-    pub arg-same : (r : Bool) → c .byte ≡ ARG → r ≡ listedIn t (countIn t ARG) (c .first) (c .second) (c .third) → r ≡ repeated past (commandOf c)
-    arg-same r e q = repeated-as ARG (ternary (c .first) (c .second) (c .third)) r e refl refl refl (q ∙ s .arguments (c .first) (c .second) (c .third))
+    pub arg-same : (r : Bool) → c .byte ≡ ARG → r ≡ listedIn t (countIn t ARG) (c .first) (c .second) (c .third)
+        → r ≡ repeated past (commandOf c)
+    arg-same r e q = repeated-as ARG (ternary (c .first) (c .second) (c .third)) r e refl refl refl
+        (q ∙ s .arguments (c .first) (c .second) (c .third))
 
     -- an operand that is absent is 0
     third-absent : (b : ℕ) → c .byte ≡ b → kindAt b 2 ≡ absent → c .third ≡ 0
@@ -148,28 +189,35 @@ module _ (t : List ℕ) (c : Code) (past : List Command) (s : Stands t past) whe
 
     pub any-same : (r : Bool) → c .byte ≡ ANY → r ≡ anyIn t (c .first) (c .second) → r ≡ repeated past (commandOf c)
     unfolding operandsOf operandsIn
-    any-same r e q = repeated-as ANY (binary (c .first) (c .second)) r e refl refl (rw (third-absent ANY e refl)) (q ∙ s .anys (c .first) (c .second))
+    any-same r e q = repeated-as ANY (binary (c .first) (c .second)) r e refl refl (rw (third-absent ANY e refl))
+        (q ∙ s .anys (c .first) (c .second))
 
     pub read-same : (r : Bool) → c .byte ≡ READ → r ≡ readIn t (c .first) (c .second) → r ≡ repeated past (commandOf c)
     unfolding operandsOf operandsIn
-    read-same r e q = repeated-as READ (binary (c .first) (c .second)) r e refl refl (rw (third-absent READ e refl)) (q ∙ s .reads (c .first) (c .second))
+    read-same r e q = repeated-as READ (binary (c .first) (c .second)) r e refl refl (rw (third-absent READ e refl))
+        (q ∙ s .reads (c .first) (c .second))
 
     pub write-same : (r : Bool) → c .byte ≡ WRITE → r ≡ writeIn t (c .first) (c .second) → r ≡ repeated past (commandOf c)
     unfolding operandsOf operandsIn
-    write-same r e q = repeated-as WRITE (binary (c .first) (c .second)) r e refl refl (rw (third-absent WRITE e refl)) (q ∙ s .writes (c .first) (c .second))
+    write-same r e q = repeated-as WRITE (binary (c .first) (c .second)) r e refl refl (rw (third-absent WRITE e refl))
+        (q ∙ s .writes (c .first) (c .second))
 
     pub body-same : (r : Bool) → c .byte ≡ BODY → r ≡ bodyIn t (c .first) → r ≡ repeated past (commandOf c)
     unfolding operandsOf operandsIn
-    body-same r e q = repeated-as BODY (binary (c .first) 0) r e refl refl (rw (third-absent BODY e refl, second-absent BODY e refl)) (q ∙ s .bodies (c .first))
+    body-same r e q = repeated-as BODY (binary (c .first) 0) r e refl refl (rw (third-absent BODY e refl, second-absent BODY e refl))
+        (q ∙ s .bodies (c .first))
 
     pub start-same : (r : Bool) (f : ℕ) → c .byte ≡ START → f ≡ flowIn t (c .first) → r ≡ startedAt t f → r ≡ repeated past (commandOf c)
     start-same r f e p q = rw (any-next, any-last, e, q, p, s .flow (c .first), s .started (flowOf past (c .first)))
 
     pub other-same :
-        ¬ (c .byte ≡ WIRE) → ¬ (c .byte ≡ ANY) → ¬ (c .byte ≡ ARG) → ¬ (c .byte ≡ READ) → ¬ (c .byte ≡ WRITE) → ¬ (c .byte ≡ BODY) → ¬ (c .byte ≡ START)
+        ¬ (c .byte ≡ WIRE) → ¬ (c .byte ≡ ANY) → ¬ (c .byte ≡ ARG) → ¬ (c .byte ≡ READ) → ¬ (c .byte ≡ WRITE) → ¬ (c .byte ≡ BODY)
+        → ¬ (c .byte ≡ START)
         → false ≡ repeated past (commandOf c)
     other-same n₁ n₂ n₃ n₄ n₅ n₆ n₇ =
-        let z : eqb (groupOf (c .byte)) 3 ≡ false = not-three (eqb (groupOf (c .byte)) 3) (rw (ne-eqb (c .byte) ANY n₂, ne-eqb (c .byte) ARG n₃, ne-eqb (c .byte) READ n₄, ne-eqb (c .byte) WRITE n₅) at (permission-byte (c .byte) (plain .known))) in
+        let z : eqb (groupOf (c .byte)) 3 ≡ false = not-three (eqb (groupOf (c .byte)) 3)
+        (rw (ne-eqb (c .byte) ANY n₂, ne-eqb (c .byte) ARG n₃, ne-eqb (c .byte) READ n₄, ne-eqb (c .byte) WRITE n₅) at
+        (permission-byte (c .byte) (plain .known))) in
         rw (any-next, any-last, ne-eqb (c .byte) WIRE n₁, z, ne-eqb (c .byte) BODY n₆, ne-eqb (c .byte) START n₇)
       where
         not-three : (b : Bool) → (not b || false) ≡ true → b ≡ false
@@ -180,6 +228,7 @@ module _ (t : List ℕ) (c : Code) (past : List Command) (s : Stands t past) whe
   pub violation-as :
       (g : ℕ) → Known c → g ≡ groupIn t
       → violation past (commandOf c)
-      ≡ cond (ltb (c .group) g) 4 (cond (exceedsCount past (commandOf c)) 5 (cond (undeclared past (commandOf c)) 6 (cond (outOfReach past (commandOf c)) 7 (cond (repeated past (commandOf c)) 8 0))))
+      ≡ cond (ltb (c .group) g) 4 (cond (exceedsCount past (commandOf c)) 5
+      (cond (undeclared past (commandOf c)) 6 (cond (outOfReach past (commandOf c)) 7 (cond (repeated past (commandOf c)) 8 0))))
   unfolding violation
   violation-as g k e = rw (s .group (commandOf c), e, k .group)

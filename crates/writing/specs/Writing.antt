@@ -4,11 +4,11 @@ use mathlib.Core.Path.{_≡_}
 use mathlib.Core.List.{List, _++_}
 use lib.ListN.{length, take, drop}
 
--- a buffer with these bytes from a place on; those before and behind stay unchanged
+-- a buffer with these bytes from a place on; those before and after stay unchanged
 unfoldable pub placed : List ℕ → ℕ → List ℕ → List ℕ
 placed buffer at bytes = take at buffer ++ bytes ++ drop (length bytes) (drop at buffer)
 
--- the bytes stand in the buffer from `at` on, and `next` is the place behind them
+-- the bytes stand in the buffer from `at` on, and `next` is the place after them
 pub record Writes (bytes before : List ℕ) (at : ℕ) (after : List ℕ) (next : ℕ) : Type 0 where
   pub place : next ≡ at + length bytes
   pub buffer : after ≡ placed before at bytes

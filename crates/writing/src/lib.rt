@@ -1,4 +1,4 @@
-// Writing to a buffer from one place to the next: each function answers the place behind what it wrote.
+// Writing to a buffer from one place to the next: each function answers the place after what it wrote.
 ghost use mathlib.Core.List.{[], _∷_};
 ghost use Prim.Native.Nat.{_+_, _*_, _≤_, _<_};
 ghost use lib.ListN.{length, take, drop, replicate};
@@ -25,10 +25,11 @@ pub fn put_word(buffer: &mut [u8], at: usize, value: u32) -> usize
     put_byte(buffer, fourth, (value / 16777216 % 256) as u8)
 }
 
-// Writes `count` of the values, from the first named on, as 4 bytes each.
+// Writes `count` of the values, from number `first` on, as 4 bytes each.
 pub fn put_words(buffer: &mut [u8], at: usize, values: &[u32], first: usize, count: usize) -> usize
     requires { ⌜ (at + 4 * count ≤ length (now buffer)) × (first + count ≤ length (now values)) ⌝ }
-    ensures { λ r. ⌜ Writes (numbersBytes (take count (drop first (now (values .entry))))) (now (buffer .entry)) at (now (buffer .exit)) r ⌝ }
+    ensures { λ r. ⌜ Writes (numbersBytes (take count (drop first (now (values .entry))))) (now (buffer .entry)) at
+        (now (buffer .exit)) r ⌝ }
 {
     let mut next = at;
     let mut i: usize = 0;

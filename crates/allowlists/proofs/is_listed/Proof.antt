@@ -30,16 +30,28 @@ entry-requires-3 c κs = search needs
 
 returns : tie.Need-returns Inv-loop μ-loop
 returns c =
-    let h = rw (c .before .before .before .before .before .entry .ensures, c .before .before .before .before .entry2 .ensures, c .before .before .before .entry3 .ensures) at (c .if1 .taken) in
-    sym (c .before .before .before .before .before .before .before .loop .inv ∙ listed-hit _ _ _ _ (c .before .before .before .before .before .before .before .loop .i) (c .before .before .before .before .before .before .loop-test .taken) h)
+    let p6 = c .before .before .before .before .before .before in
+    let p7 = p6 .before in
+    let h = rw (
+      c .before .before .before .before .before .entry .ensures,
+      c .before .before .before .before .entry2 .ensures,
+      c .before .before .before .entry3 .ensures,
+    ) at (c .if1 .taken) in
+    sym (p7 .loop .inv ∙ listed-hit _ _ _ _ (p7 .loop .i) (p6 .loop-test .taken) h)
 
 loop-less : tie.Need-loop-less Inv-loop μ-loop
 loop-less c = search needs
 
 loop-again : tie.Need-loop-again Inv-loop μ-loop
 loop-again c =
-    let h = rw (c .before .before .before .before .before .entry .ensures, c .before .before .before .before .entry2 .ensures, c .before .before .before .entry3 .ensures) at (c .if1 .left) in
-    c .before .before .before .before .before .before .before .loop .inv ∙ listed-miss _ _ _ _ (c .before .before .before .before .before .before .before .loop .i) (c .before .before .before .before .before .before .loop-test .taken) h
+    let p6 = c .before .before .before .before .before .before in
+    let p7 = p6 .before in
+    let h = rw (
+      c .before .before .before .before .before .entry .ensures,
+      c .before .before .before .before .entry2 .ensures,
+      c .before .before .before .entry3 .ensures,
+    ) at (c .if1 .left) in
+    p7 .loop .inv ∙ listed-miss _ _ _ _ (p7 .loop .i) (p6 .loop-test .taken) h
 
 returns-2 : tie.Need-returns-2 Inv-loop μ-loop
 returns-2 c = sym (c .before .loop .inv ∙ listed-none _ _ _ _ (c .before .loop .i) (omega arith))

@@ -1,4 +1,4 @@
--- `conformance::conform_all` meets its contract. The invariant: the text of one more run fits behind that which waits, and the buffers keep
+-- `conformance::conform_all` meets its contract. The invariant: the text of one more run fits after that which waits, and the buffers keep
 -- their lengths. The measure is the number of rounds that are left.
 use Prim.Native.Nat.{_+_, _≤_}
 use mathlib.Core.Path.{_≡_, sym, _∙_}

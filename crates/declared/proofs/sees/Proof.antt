@@ -19,7 +19,12 @@ is-seen-requires : tie.Need-is-seen-requires
 is-seen-requires c κs = search needs
 
 returns : tie.Need-returns
-returns c = rw (c .is-seen .ensures, c .before .flow-of .ensures, c .before .before .entry2 .ensures, c .before .before .before .entry .ensures)
+returns c = rw (
+  c .is-seen .ensures,
+  c .before .flow-of .ensures,
+  c .before .before .entry2 .ensures,
+  c .before .before .before .entry .ensures,
+)
 
 pub sees-spec : {M : Type 1} → statement M
 sees-spec =

@@ -70,7 +70,9 @@ continue-at-requires-7 : tie.Need-continue-at-requires-7
 continue-at-requires-7 c κs = search needs
 
 returns : tie.Need-returns
-returns c = rw (c .before .before .before .instruction6 .given .1) (jumps _ _ _ _ _ _ (c .continue-at7 .ensures) (λ hs s n h. rw (eq-eqb _ _ (ap (λ (o : Registers). o .accumulator) (h .own) ∙ c .before .if1 .taken))))
+returns c = rw (c .before .before .before .instruction6 .given .1)
+    (jumps _ _ _ _ _ _ (c .continue-at7 .ensures) (λ hs s n h.
+    rw (eq-eqb _ _ (ap (λ (o : Registers). o .accumulator) (h .own) ∙ c .before .if1 .taken))))
 
 continue-at-requires-8 : tie.Need-continue-at-requires-8
 continue-at-requires-8 c κs = search needs
@@ -106,31 +108,45 @@ returns-2 : tie.Need-returns-2
 returns-2 c = rw (c .before .before .instruction .given .1) (sets _ _ _ _ _ _ (c .continue-at .ensures) (λ hs s n h. refl))
 
 returns-3 : tie.Need-returns-3
-returns-3 c = rw (c .before .enum-told .given .1) (sets _ _ _ _ _ _ (c .continue-at2 .ensures) (λ hs s n h. ap (λ (o : Registers). advanced (withAccumulator s n (o .message)) n) (h .own)))
+returns-3 c = rw (c .before .enum-told .given .1) (sets _ _ _ _ _ _ (c .continue-at2 .ensures)
+    (λ hs s n h. ap (λ (o : Registers). advanced (withAccumulator s n (o .message)) n) (h .own)))
 
 returns-4 : tie.Need-returns-4
-returns-4 c = rw (c .before .before .before .instruction2 .given .1) (gets _ _ _ _ _ (c .continue-at3 .ensures) _ (c .before .variable-at .ensures))
+returns-4 c = rw (c .before .before .before .instruction2 .given .1)
+    (gets _ _ _ _ _ (c .continue-at3 .ensures) _ (c .before .variable-at .ensures))
 
 returns-5 : tie.Need-returns-5
-returns-5 c = rw (c .before .before .instruction3 .given .1) (nexts _ _ _ _ _ _ (c .continue-at4 .ensures) (λ hs s n. refl) (λ hs s n _. tt))
+returns-5 c = rw (c .before .before .instruction3 .given .1) (nexts _ _ _ _ _ _ (c .continue-at4 .ensures) (λ hs s n. refl)
+    (λ hs s n _. tt))
 
 returns-6 : tie.Need-returns-6
-returns-6 c = rw (c .before .before .before .instruction4 .given .1) (adds _ (c .before .before .before .before .before .before .before .before .args .own) _ _ _ (c .continue-at5 .ensures) _ (c .before .wrapping-add-u32 .ensures))
+returns-6 c = rw (c .before .before .before .instruction4 .given .1)
+    (adds _ (c .before .before .before .before .before .before .before .before .args .own) _ _ _ (c .continue-at5 .ensures) _
+    (c .before .wrapping-add-u32 .ensures))
 
 returns-7 : tie.Need-returns-7
-returns-7 c = rw (c .before .before .before .before .instruction5 .given .1) (pluses _ (c .before .before .before .before .before .before .before .before .before .args .own) _ _ _ (c .continue-at6 .ensures) _ _ (c .before .before .variable-at2 .ensures) (c .before .wrapping-add-u322 .ensures))
+returns-7 c = rw (c .before .before .before .before .instruction5 .given .1)
+    (pluses _ (c .before .before .before .before .before .before .before .before .before .args .own) _ _ _ (c .continue-at6 .ensures) _ _
+    (c .before .before .variable-at2 .ensures) (c .before .wrapping-add-u322 .ensures))
 
 returns-8 : tie.Need-returns-8
-returns-8 c = rw (c .before .before .before .instruction6 .given .1) (jumps _ _ _ _ _ _ (c .continue-at8 .ensures) (λ hs s n h. rw (ne-eqb (accumulatorAt s n) 0 (λ e. c .before .if1 .left (sym (ap (λ (o : Registers). o .accumulator) (h .own)) ∙ e))) (ap (λ (o : Registers). withPosition s n (o .position + 1)) (h .own))))
+returns-8 c = rw (c .before .before .before .instruction6 .given .1)
+    (jumps _ _ _ _ _ _ (c .continue-at8 .ensures) (λ hs s n h.
+    rw (ne-eqb (accumulatorAt s n) 0 (λ e. c .before .if1 .left (sym (ap (λ (o : Registers). o .accumulator) (h .own)) ∙ e)))
+    (ap (λ (o : Registers). withPosition s n (o .position + 1)) (h .own))))
 
 returns-9 : tie.Need-returns-9
 returns-9 c = rw (c .before .before .instruction7 .given .1) (jumps _ _ _ _ _ _ (c .continue-at9 .ensures) (λ hs s n h. refl))
 
 returns-10 : tie.Need-returns-10
-returns-10 c = rw (c .before .before .instruction8 .given .1) (nexts _ _ _ _ _ _ (c .continue-at10 .ensures) (λ hs s n. refl) (λ hs s n e. e))
+returns-10 c = rw (c .before .before .instruction8 .given .1)
+    (nexts _ _ _ _ _ _ (c .continue-at10 .ensures) (λ hs s n. refl) (λ hs s n e. e))
 
 returns-11 : tie.Need-returns-11
-returns-11 c = rw (c .before .before .before .instruction9 .given .1) (sets _ _ _ _ _ _ (c .continue-at11 .ensures) (λ hs s n h. ap (λ (v : ℕ). advanced (withAccumulator s n v) n) (answer-by (now (c .before .before .before .before .before .before .before .before .args .tables)) hs _ _ ∙ sym (c .before .answer-of .ensures))))
+returns-11 c = rw (c .before .before .before .instruction9 .given .1)
+    (sets _ _ _ _ _ _ (c .continue-at11 .ensures) (λ hs s n h. ap (λ (v : ℕ). advanced (withAccumulator s n v) n)
+    (answer-by (now (c .before .before .before .before .before .before .before .before .args .tables)) hs _ _
+    ∙ sym (c .before .answer-of .ensures))))
 
 returns-12 : tie.Need-returns-12
 returns-12 c = rw (c .before .enum-told2 .given .1) (nexts _ _ _ _ _ _ (c .continue-at12 .ensures) (λ hs s n. refl) (λ hs s n _. tt))

@@ -33,13 +33,19 @@ enum-known-instruction-5 : tie.Need-enum-known-instruction-5
 enum-known-instruction-5 c = search needs
 
 returns : tie.Need-returns
-returns c hs s n a v = rw (c .before .before .instruction .given .1) (ap (entryFor n) (c .read-of .ensures) ∙ read-left (now (c .before .before .before .before .before .before .args .tables)) hs s n _ _ v)
+returns c hs s n a v = rw (c .before .before .instruction .given .1)
+    (ap (entryFor n) (c .read-of .ensures) ∙ read-left (now (c .before .before .before .before .before .before .args .tables)) hs s n _ _
+    v)
 
 returns-2 : tie.Need-returns-2
-returns-2 c hs s n a v = rw (c .before .before .instruction2 .given .1) (ap (entryFor n) (c .write-of .ensures) ∙ write-left (now (c .before .before .before .before .before .before .args .tables)) hs s n _ _ a)
+returns-2 c hs s n a v = rw (c .before .before .instruction2 .given .1)
+    (ap (entryFor n) (c .write-of .ensures) ∙ write-left (now (c .before .before .before .before .before .before .args .tables)) hs s n _
+    _ a)
 
 returns-3 : tie.Need-returns-3
-returns-3 c hs s n a v = rw (c .before .before .instruction3 .given .1) (ap (entryFor n) (c .read-of2 .ensures) ∙ read-left (now (c .before .before .before .before .before .before .args .tables)) hs s n _ _ v)
+returns-3 c hs s n a v = rw (c .before .before .instruction3 .given .1)
+    (ap (entryFor n) (c .read-of2 .ensures) ∙ read-left (now (c .before .before .before .before .before .before .args .tables)) hs s n _ _
+    v)
 
 returns-4 : tie.Need-returns-4
 returns-4 c hs s n a v = rw (c .before .instruction4 .given .1, a)
@@ -48,7 +54,8 @@ returns-5 : tie.Need-returns-5
 returns-5 c hs s n a v = rw (c .before .instruction5 .given .1, a)
 
 returns-6 : tie.Need-returns-6
-returns-6 c hs s n a v = plain-left (programIn (now (c .before .before .before .args .tables)) hs) s n (c .before .before .before .args .instruction) (c .match .keys6)
+returns-6 c hs s n a v = plain-left (programIn (now (c .before .before .before .args .tables)) hs) s n
+    (c .before .before .before .args .instruction) (c .match .keys6)
 
 pub event-of-spec : {M : Type 1} → statement M
 event-of-spec =

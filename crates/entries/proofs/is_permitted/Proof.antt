@@ -27,13 +27,16 @@ may-call-requires : tie.Need-may-call-requires
 may-call-requires c κs = search needs
 
 returns : tie.Need-returns
-returns c hs = rw (c .before .before .event .given .1) (c .may-read .ensures ∙ sym (read-by (now (c .before .before .before .before .before .args .tables)) hs _ _))
+returns c hs = rw (c .before .before .event .given .1) (c .may-read .ensures
+    ∙ sym (read-by (now (c .before .before .before .before .before .args .tables)) hs _ _))
 
 returns-2 : tie.Need-returns-2
-returns-2 c hs = rw (c .before .before .event2 .given .1) (c .may-write .ensures ∙ sym (write-by (now (c .before .before .before .before .before .args .tables)) hs _ _))
+returns-2 c hs = rw (c .before .before .event2 .given .1) (c .may-write .ensures
+    ∙ sym (write-by (now (c .before .before .before .before .before .args .tables)) hs _ _))
 
 returns-3 : tie.Need-returns-3
-returns-3 c hs = rw (c .before .before .event3 .given .1) (c .may-call .ensures ∙ sym (call-by (now (c .before .before .before .before .before .args .tables)) hs _ _ _))
+returns-3 c hs = rw (c .before .before .event3 .given .1) (c .may-call .ensures
+    ∙ sym (call-by (now (c .before .before .before .before .before .args .tables)) hs _ _ _))
 
 returns-4 : tie.Need-returns-4
 returns-4 c hs = free-permitted (programIn (now (c .before .before .args .tables)) hs) _ (c .before .before .args .event) (c .match .keys4)

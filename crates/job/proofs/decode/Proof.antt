@@ -17,7 +17,8 @@ enum-told : tie.Need-enum-told
 enum-told c = search needs
 
 returns : tie.Need-returns
-returns c = decides-refused _ _ _ (is-refused _ _ _ _ (c .before .before .before .before .before .judge-commands .ensures) (c .before .before .before .judged .given .1)) (c .clear .ensures)
+returns c = decides-refused _ _ _ (is-refused _ _ _ _ (c .before .before .before .before .before .judge-commands .ensures)
+    (c .before .before .before .judged .given .1)) (c .clear .ensures)
 
 returns-2 : tie.Need-returns-2
 returns-2 c = decides-accepted _ _ (is-accepted _ _ _ (c .before .before .judge-commands .ensures) (c .enum-told .given .1))

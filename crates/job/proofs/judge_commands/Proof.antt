@@ -26,7 +26,8 @@ same-length-2 : tie.Need-same-length-2
 same-length-2 c = search needs
 
 returns-2 : tie.Need-returns-2
-returns-2 c = jumps-decide _ _ (c .check-jumps .result) (is-accepted _ _ _ (c .before .before .before .before .before .before .walk .ensures) (c .before .before .enum-told .given .1)) (c .check-jumps .ensures)
+returns-2 c = jumps-decide _ _ (c .check-jumps .result) (is-accepted _ _ _
+    (c .before .before .before .before .before .before .walk .ensures) (c .before .before .enum-told .given .1)) (c .check-jumps .ensures)
 
 pub judge-commands-spec : {M : Type 1} → statement M
 judge-commands-spec =

@@ -14,10 +14,13 @@ has-full-requires : tie.Need-has-full-requires
 has-full-requires c κs = search needs
 
 returns : tie.Need-returns
-returns c hs s h = rw (c .before .before .instruction .given .1) (c .has-full .ensures ∙ full-blocks (now (c .before .before .before .before .before .args .tables)) hs (now (c .before .before .before .before .before .args .waiting)) s _ _ h)
+returns c hs s h = rw (c .before .before .instruction .given .1)
+    (c .has-full .ensures ∙ full-blocks (now (c .before .before .before .before .before .args .tables)) hs
+    (now (c .before .before .before .before .before .args .waiting)) s _ _ h)
 
 returns-2 : tie.Need-returns-2
-returns-2 c hs s h = silent-goes (programIn (now (c .before .before .args .tables)) hs) s _ (c .before .before .args .instruction) (c .match .keys2)
+returns-2 c hs s h = silent-goes (programIn (now (c .before .before .args .tables)) hs) s _ (c .before .before .args .instruction)
+    (c .match .keys2)
 
 pub blocks-spec : {M : Type 1} → statement M
 blocks-spec = tie.close (tie.spec enum-known-instruction has-full-requires returns returns-2)

@@ -29,10 +29,14 @@ planned-requires c κs = search needs
 
 returns : tie.Need-returns
 returns c hs s h counts =
-    let a = c .before .before .before .before .before .before .before .before .before .args in
-    let left = c .before .before .before .before .before .before .event-of .ensures hs s (a .n .0) (ap (λ (o : Registers). o .accumulator) (h .own)) (h .variables) in
+    let p6 = c .before .before .before .before .before .before in
+    let p9 = p6 .before .before .before in
+    let a = p9 .args in
+    let left = p6 .event-of .ensures hs s (a .n .0) (ap (λ (o : Registers). o .accumulator) (h .own)) (h .variables) in
     rw (c .planned .ensures, c .before .make-entry .ensures)
-    (forbidden-planned (programIn (now (a .tables)) hs) s (a .n) (a .monitored) (a .instruction) (c .before .before .before .before .before .before .event-of .result) left (a .registers) (h .own) (sym (c .before .before .before .before .is-forbidden .ensures hs) ∙ c .before .before .before .if1 .taken) (c .before .before .redact .result) (c .before .before .redact .ensures (a .n .0)))
+    (forbidden-planned (programIn (now (a .tables)) hs) s (a .n) (a .monitored) (a .instruction) (p6 .event-of .result) left
+    (a .registers) (h .own) (sym (c .before .before .before .before .is-forbidden .ensures hs)
+    ∙ c .before .before .before .if1 .taken) (c .before .before .redact .result) (c .before .before .redact .ensures (a .n .0)))
 
 make-entry-requires-2 : tie.Need-make-entry-requires-2
 make-entry-requires-2 c κs = search needs
@@ -46,19 +50,28 @@ planned-requires-2 c κs = search needs
 returns-2 : tie.Need-returns-2
 returns-2 c hs s h counts =
     let a = c .before .before .before .before .before .before .before .before .before .before .args in
-    let left = c .before .before .before .before .before .before .before .event-of .ensures hs s (a .n .0) (ap (λ (o : Registers). o .accumulator) (h .own)) (h .variables) in
+    let left = c .before .before .before .before .before .before .before .event-of .ensures hs s (a .n .0)
+    (ap (λ (o : Registers). o .accumulator) (h .own)) (h .variables) in
     rw (c .planned2 .ensures, c .before .before .before .make-entry2 .ensures)
-    (full-planned (programIn (now (a .tables)) hs) s (a .n) (a .monitored) (a .instruction) (c .before .before .before .before .before .before .before .event-of .result) left (a .registers) (h .own) (sym (c .before .before .blocks2 .ensures hs s counts) ∙ c .before .if2 .taken))
+    (full-planned (programIn (now (a .tables)) hs) s (a .n) (a .monitored) (a .instruction)
+    (c .before .before .before .before .before .before .before .event-of .result) left (a .registers) (h .own)
+    (sym (c .before .before .blocks2 .ensures hs s counts) ∙ c .before .if2 .taken))
 
 planned-requires-3 : tie.Need-planned-requires-3
 planned-requires-3 c κs = search needs
 
 returns-3 : tie.Need-returns-3
 returns-3 c hs s h counts =
-    let a = c .before .before .before .before .before .before .before .before .before .before .args in
-    let left = c .before .before .before .before .before .before .before .event-of .ensures hs s (a .n .0) (ap (λ (o : Registers). o .accumulator) (h .own)) (h .variables) in
+    let p6 = c .before .before .before .before .before .before in
+    let p7 = p6 .before in
+    let p10 = p7 .before .before .before in
+    let a = p10 .args in
+    let left = p7 .event-of .ensures hs s (a .n .0) (ap (λ (o : Registers). o .accumulator) (h .own)) (h .variables) in
     rw (c .planned3 .ensures, c .before .before .before .make-entry2 .ensures)
-    (made-by (programIn (now (a .tables)) hs) s (a .n) (a .monitored) (a .instruction) (c .before .before .before .before .before .before .before .event-of .result) left (sym (c .before .before .before .before .before .is-forbidden .ensures hs) ∙ c .before .before .before .before .if1 .left) (sym (c .before .before .blocks2 .ensures hs s counts) ∙ c .before .if2 .left) (c .before .before .before .before .before .before .effect-of .result) (does-at _ _ _ _ _ (c .before .before .before .before .before .before .effect-of .ensures) hs s (a .n .0) h))
+    (made-by (programIn (now (a .tables)) hs) s (a .n) (a .monitored) (a .instruction) (p7 .event-of .result) left
+    (sym (c .before .before .before .before .before .is-forbidden .ensures hs) ∙ c .before .before .before .before .if1 .left)
+    (sym (c .before .before .blocks2 .ensures hs s counts) ∙ c .before .if2 .left) (p6 .effect-of .result)
+    (does-at _ _ _ _ _ (p6 .effect-of .ensures) hs s (a .n .0) h))
 
 pub decide-spec : {M : Type 1} → statement M
 decide-spec =

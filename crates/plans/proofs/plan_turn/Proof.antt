@@ -23,7 +23,8 @@ returns : tie.Need-returns
 returns c hs s h counts first fetches =
     let a = c .before .before .before .before .before .before .before .before .args in
     rw (c .planned .ensures)
-    (unready-planned (programIn (now (a .tables)) hs) s (a .n) (a .monitored) (a .registers) (h .own) (c .before .before .before .if1 .taken) (counts (a .n .0) ∙ c .before .if2 .taken))
+    (unready-planned (programIn (now (a .tables)) hs) s (a .n) (a .monitored) (a .registers) (h .own)
+    (c .before .before .before .if1 .taken) (counts (a .n .0) ∙ c .before .if2 .taken))
 
 make-entry-requires : tie.Need-make-entry-requires
 make-entry-requires c κs = search needs
@@ -35,8 +36,10 @@ returns-2 : tie.Need-returns-2
 returns-2 c hs s h counts first fetches =
     let a = c .before .before .before .before .before .before .before .before .before .args in
     rw (c .planned2 .ensures, c .before .make-entry .ensures)
-    (begun-planned (programIn (now (a .tables)) hs) s (a .n) (a .monitored) (a .registers) (h .own) (c .before .before .before .before .if1 .taken)
-    (λ e. c .before .before .if2 .left (sym (counts (a .n .0)) ∙ e)) (a .oldest) (first (omega (arith, counts (a .n .0), c .before .before .if2 .left))))
+    (begun-planned (programIn (now (a .tables)) hs) s (a .n) (a .monitored) (a .registers) (h .own)
+    (c .before .before .before .before .if1 .taken)
+    (λ e. c .before .before .if2 .left (sym (counts (a .n .0)) ∙ e)) (a .oldest)
+    (first (omega (arith, counts (a .n .0), c .before .before .if2 .left))))
 
 enum-known-fetched : tie.Need-enum-known-fetched
 enum-known-fetched c = search needs
@@ -57,8 +60,10 @@ returns-3 : tie.Need-returns-3
 unfolding programIn
 returns-3 c hs s h counts first fetches =
     let a = c .before .before .before .before .before .before .before .before .before .args in
-    let inside = inside-command (hs (a .n .0)) (a .registers .position) _ (sym (ap fetchedOf (c .before .before .fetched .given .1)) ∙ fetches) in
-    executed-planned (programIn (now (a .tables)) hs) s (a .n) (a .monitored) (a .registers) (h .own) (c .before .before .before .before .if1 .left) (inside .0)
+    let inside = inside-command (hs (a .n .0)) (a .registers .position) _
+    (sym (ap fetchedOf (c .before .before .fetched .given .1)) ∙ fetches) in
+    executed-planned (programIn (now (a .tables)) hs) s (a .n) (a .monitored) (a .registers) (h .own)
+    (c .before .before .before .before .if1 .left) (inside .0)
     _ (inside .1) _ (c .decide .ensures hs s h counts)
 
 returns-4 : tie.Need-returns-4
@@ -66,7 +71,8 @@ unfolding programIn
 returns-4 c hs s h counts first fetches =
     let a = c .before .before .before .before .before .before .before .before .before .args in
     rw (c .planned3 .ensures, c .before .make-entry2 .ensures)
-    (finished-planned (programIn (now (a .tables)) hs) s (a .n) (a .monitored) (a .registers) (h .own) (c .before .before .before .before .if1 .left)
+    (finished-planned (programIn (now (a .tables)) hs) s (a .n) (a .monitored) (a .registers) (h .own)
+    (c .before .before .before .before .if1 .left)
     (after-command (hs (a .n .0)) (a .registers .position) (sym (ap fetchedOf (c .before .before .enum-told .given .1)) ∙ fetches)))
 
 pub plan-turn-spec : {M : Type 1} → statement M

@@ -36,8 +36,11 @@ enum-known-answer c = search needs
 
 put-refusal-requires : tie.Need-put-refusal-requires
 put-refusal-requires c κs =
-    let z = c .before .before .before .before .before .before .before .before .before .before .before .before .before .before .before .before .before .before .before .before .before .before .args in
-    let room = leb-true (z .at + textSize) (length (now (z .text))) (sym (c .before .before .before .before .before .before .before .before .before .before .before .before .before .before .before .has-room .ensures) ∙ not-false _ (c .before .before .before .before .before .before .before .before .before .before .before .before .before .before .if1 .left)) in
+    let p14 = c .before .before .before .before .before .before .before .before .before .before .before .before .before .before in
+    let p15 = p14 .before in
+    let p22 = p15 .before .before .before .before .before .before .before in
+    let z = p22 .args in
+    let room = leb-true (z .at + textSize) (length (now (z .text))) (sym (p15 .has-room .ensures) ∙ not-false _ (p14 .if1 .left)) in
     let q = c .before .before .answer .given .0 .0 in
     omega (arith, room, refused-short (q .number) (q .place))
 
@@ -46,18 +49,26 @@ enum-known-answer-2 c = search needs
 
 put-ended-requires : tie.Need-put-ended-requires
 put-ended-requires c κs =
-    let z = c .before .before .before .before .before .before .before .before .before .before .before .before .before .before .before .before .before .before .before .before .before .before .before .before .args in
-    let r = c .before .before .before .before .before .before .before .before .before .before .before .before .run in
+    let p8 = c .before .before .before .before .before .before .before .before in
+    let p10 = p8 .before .before in
+    let p12 = p10 .before .before in
+    let p16 = p12 .before .before .before .before in
+    let p17 = p16 .before in
+    let p24 = p17 .before .before .before .before .before .before .before in
+    let z = p24 .args in
+    let r = p12 .run in
     let b = buffers (now (z .trace)) (now (z .snapshot)) (now (z .work)) in
-    let d = delivers-by (resultFor (z .monitored) (now (z .job)) (sizesOf b)) b (buffers _ _ _) (r .result) (r .ensures .0) (r .ensures .1 .0) (r .ensures .1 .1 .0) (r .ensures .1 .1 .1) in
-    let room = leb-true (z .at + textSize) (length (now (z .text))) (sym (c .before .before .before .before .before .before .before .before .before .before .before .before .before .before .before .before .before .has-room .ensures) ∙ not-false _ (c .before .before .before .before .before .before .before .before .before .before .before .before .before .before .before .before .if1 .left)) in
-    let e = ended-as (z .monitored) (now (z .job)) (buffers (now (z .trace)) (now (z .snapshot)) (now (z .work))) _ _ _ d (c .before .before .before .before .answer2 .given .1) in
+    let d = delivers-by (resultFor (z .monitored) (now (z .job)) (sizesOf b)) b (buffers _ _ _) (r .result) (r .ensures .0)
+    (r .ensures .1 .0) (r .ensures .1 .1 .0) (r .ensures .1 .1 .1) in
+    let room = leb-true (z .at + textSize) (length (now (z .text))) (sym (p17 .has-room .ensures) ∙ not-false _ (p16 .if1 .left)) in
+    let e = ended-as (z .monitored) (now (z .job)) (buffers (now (z .trace)) (now (z .snapshot)) (now (z .work))) _ _ _ d
+    (c .before .before .before .before .answer2 .given .1) in
     let short = lines-short _ _ _ _ _ e (λ i. omega (
       arith,
-      c .before .before .before .before .before .before .before .before .before .before .slice-known5 .given i,
+      p10 .slice-known5 .given i,
     )) (λ i. omega (
       arith,
-      c .before .before .before .before .before .before .before .before .slice-known6 .given i,
+      p8 .slice-known6 .given i,
     )) in
     (is-accepted _ _ _ _ _ e, (trace-inside _ _ _ _ _ e, (snapshot-inside _ _ _ _ _ e, omega (arith, room, short))))
 
@@ -75,11 +86,16 @@ same-length-5 c = search needs
 
 returns-2 : tie.Need-returns-2
 returns-2 c =
-    let z = c .before .before .before .before .before .before .before .before .before .before .before .before .before .before .before .before .before .before .before .before .before .before .before .before .before .args in
-    let r = c .before .before .before .before .before .before .before .before .before .before .before .before .before .run in
+    let p13 = c .before .before .before .before .before .before .before .before .before .before .before .before .before in
+    let p17 = p13 .before .before .before .before in
+    let p18 = p17 .before in
+    let p25 = p18 .before .before .before .before .before .before .before in
+    let z = p25 .args in
+    let r = p13 .run in
     let b = buffers (now (z .trace)) (now (z .snapshot)) (now (z .work)) in
-    let d = delivers-by (resultFor (z .monitored) (now (z .job)) (sizesOf b)) b (buffers _ _ _) (r .result) (r .ensures .0) (r .ensures .1 .0) (r .ensures .1 .1 .0) (r .ensures .1 .1 .1) in
-    let room = sym (c .before .before .before .before .before .before .before .before .before .before .before .before .before .before .before .before .before .before .has-room .ensures) ∙ not-false _ (c .before .before .before .before .before .before .before .before .before .before .before .before .before .before .before .before .before .if1 .left) in
+    let d = delivers-by (resultFor (z .monitored) (now (z .job)) (sizesOf b)) b (buffers _ _ _) (r .result) (r .ensures .0)
+    (r .ensures .1 .0) (r .ensures .1 .1 .0) (r .ensures .1 .1 .1) in
+    let room = sym (p18 .has-room .ensures) ∙ not-false _ (p17 .if1 .left) in
     let given = c .before .before .before .before .before .answer .given in
     let q = given .0 .0 in
     let same = ap (resultLines (now (z .job))) (refused-result _ _ _ _ _ d (given .1)) in
@@ -103,19 +119,27 @@ same-length-9 c = search needs
 
 returns-3 : tie.Need-returns-3
 returns-3 c =
-    let z = c .before .before .before .before .before .before .before .before .before .before .before .before .before .before .before .before .before .before .before .before .before .before .before .before .before .before .before .args in
-    let r = c .before .before .before .before .before .before .before .before .before .before .before .before .before .before .before .run in
+    let p7 = c .before .before .before .before .before .before .before in
+    let p11 = p7 .before .before .before .before in
+    let p13 = p11 .before .before in
+    let p15 = p13 .before .before in
+    let p19 = p15 .before .before .before .before in
+    let p20 = p19 .before in
+    let p27 = p20 .before .before .before .before .before .before .before in
+    let z = p27 .args in
+    let r = p15 .run in
     let b = buffers (now (z .trace)) (now (z .snapshot)) (now (z .work)) in
-    let d = delivers-by (resultFor (z .monitored) (now (z .job)) (sizesOf b)) b (buffers _ _ _) (r .result) (r .ensures .0) (r .ensures .1 .0) (r .ensures .1 .1 .0) (r .ensures .1 .1 .1) in
-    let room = sym (c .before .before .before .before .before .before .before .before .before .before .before .before .before .before .before .before .before .before .before .before .has-room .ensures) ∙ not-false _ (c .before .before .before .before .before .before .before .before .before .before .before .before .before .before .before .before .before .before .before .if1 .left) in
-    let given = c .before .before .before .before .before .before .before .answer2 .given in
+    let d = delivers-by (resultFor (z .monitored) (now (z .job)) (sizesOf b)) b (buffers _ _ _) (r .result) (r .ensures .0)
+    (r .ensures .1 .0) (r .ensures .1 .1 .0) (r .ensures .1 .1 .1) in
+    let room = sym (p20 .has-room .ensures) ∙ not-false _ (p19 .if1 .left) in
+    let given = p7 .answer2 .given in
     let e = ended-as (z .monitored) (now (z .job)) (buffers (now (z .trace)) (now (z .snapshot)) (now (z .work))) _ _ _ d (given .1) in
     let short = lines-short _ _ _ _ _ e (λ i. omega (
       arith,
-      c .before .before .before .before .before .before .before .before .before .before .before .before .before .slice-known5 .given i,
+      p13 .slice-known5 .given i,
     )) (λ i. omega (
       arith,
-      c .before .before .before .before .before .before .before .before .before .before .before .slice-known6 .given i,
+      p11 .slice-known6 .given i,
     )) in
     let puts = rw (lines-same _ _ _ _ _ e) at (c .before .before .put-ended .ensures) in
     let run = rw (given .1) at d in (

@@ -23,7 +23,11 @@ shared-slice-read-put-byte c = search needs
 put-byte-requires : tie.Need-put-byte-requires Inv-loop μ-loop
 put-byte-requires c κs =
     let l = c .before .before .before .loop in
-    omega (arith, room _ _ _ _ (rw bytes-each (c .before .before .before .before .before .before .pre)) (l .i) (c .before .before .loop-test .taken) _ _ (l .inv .1))
+    omega (
+      arith,
+      room _ _ _ _ (rw bytes-each (c .before .before .before .before .before .before .pre)) (l .i)
+          (c .before .before .loop-test .taken) _ _ (l .inv .1),
+    )
 
 add-i : tie.Need-add-i Inv-loop μ-loop
 add-i c = search needs
@@ -33,8 +37,11 @@ loop-less c = search needs
 
 loop-again : tie.Need-loop-again Inv-loop μ-loop
 loop-again c =
-    let l = c .before .before .before .before .before .before .loop in
-    (search needs, one-put _ _ _ _ (rw bytes-each (c .before .before .before .before .before .before .before .before .before .pre)) (l .i) (c .before .before .before .before .before .loop-test .taken) _ _ (l .inv .1) _ _ (c .before .before .put-byte .ensures))
+    let l = c .before .before .before .before .before .before .loop in (
+      search needs,
+      one-put _ _ _ _ (rw bytes-each (c .before .before .before .before .before .before .before .before .before .pre)) (l .i)
+          (c .before .before .before .before .before .loop-test .taken) _ _ (l .inv .1) _ _ (c .before .before .put-byte .ensures),
+    )
 
 same-length : tie.Need-same-length Inv-loop μ-loop
 same-length c = search needs

@@ -16,7 +16,8 @@ slice-aggregate-put c = search needs
 put-requires : tie.Need-put-requires
 put-requires c κs =
     let d = c .before .before .decimal in
-    rw (decimal-taken _ _ _ (c .before .before .before .before .before .fits .number .fits) (d .ensures .1 .0) (d .ensures .1 .1)) (c .before .before .before .before .before .pre)
+    rw (decimal-taken _ _ _ (c .before .before .before .before .before .fits .number .fits) (d .ensures .1 .0) (d .ensures .1 .1))
+    (c .before .before .before .before .before .pre)
 
 same-length : tie.Need-same-length
 same-length c = search needs
@@ -24,7 +25,8 @@ same-length c = search needs
 returns : tie.Need-returns
 returns c =
     let d = c .before .before .before .before .before .decimal in
-    rw (decimal-taken _ _ _ (c .before .before .before .before .before .before .before .before .fits .number .fits) (d .ensures .1 .0) (d .ensures .1 .1)) at (c .before .before .put .ensures)
+    rw (decimal-taken _ _ _ (c .before .before .before .before .before .before .before .before .fits .number .fits) (d .ensures .1 .0)
+    (d .ensures .1 .1)) at (c .before .before .put .ensures)
 
 pub put-decimal-spec : {M : Type 1} → statement M
 put-decimal-spec =

@@ -26,7 +26,11 @@ shared-slice-read-put-field c = search needs
 put-field-requires : tie.Need-put-field-requires Inv-loop μ-loop
 put-field-requires c κs =
     let l = c .before .before .before .loop in
-    omega (arith, room _ _ _ _ (rw fields-each (c .before .before .before .before .before .before .pre)) (l .i) (c .before .before .loop-test .taken) _ _ (l .inv .1))
+    omega (
+      arith,
+      room _ _ _ _ (rw fields-each (c .before .before .before .before .before .before .pre)) (l .i)
+          (c .before .before .loop-test .taken) _ _ (l .inv .1),
+    )
 
 add-i : tie.Need-add-i Inv-loop μ-loop
 add-i c = search needs
@@ -36,8 +40,11 @@ loop-less c = search needs
 
 loop-again : tie.Need-loop-again Inv-loop μ-loop
 loop-again c =
-    let l = c .before .before .before .before .before .before .loop in
-    (search needs, one-put _ _ _ _ (rw fields-each (c .before .before .before .before .before .before .before .before .before .pre)) (l .i) (c .before .before .before .before .before .loop-test .taken) _ _ (l .inv .1) _ _ (c .before .before .put-field .ensures))
+    let l = c .before .before .before .before .before .before .loop in (
+      search needs,
+      one-put _ _ _ _ (rw fields-each (c .before .before .before .before .before .before .before .before .before .pre))
+          (l .i) (c .before .before .before .before .before .loop-test .taken) _ _ (l .inv .1) _ _ (c .before .before .put-field .ensures),
+    )
 
 same-length : tie.Need-same-length Inv-loop μ-loop
 same-length c = search needs

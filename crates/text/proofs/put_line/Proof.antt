@@ -13,20 +13,28 @@ put-requires c κs =
 put-fields-requires : tie.Need-put-fields-requires
 put-fields-requires c κs =
     let z = c .before .before .before .before .before .before .before .before .args in
-    numbers-room (now (z .word)) (now (z .numbers)) (now (z .text)) (z .at) (c .before .before .before .before .before .before .before .before .pre) _ _ (c .before .before .before .put .ensures)
+    numbers-room (now (z .word)) (now (z .numbers)) (now (z .text)) (z .at)
+    (c .before .before .before .before .before .before .before .before .pre) _ _ (c .before .before .before .put .ensures)
 
 put-byte-requires : tie.Need-put-byte-requires
 put-byte-requires c κs =
-    let z = c .before .before .before .before .before .before .before .before .before .before .before .before .args in
-    feed-room (now (z .word)) (now (z .numbers)) (now (z .text)) (z .at) (c .before .before .before .before .before .before .before .before .before .before .before .before .pre) _ _ (c .before .before .before .before .before .before .before .put .ensures) _ _ (c .before .before .before .put-fields .ensures)
+    let p7 = c .before .before .before .before .before .before .before in
+    let p12 = p7 .before .before .before .before .before in
+    let z = p12 .args in
+    feed-room (now (z .word)) (now (z .numbers)) (now (z .text)) (z .at) (p12 .pre) _ _ (p7 .put .ensures) _ _
+    (c .before .before .before .put-fields .ensures)
 
 same-length : tie.Need-same-length
 same-length c = search needs
 
 returns : tie.Need-returns
 returns c =
-    let z = c .before .before .before .before .before .before .before .before .before .before .before .before .before .before .before .args in
-    line-put (now (z .word)) (now (z .numbers)) (now (z .text)) (z .at) (c .before .before .before .before .before .before .before .before .before .before .before .before .before .before .before .pre) _ _ (c .before .before .before .before .before .before .before .before .before .before .put .ensures) _ _ (c .before .before .before .before .before .before .put-fields .ensures) _ _ (c .before .before .put-byte .ensures)
+    let p6 = c .before .before .before .before .before .before in
+    let p10 = p6 .before .before .before .before in
+    let p15 = p10 .before .before .before .before .before in
+    let z = p15 .args in
+    line-put (now (z .word)) (now (z .numbers)) (now (z .text)) (z .at) (p15 .pre) _ _ (p10 .put .ensures) _ _
+    (p6 .put-fields .ensures) _ _ (c .before .before .put-byte .ensures)
 
 pub put-line-spec : {M : Type 1} → statement M
 put-line-spec =

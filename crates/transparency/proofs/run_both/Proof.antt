@@ -32,13 +32,24 @@ same-length-6 c = search needs
 
 returns : tie.Need-returns
 returns c =
-    let a = c .before .before .before .before .before .before .before .before .before .before .before .before .before .before .before .before .before .before .before .before .before .before .before .before .before .before .before .args in
+    let p6 = c .before .before .before .before .before .before in
+    let p16 = p6 .before .before .before .before .before .before .before .before .before .before in
+    let p27 = p16 .before .before .before .before .before .before .before .before .before .before .before in
+    let a = p27 .args in
     let m = call (buffers (now (a .trace)) (now (a .snapshot)) (now (a .work))) (buffers _ _ _) _ in
     let u = call (buffers (now (a .unmonitored-trace)) (now (a .unmonitored-snapshot)) (now (a .unmonitored-work))) (buffers _ _ _) _ in
-    let e = c .before .before .before .before .before .before .before .before .before .before .before .before .before .before .before .before .run-monitored .ensures in
-    let f = c .before .before .before .before .before .before .run-unmonitored .ensures in
-    let gm : Monitored (now (a .job)) m = record { told = e .0; left = record { trace = e .1 .0; snapshot = e .1 .1 .0; work = e .1 .1 .1 } } in
-    let gu : Unmonitored (now (a .job)) u = record { told = f .0; left = record { trace = f .1 .0; snapshot = f .1 .1 .0; work = f .1 .1 .1 } } in
+    let e = p16 .run-monitored .ensures in
+    let f = p6 .run-unmonitored .ensures in
+    let gm : Monitored (now (a .job)) m = record {
+      told = e .0;
+      left = record
+          { trace = e .1 .0; snapshot = e .1 .1 .0; work = e .1 .1 .1 };
+    } in
+    let gu : Unmonitored (now (a .job)) u = record {
+      told = f .0;
+      left = record
+          { trace = f .1 .0; snapshot = f .1 .1 .0; work = f .1 .1 .1 };
+    } in
     (gm, (gu, transparency (now (a .job)) m u gm gu))
 
 pub run-both-spec : {M : Type 1} → statement M

@@ -10,7 +10,8 @@ use Rattle.model.specs.Command.{Command}
 use Rattle.tables.specs.Tables.{countIn}
 use Rattle.output.specs.Written.{entryWith, Narrow}
 use Rattle.turns.specs.Runs.{Loaded, runOf, RunsAs}
-use Rattle.turns.proofs.Running.{Reached, underway-none, node-inside, position-narrow, turns-few, made-narrow, underway-next, underway-stopped}
+use Rattle.turns.proofs.Running.{Reached, underway-none, node-inside, position-narrow, turns-few, made-narrow, underway-next}
+use Rattle.turns.proofs.Running.{underway-stopped}
 use Rattle.turns.proofs.Running.{reached, halted}
 use Rattle.turns.proofs.run_turns.Statement.{statement}
 use Rattle.turns.proofs.run_turns.Tie as tie
@@ -32,7 +33,8 @@ loop-holds : tie.Need-loop-holds Inv-loop μ-loop
 loop-holds c =
     let a = c .before .before .before .before .before .before .args in
     λ ready.
-    reached (a .monitored) (now (a .job)) (now (a .tables)) (now (a .work)) ready _ _ _ 0 0 _ _ refl (c .before .count-of .ensures) (omega arith)
+    reached (a .monitored) (now (a .job)) (now (a .tables)) (now (a .work)) ready _ _ _ 0 0 _ _ refl (c .before .count-of .ensures)
+    (omega arith)
     (underway-none (a .monitored) (now (a .job)) (now (a .tables)) (now (a .work)) ready _ _ (c .start .ensures)) _ refl
 
 turn-at-requires : tie.Need-turn-at-requires Inv-loop μ-loop
@@ -46,24 +48,39 @@ mul-fetch c = search needs
 
 element-copy-out-fetch : tie.Need-element-copy-out-fetch Inv-loop μ-loop
 element-copy-out-fetch c =
-    let a = c .before .before .before .before .before .before .before .before .before .before .args in
-    let ready = c .before .before .before .before .before .before .before .before .before .before .pre .0 in
+    let p10 = c .before .before .before .before .before .before .before .before .before .before in
+    let a = p10 .args in
+    let ready = p10 .pre .0 in
     let l = c .before .before .before .loop in
     let h : l .k < l .last = omega (arith, c .before .before .loop-test .taken) in
-    omega (arith, c .before .turn-at .ensures, node-inside (a .monitored) (now (a .job)) (now (a .tables)) (now (a .work)) ready (l .k) (omega (arith, h, l .inv ready .all h, c .before .before .before .before .before .count-of .ensures)))
+    omega (
+      arith,
+      c .before .turn-at .ensures,
+      node-inside (a .monitored) (now (a .job)) (now (a .tables)) (now (a .work)) ready (l .k)
+          (omega (arith, h, l .inv ready .all h, c .before .before .before .before .before .count-of .ensures)),
+    )
 
 fetch-requires : tie.Need-fetch-requires Inv-loop μ-loop
 fetch-requires c κs = search needs
 
 turn-requires : tie.Need-turn-requires Inv-loop μ-loop
 turn-requires c κs =
-    let a = c .before .before .before .before .before .before .before .before .before .before .before .before .args in
-    let ready = c .before .before .before .before .before .before .before .before .before .before .before .before .pre .0 in
+    let p7 = c .before .before .before .before .before .before .before in
+    let p12 = p7 .before .before .before .before .before in
+    let a = p12 .args in
+    let ready = p12 .pre .0 in
     let l = c .before .before .before .before .before .loop in
     let h : l .k < l .last = omega (arith, c .before .before .before .before .loop-test .taken) in
     let u = l .inv ready .going h in
-    let inside = node-inside (a .monitored) (now (a .job)) (now (a .tables)) (now (a .work)) ready (l .k) (omega (arith, h, l .inv ready .all h, c .before .before .before .before .before .before .before .count-of .ensures)) in
-    (u .bounded, (omega (arith, c .before .before .before .turn-at .ensures, inside), position-narrow (a .monitored) (now (a .job)) (now (a .tables)) (now (a .work)) ready u _))
+    let inside = node-inside (a .monitored) (now (a .job)) (now (a .tables)) (now (a .work)) ready (l .k)
+    (omega (arith, h, l .inv ready .all h, p7 .count-of .ensures)) in (
+      u .bounded,
+      (
+        omega (arith, c .before .before .before .turn-at .ensures, inside),
+        position-narrow (a .monitored) (now (a .job))
+            (now (a .tables)) (now (a .work)) ready u _,
+      ),
+    )
 
 enum-known-outcome : tie.Need-enum-known-outcome Inv-loop μ-loop
 enum-known-outcome c = search needs
@@ -73,42 +90,72 @@ numbers-of-requires c κs = search needs
 
 put-entry-requires : tie.Need-put-entry-requires Inv-loop μ-loop
 put-entry-requires c κs =
-    let a = c .before .before .before .before .before .before .before .before .before .before .before .before .before .before .before .before .before .before .before .args in
-    let ready = c .before .before .before .before .before .before .before .before .before .before .before .before .before .before .before .before .before .before .before .pre .0 in
-    let l = c .before .before .before .before .before .before .before .before .before .before .before .before .loop in
-    let h : l .k < l .last = omega (arith, c .before .before .before .before .before .before .before .before .before .before .before .loop-test .taken) in
+    let p6 = c .before .before .before .before .before .before in
+    let p7 = p6 .before in
+    let p10 = p7 .before .before .before in
+    let p11 = p10 .before in
+    let p12 = p11 .before in
+    let p14 = p12 .before .before in
+    let p19 = p14 .before .before .before .before .before in
+    let a = p19 .args in
+    let ready = p19 .pre .0 in
+    let l = p12 .loop in
+    let h : l .k < l .last = omega (arith, p11 .loop-test .taken) in
     let u = l .inv ready .going h in
-    let more : l .k < countIn (now (a .tables)) TURN = omega (arith, h, l .inv ready .all h, c .before .before .before .before .before .before .before .before .before .before .before .before .before .before .count-of .ensures) in (
-      omega (arith, more, u .place, u .size, c .before .before .before .before .before .before .before .before .before .before .before .before .before .before .before .before .before .before .before .pre .1),
+    let more : l .k < countIn (now (a .tables)) TURN = omega (arith, h, l .inv ready .all h, p14 .count-of .ensures) in (
+      omega (arith, more, u .place, u .size, p19 .pre .1),
       subst Narrow (sym (c .numbers-of .ensures))
-          (made-narrow (a .monitored) (now (a .job)) (now (a .tables)) (now (a .work)) ready _ (l .s) (l .trace) (l .at) (l .k) u more _ (c .before .before .before .before .before .before .before .before .before .before .turn-at .ensures)
-          (c .before .before .before .before .before .before .before .fetch .result) (c .before .before .before .before .before .before .before .fetch .ensures) (c .before .before .before .before .before .before .turn .result) (c .before .before .before .before .before .before .turn .ensures) _ (c .before .before .before .outcome .given .1)),
+          (made-narrow (a .monitored) (now (a .job)) (now (a .tables)) (now (a .work)) ready _ (l .s) (l .trace) (l .at) (l .k) u more _
+          (p10 .turn-at .ensures)
+          (p7 .fetch .result) (p7 .fetch .ensures) (p6 .turn .result) (p6 .turn .ensures) _ (c .before .before .before .outcome .given .1)),
     )
 
 add-k : tie.Need-add-k Inv-loop μ-loop
 add-k c =
-    let a = c .before .before .before .before .before .before .before .before .before .before .before .before .before .before .before .before .before .before .before .before .before .before .args in
-    let ready = c .before .before .before .before .before .before .before .before .before .before .before .before .before .before .before .before .before .before .before .before .before .before .pre .0 in
-    let l = c .before .before .before .before .before .before .before .before .before .before .before .before .before .before .before .loop in
-    let h : l .k < l .last = omega (arith, c .before .before .before .before .before .before .before .before .before .before .before .before .before .before .loop-test .taken) in
-    omega (arith, h, l .inv ready .all h, c .before .before .before .before .before .before .before .before .before .before .before .before .before .before .before .before .before .count-of .ensures, turns-few (a .monitored) (now (a .job)) (now (a .tables)) (now (a .work)) ready)
+    let p14 = c .before .before .before .before .before .before .before .before .before .before .before .before .before .before in
+    let p15 = p14 .before in
+    let p17 = p15 .before .before in
+    let p22 = p17 .before .before .before .before .before in
+    let a = p22 .args in
+    let ready = p22 .pre .0 in
+    let l = p15 .loop in
+    let h : l .k < l .last = omega (arith, p14 .loop-test .taken) in
+    omega (
+      arith,
+      h,
+      l .inv ready .all h,
+      p17 .count-of .ensures,
+      turns-few (a .monitored) (now (a .job)) (now (a .tables))
+          (now (a .work)) ready,
+    )
 
 loop-less : tie.Need-loop-less Inv-loop μ-loop
 loop-less c = search needs
 
 loop-again : tie.Need-loop-again Inv-loop μ-loop
 loop-again c =
-    let a = c .before .before .before .before .before .before .before .before .before .before .before .before .before .before .before .before .before .before .before .before .before .before .args in
-    let l = c .before .before .before .before .before .before .before .before .before .before .before .before .before .before .before .loop in
-    let h : l .k < l .last = omega (arith, c .before .before .before .before .before .before .before .before .before .before .before .before .before .before .loop-test .taken) in
-    let counted = c .before .before .before .before .before .before .before .before .before .before .before .before .before .before .before .before .before .count-of .ensures in
+    let p6 = c .before .before .before .before .before .before in
+    let p9 = p6 .before .before .before in
+    let p10 = p9 .before in
+    let p13 = p10 .before .before .before in
+    let p14 = p13 .before in
+    let p15 = p14 .before in
+    let p17 = p15 .before .before in
+    let p22 = p17 .before .before .before .before .before in
+    let a = p22 .args in
+    let l = p15 .loop in
+    let h : l .k < l .last = omega (arith, p14 .loop-test .taken) in
+    let counted = p17 .count-of .ensures in
     λ ready.
     let r = l .inv ready in
     let more : l .k < countIn (now (a .tables)) TURN = omega (arith, h, r .all h, counted) in
-    reached (a .monitored) (now (a .job)) (now (a .tables)) (now (a .work)) ready _ _ _ _ _ _ (l .last) (r .all h) counted (omega (arith, h, r .all h))
-    (underway-next (a .monitored) (now (a .job)) (now (a .tables)) (now (a .work)) ready _ (l .s) (l .trace) (l .at) (l .k) (r .going h) more _ (c .before .before .before .before .before .before .before .before .before .before .before .before .before .turn-at .ensures)
-    (c .before .before .before .before .before .before .before .before .before .before .fetch .result) (c .before .before .before .before .before .before .before .before .before .before .fetch .ensures) (c .before .before .before .before .before .before .before .before .before .turn .result) (c .before .before .before .before .before .before .before .before .before .turn .ensures) _ (c .before .before .before .before .before .before .outcome .given .1)
-    (entryWith (c .before .before .before .numbers-of .result)) (c .before .before .before .numbers-of .ensures) _ _ (c .before .before .before .before .before .before .before .before .before .before .before .before .before .before .before .before .before .before .before .before .before .before .pre .1) (search needs) (c .before .before .put-entry .ensures)) _ (r .never h)
+    reached (a .monitored) (now (a .job)) (now (a .tables)) (now (a .work)) ready _ _ _ _ _ _ (l .last) (r .all h) counted
+    (omega (arith, h, r .all h))
+    (underway-next (a .monitored) (now (a .job)) (now (a .tables)) (now (a .work)) ready _ (l .s) (l .trace) (l .at) (l .k)
+    (r .going h) more _ (p13 .turn-at .ensures)
+    (p10 .fetch .result) (p10 .fetch .ensures) (p9 .turn .result) (p9 .turn .ensures) _ (p6 .outcome .given .1)
+    (entryWith (c .before .before .before .numbers-of .result)) (c .before .before .before .numbers-of .ensures) _ _ (p22 .pre .1)
+    (search needs) (c .before .before .put-entry .ensures)) _ (r .never h)
 
 enum-known-outcome-2 : tie.Need-enum-known-outcome-2 Inv-loop μ-loop
 enum-known-outcome-2 c = search needs
@@ -118,15 +165,23 @@ loop-less-2 c = omega (arith, c .before .before .before .before .before .before 
 
 loop-again-2 : tie.Need-loop-again-2 Inv-loop μ-loop
 loop-again-2 c =
-    let a = c .before .before .before .before .before .before .before .before .before .before .before .before .before .before .before .before .before .args in
-    let l = c .before .before .before .before .before .before .before .before .before .before .loop in
-    let h : l .k < l .last = omega (arith, c .before .before .before .before .before .before .before .before .before .loop-test .taken) in
+    let p8 = c .before .before .before .before .before .before .before .before in
+    let p9 = p8 .before in
+    let p10 = p9 .before in
+    let p12 = p10 .before .before in
+    let p17 = p12 .before .before .before .before .before in
+    let a = p17 .args in
+    let l = p10 .loop in
+    let h : l .k < l .last = omega (arith, p9 .loop-test .taken) in
     λ ready.
     let r = l .inv ready in
-    let more : l .k < countIn (now (a .tables)) TURN = omega (arith, h, r .all h, c .before .before .before .before .before .before .before .before .before .before .before .before .count-of .ensures) in
+    let more : l .k < countIn (now (a .tables)) TURN = omega (arith, h, r .all h, p12 .count-of .ensures) in
     halted (a .monitored) _ _ _ _ _ _ _ _ (r .size)
-    (underway-stopped (a .monitored) (now (a .job)) (now (a .tables)) (now (a .work)) ready _ (l .s) (l .trace) (l .at) (l .k) (r .going h) more _ (c .before .before .before .before .before .before .before .before .turn-at .ensures)
-    (c .before .before .before .before .before .fetch .result) (c .before .before .before .before .before .fetch .ensures) (c .before .before .before .before .turn .result) (c .before .before .before .before .turn .ensures) _ (c .before .outcome2 .given .1))
+    (underway-stopped (a .monitored) (now (a .job)) (now (a .tables)) (now (a .work)) ready _ (l .s) (l .trace) (l .at) (l .k)
+    (r .going h) more _ (p8 .turn-at .ensures)
+    (c .before .before .before .before .before .fetch .result) (c .before .before .before .before .before .fetch .ensures)
+    (c .before .before .before .before .turn .result) (c .before .before .before .before .turn .ensures) _
+    (c .before .outcome2 .given .1))
 
 ending-of-requires : tie.Need-ending-of-requires Inv-loop μ-loop
 ending-of-requires c κs = search needs
@@ -141,7 +196,8 @@ returns c past e =
     let l = c .before .before .loop in
     let d = ready .decoded in
     let same : ready .past ≡ past = cc in
-    subst (λ (x : List Command). RunsAs (runOf (a .monitored) x) (now (a .trace)) (l .trace) (record { state = l .s; ending = c .ending-of .result })) same
+    subst (λ (x : List Command). RunsAs (runOf (a .monitored) x) (now (a .trace)) (l .trace)
+    (record { state = l .s; ending = c .ending-of .result })) same
     (l .inv ready .ended (omega (arith, c .before .loop-test .left)) _ (c .ending-of .ensures))
 
 pub run-turns-spec : {M : Type 1} → statement M

@@ -23,7 +23,10 @@ is-handler-requires : tie.Need-is-handler-requires
 is-handler-requires c κs = search needs
 
 returns : tie.Need-returns
-returns c = λ past s. exceeds-same _ (c .before .before .before .before .before .before .before .args .c) past s _ _ _ _ _ (c .before .before .before .before .before .before .before .pre) (c .before .before .before .before .before .row-at .ensures) (c .before .before .before .count-of .ensures) (c .before .before .open-node .ensures) (c .before .length-of .ensures) (c .is-handler .ensures)
+returns c = λ past s. exceeds-same _ (c .before .before .before .before .before .before .before .args .c) past s _ _ _ _ _
+    (c .before .before .before .before .before .before .before .pre) (c .before .before .before .before .before .row-at .ensures)
+    (c .before .before .before .count-of .ensures) (c .before .before .open-node .ensures) (c .before .length-of .ensures)
+    (c .is-handler .ensures)
 
 pub exceeds-count-spec : {M : Type 1} → statement M
 exceeds-count-spec =

@@ -12,7 +12,9 @@ flow-of-requires-2 : tie.Need-flow-of-requires-2
 flow-of-requires-2 c κs = search needs
 
 returns : tie.Need-returns
-returns c = λ past s. wire-reach _ (c .before .before .before .before .before .before .before .args .c) past s _ _ _ (c .before .before .before .before .if1 .taken) (c .before .before .before .flow-of .ensures) (c .before .before .flow-of2 .ensures) refl
+returns c = λ past s. wire-reach _ (c .before .before .before .before .before .before .before .args .c) past s _ _ _
+    (c .before .before .before .before .if1 .taken) (c .before .before .before .flow-of .ensures)
+    (c .before .before .flow-of2 .ensures) refl
 
 uses-variable-requires : tie.Need-uses-variable-requires
 uses-variable-requires c κs = search needs
@@ -24,7 +26,9 @@ sees-requires : tie.Need-sees-requires
 sees-requires c κs = search needs
 
 returns-2 : tie.Need-returns-2
-returns-2 c = λ past s. use-reach _ (c .before .before .before .before .before .before .before .args .c) past s (c .before .before .before .before .if1 .left) _ (c .before .before .before .uses-variable .ensures) (c .before .before .if2 .taken) _ _ _ (c .before .open-node .ensures) (c .sees .ensures) refl
+returns-2 c = λ past s. use-reach _ (c .before .before .before .before .before .before .before .args .c) past s
+    (c .before .before .before .before .if1 .left) _ (c .before .before .before .uses-variable .ensures)
+    (c .before .before .if2 .taken) _ _ _ (c .before .open-node .ensures) (c .sees .ensures) refl
 
 is-access-requires : tie.Need-is-access-requires
 is-access-requires c κs = search needs
@@ -38,10 +42,16 @@ is-shared-requires c κs = search needs
 returns-3 : tie.Need-returns-3
 returns-3 c =
     λ past s.
-    access-reach _ (c .before .before .before .before .before .before .before .before .before .args .c) past s (c .before .before .before .before .before .before .if1 .left) _ (c .before .before .before .before .before .uses-variable .ensures) (c .before .before .before .before .if2 .left) _ (c .before .before .before .is-access .ensures) (c .before .before .if3 .taken) _ _ _ (c .before .sees2 .ensures) (c .is-shared .ensures) refl
+    access-reach _ (c .before .before .before .before .before .before .before .before .before .args .c) past s
+    (c .before .before .before .before .before .before .if1 .left) _
+    (c .before .before .before .before .before .uses-variable .ensures) (c .before .before .before .before .if2 .left) _
+    (c .before .before .before .is-access .ensures) (c .before .before .if3 .taken) _ _ _ (c .before .sees2 .ensures)
+    (c .is-shared .ensures) refl
 
 returns-4 : tie.Need-returns-4
-returns-4 c = λ past s. other-reach _ (c .before .before .before .before .before .before .before .args .c) past s (c .before .before .before .before .if1 .left) _ (c .before .before .before .uses-variable .ensures) (c .before .before .if2 .left) _ (c .before .is-access .ensures) (c .if3 .left)
+returns-4 c = λ past s. other-reach _ (c .before .before .before .before .before .before .before .args .c) past s
+    (c .before .before .before .before .if1 .left) _ (c .before .before .before .uses-variable .ensures) (c .before .before .if2 .left) _
+    (c .before .is-access .ensures) (c .if3 .left)
 
 pub is-out-of-reach-spec : {M : Type 1} → statement M
 is-out-of-reach-spec =

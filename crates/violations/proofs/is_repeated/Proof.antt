@@ -32,27 +32,34 @@ returns : tie.Need-returns
 returns c = λ past s plain. wire-same _ (c .before .before .before .args .c) past s plain _ (c .before .match .keys1) (c .is-wired .ensures)
 
 returns-2 : tie.Need-returns-2
-returns-2 c = λ past s plain. any-same _ (c .before .before .before .args .c) past s plain _ (c .before .match .keys2) (c .may-call-any .ensures)
+returns-2 c = λ past s plain. any-same _ (c .before .before .before .args .c) past s plain _ (c .before .match .keys2)
+    (c .may-call-any .ensures)
 
 returns-3 : tie.Need-returns-3
-returns-3 c = λ past s plain. arg-same _ (c .before .before .before .args .c) past s plain _ (c .before .match .keys3) (c .may-call-with .ensures)
+returns-3 c = λ past s plain. arg-same _ (c .before .before .before .args .c) past s plain _ (c .before .match .keys3)
+    (c .may-call-with .ensures)
 
 returns-4 : tie.Need-returns-4
-returns-4 c = λ past s plain. read-same _ (c .before .before .before .args .c) past s plain _ (c .before .match .keys4) (c .may-read .ensures)
+returns-4 c = λ past s plain. read-same _ (c .before .before .before .args .c) past s plain _ (c .before .match .keys4)
+    (c .may-read .ensures)
 
 returns-5 : tie.Need-returns-5
-returns-5 c = λ past s plain. write-same _ (c .before .before .before .args .c) past s plain _ (c .before .match .keys5) (c .may-write .ensures)
+returns-5 c = λ past s plain. write-same _ (c .before .before .before .args .c) past s plain _ (c .before .match .keys5)
+    (c .may-write .ensures)
 
 returns-6 : tie.Need-returns-6
-returns-6 c = λ past s plain. body-same _ (c .before .before .before .args .c) past s plain _ (c .before .match .keys6) (c .has-body .ensures)
+returns-6 c = λ past s plain. body-same _ (c .before .before .before .args .c) past s plain _ (c .before .match .keys6)
+    (c .has-body .ensures)
 
 returns-7 : tie.Need-returns-7
-returns-7 c = λ past s plain. start-same _ (c .before .before .before .before .args .c) past s plain _ _ (c .before .before .match .keys7) (c .before .flow-of .ensures) (c .has-start .ensures)
+returns-7 c = λ past s plain. start-same _ (c .before .before .before .before .args .c) past s plain _ _ (c .before .before .match .keys7)
+    (c .before .flow-of .ensures) (c .has-start .ensures)
 
 returns-8 : tie.Need-returns-8
 returns-8 c =
     let n = c .match .rest in
-    λ past s plain. other-same _ (c .before .before .args .c) past s plain (n .0 .0 .0 .0 .0 .0 .1) (n .0 .0 .0 .0 .0 .1) (n .0 .0 .0 .0 .1) (n .0 .0 .0 .1) (n .0 .0 .1) (n .0 .1) (n .1)
+    λ past s plain. other-same _ (c .before .before .args .c) past s plain (n .0 .0 .0 .0 .0 .0 .1) (n .0 .0 .0 .0 .0 .1)
+    (n .0 .0 .0 .0 .1) (n .0 .0 .0 .1) (n .0 .0 .1) (n .0 .1) (n .1)
 
 pub is-repeated-spec : {M : Type 1} → statement M
 is-repeated-spec =

@@ -36,9 +36,16 @@ names-nothing-requires-3 c κs = search needs
 
 returns : tie.Need-returns
 returns c =
+    let p6 = c .before .before .before .before .before .before in
+    let p7 = p6 .before in
+    let p8 = p7 .before in
+    let p9 = p8 .before in
+    let p10 = p9 .before in
+    let p12 = p10 .before .before in
     λ past s.
-    undeclared-same _ (c .before .before .before .before .before .before .before .before .before .before .before .before .args .c) past s _ _ _ _ _ _ _ _ _ _ (c .before .before .before .before .before .before .before .before .before .before .before .before .pre) (c .before .before .before .before .before .before .before .before .before .before .row-at .ensures)
-    (c .before .before .before .before .before .before .before .before .before .count-of .ensures) (c .before .before .before .before .before .before .before .before .count-of2 .ensures) (c .before .before .before .before .before .before .before .count-of3 .ensures) (c .before .before .before .before .before .before .count-of4 .ensures) (c .before .before .before .before .before .count-of5 .ensures) (c .before .before .before .before .is-handler .ensures)
+    undeclared-same _ (p12 .args .c) past s _ _ _ _ _ _ _ _ _ _ (p12 .pre) (p10 .row-at .ensures)
+    (p9 .count-of .ensures) (p8 .count-of2 .ensures) (p7 .count-of3 .ensures) (p6 .count-of4 .ensures)
+    (c .before .before .before .before .before .count-of5 .ensures) (c .before .before .before .before .is-handler .ensures)
     (c .before .before .before .names-nothing .ensures) (c .before .before .names-nothing2 .ensures) (c .before .names-nothing3 .ensures)
 
 pub is-undeclared-spec : {M : Type 1} → statement M

@@ -27,10 +27,11 @@ first-violation-requires c κs = search needs
 
 returns : tie.Need-returns
 returns c =
+    let p8 = c .before .before .before .before .before .before .before .before in
     λ past s plain.
     rw (
       c .first-violation .ensures,
-      violation-as _ (c .before .before .before .before .before .before .before .before .args .c) past s _ (c .before .before .before .before .before .before .before .before .pre) (c .before .before .before .before .before .group .ensures),
+      violation-as _ (p8 .args .c) past s _ (p8 .pre) (c .before .before .before .before .before .group .ensures),
       c .before .before .before .before .exceeds-count .ensures past s,
       c .before .before .before .is-undeclared .ensures past s,
       c .before .before .is-out-of-reach .ensures past s,

@@ -34,11 +34,15 @@ same-length c = search needs
 
 returns : tie.Need-returns
 returns c =
-    let h = c .before .before .before .before .before .before .before .before .before .before .before .before .before .before .before .before .before .pre in
+    let p6 = c .before .before .before .before .before .before in
+    let p10 = p6 .before .before .before .before in
+    let p14 = p10 .before .before .before .before in
+    let p17 = p14 .before .before .before in
+    let h = p17 .pre in
     writes-on _ _ _ _ _ _ _ _ (omega (arith, h))
     (writes-on _ _ _ _ _ _ _ _ (omega (arith, h))
-    (writes-on _ _ _ _ _ _ _ _ (omega (arith, h)) (c .before .before .before .before .before .before .before .before .before .before .before .before .before .before .put-byte .ensures) (c .before .before .before .before .before .before .before .before .before .before .put-byte2 .ensures))
-    (c .before .before .before .before .before .before .put-byte3 .ensures))
+    (writes-on _ _ _ _ _ _ _ _ (omega (arith, h)) (p14 .put-byte .ensures) (p10 .put-byte2 .ensures))
+    (p6 .put-byte3 .ensures))
     (c .before .before .put-byte4 .ensures)
 
 pub put-word-spec : {M : Type 1} → statement M

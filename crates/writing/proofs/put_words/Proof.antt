@@ -36,9 +36,16 @@ loop-less c = search needs
 
 loop-again : tie.Need-loop-again Inv-loop μ-loop
 loop-again c =
-    let l = c .before .before .before .before .before .before .loop in
-    let h = c .before .before .before .before .before .before .before .before .before .pre in
-    (omega (arith, c .before .before .before .before .before .loop-test .taken), one-written _ _ _ _ (l .i) (l .buffer) (l .next) _ _ (omega (arith, c .before .before .before .before .before .loop-test .taken, h .1)) (omega (arith, c .before .before .before .before .before .loop-test .taken, h .0)) (search needs) (l .inv .1) (c .before .before .put-word .ensures))
+    let p6 = c .before .before .before .before .before .before in
+    let p9 = p6 .before .before .before in
+    let l = p6 .loop in
+    let h = p9 .pre in (
+      omega (arith, c .before .before .before .before .before .loop-test .taken),
+      one-written _ _ _ _ (l .i) (l .buffer) (l .next) _ _
+          (omega (arith, c .before .before .before .before .before .loop-test .taken, h .1))
+          (omega (arith, c .before .before .before .before .before .loop-test .taken, h .0)) (search needs) (l .inv .1)
+          (c .before .before .put-word .ensures),
+    )
 
 same-length : tie.Need-same-length Inv-loop μ-loop
 same-length c = search needs

@@ -27,8 +27,15 @@ loop-less c = omega (arith, c .before .before .put-byte .ensures .place, c .befo
 
 loop-again : tie.Need-loop-again Inv-loop μ-loop
 loop-again c =
-    let l = c .before .before .before .before .before .loop in
-    (omega (arith, c .before .before .put-byte .ensures .place, c .before .before .before .before .loop-test .taken), search needs, zeros-on _ (l .at) (l .buffer) _ _ (omega (arith, c .before .before .before .before .loop-test .taken, c .before .before .before .before .before .before .before .pre)) (l .inv .2) (c .before .before .put-byte .ensures))
+    let l = c .before .before .before .before .before .loop in (
+      omega (arith, c .before .before .put-byte .ensures .place, c .before .before .before .before .loop-test .taken),
+      search needs,
+      zeros-on _ (l .at) (l .buffer) _ _ (omega (
+        arith,
+        c .before .before .before .before .loop-test .taken,
+        c .before .before .before .before .before .before .before .pre,
+      )) (l .inv .2) (c .before .before .put-byte .ensures),
+    )
 
 same-length : tie.Need-same-length Inv-loop μ-loop
 same-length c = search needs

@@ -57,7 +57,14 @@ add-result-3 : tie.Need-add-result-3
 add-result-3 c = search needs
 
 returns : tie.Need-returns
-returns c = rw (c .before .before .before .before .before .before .before .before .if1 .taken, number-four, c .before .before .before .before .before .before .wide .ensures .0, c .before .before .before .before .wide2 .ensures .0, c .before .before .wide3 .ensures .0, c .wide4 .ensures .0)
+returns c = rw (
+  c .before .before .before .before .before .before .before .before .if1 .taken,
+  number-four,
+  c .before .before .before .before .before .before .wide .ensures .0,
+  c .before .before .before .before .wide2 .ensures .0,
+  c .before .before .wide3 .ensures .0,
+  c .wide4 .ensures .0,
+)
 
 shared-slice-read-wide-5 : tie.Need-shared-slice-read-wide-5
 shared-slice-read-wide-5 c = search needs

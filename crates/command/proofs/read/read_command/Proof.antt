@@ -46,7 +46,9 @@ add-end : tie.Need-add-end
 add-end c = search needs
 
 returns-2 : tie.Need-returns-2
-returns-2 c = read-cut _ _ _ _ (finds-row _ _ _ (c .before .before .before .before .before .before .before .before .look-up .ensures) (c .before .before .before .before .before .before .found .given .1)) (c .before .before .before .before .row-at .ensures) (c .if1 .taken)
+returns-2 c = read-cut _ _ _ _ (finds-row _ _ _ (c .before .before .before .before .before .before .before .before .look-up .ensures)
+    (c .before .before .before .before .before .before .found .given .1)) (c .before .before .before .before .row-at .ensures)
+    (c .if1 .taken)
 
 operand-requires : tie.Need-operand-requires
 operand-requires c κs = (search needs, is-width₁ (c .before .before .before .before .row-at .ensures))
@@ -59,9 +61,13 @@ operand-requires-3 c κs = (search needs, is-width₃ (c .before .before .before
 
 returns-3 : tie.Need-returns-3
 returns-3 c =
-    let known = finds-row _ _ _ (c .before .before .before .before .before .before .before .before .before .before .before .look-up .ensures) (c .before .before .before .before .before .before .before .before .before .found .given .1) in (
-      read-all _ _ _ _ known (c .before .before .before .before .before .before .before .row-at .ensures) _ _ _ (c .before .before .before .if1 .left) (c .before .before .operand .ensures) (c .before .operand2 .ensures) (c .operand3 .ensures),
-      record { row = known; group = c .before .before .before .before .before .before .before .row-at .ensures .group ∙ ap groupOf (known .same) },
+    let p7 = c .before .before .before .before .before .before .before in
+    let p9 = p7 .before .before in
+    let p11 = p9 .before .before in
+    let known = finds-row _ _ _ (p11 .look-up .ensures) (p9 .found .given .1) in (
+      read-all _ _ _ _ known (p7 .row-at .ensures) _ _ _ (c .before .before .before .if1 .left) (c .before .before .operand .ensures)
+          (c .before .operand2 .ensures) (c .operand3 .ensures),
+      record { row = known; group = p7 .row-at .ensures .group ∙ ap groupOf (known .same) },
     )
 
 pub read-command-spec : {M : Type 1} → statement M

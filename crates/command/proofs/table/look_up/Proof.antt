@@ -39,8 +39,11 @@ loop-less c = omega arith
 
 loop-again : tie.Need-loop-again Inv-loop μ-loop
 loop-again c =
-    let h = c .before .before .before .loop-test .taken in
-    (omega arith, search-miss _ _ (c .before .before .before .before .loop .inv .1) h (λ e. c .if1 .left (says (c .before .before .before .before .loop .i) h .byte ∙ e)))
+    let h = c .before .before .before .loop-test .taken in (
+      omega arith,
+      search-miss _ _ (c .before .before .before .before .loop .inv .1) h
+          (λ e. c .if1 .left (says (c .before .before .before .before .loop .i) h .byte ∙ e)),
+    )
 
 returns-2 : tie.Need-returns-2 Inv-loop μ-loop
 returns-2 c = search-end _ _ (c .before .loop .inv .1) (c .loop-test .left)

@@ -1,4 +1,4 @@
--- `conformance::buffers::size_of` is safe and ends. A part ends at most 1,020 bytes, those of 255 messages, behind the snapshot.
+-- `conformance::buffers::size_of` is safe and ends. A part ends at most 1,020 bytes, those of 255 messages, after the snapshot.
 use Prim.Native.Nat.{_+_, _≤_, _-_}
 use lib.ListN.{length}
 use borrow.Author.Needs.{needs}

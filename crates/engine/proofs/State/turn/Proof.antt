@@ -46,7 +46,8 @@ change-queues-requires c κs =
     let s = z .args .t1 in
     let counts : length (s .waiting) ≡ 32 = search needs in
     let places : length (s .queue) ≡ 512 = search needs in
-    let can = can-change (now (z .args .tables)) (z .args .fetched) s (z .args .n) (z .args .monitored) (z .pre .0) counts places (c .before .before .before .before .plan-turn .result) (c .before .before .before .before .plan-turn .ensures) in
+    let can = can-change (now (z .args .tables)) (z .args .fetched) s (z .args .n) (z .args .monitored) (z .pre .0) counts places
+    (c .before .before .before .before .plan-turn .result) (c .before .before .before .before .plan-turn .ensures) in
     ((places, counts), (z .pre .0, (z .pre .1 .0, can)))
 
 change-variable-requires : tie.Need-change-variable-requires
@@ -72,11 +73,14 @@ element-write-self-3 c = search needs
 
 returns : tie.Need-returns
 returns c =
-    let z = c .before .before .before .before .before .before .before .before .before .before .before .before .before .before .before .before .before .before in
+    let p7 = c .before .before .before .before .before .before .before in
+    let p18 = p7 .before .before .before .before .before .before .before .before .before .before .before in
+    let z = p18 in
     let s = z .args .t1 in
     let counts : length (s .waiting) ≡ 32 = search needs in
     let places : length (s .queue) ≡ 512 = search needs in
-    carried-out (now (z .args .tables)) (z .args .fetched) s (z .args .n) (z .args .monitored) (z .pre .0) counts places (c .before .before .before .before .before .before .before .plan-turn .result) (c .before .before .before .before .before .before .before .plan-turn .ensures) _ _ _ (c .before .before .change-queues .ensures) (c .change-variable .ensures)
+    carried-out (now (z .args .tables)) (z .args .fetched) s (z .args .n) (z .args .monitored) (z .pre .0) counts places
+    (p7 .plan-turn .result) (p7 .plan-turn .ensures) _ _ _ (c .before .before .change-queues .ensures) (c .change-variable .ensures)
 
 pub turn-spec : {M : Type 1} → statement M
 turn-spec =

@@ -18,12 +18,14 @@ returns : tie.Need-returns
 returns c =
     let a = c .before .before .before .before .before .args in
     ap some (c .read-slot .ensures)
-    ∙ sym (handlers-inside (now (a .tables)) (now (a .work)) (a .n .0) (a .position) (omega (arith, c .before .if1 .taken, c .before .before .length-of .ensures)))
+    ∙ sym (handlers-inside (now (a .tables)) (now (a .work)) (a .n .0) (a .position)
+    (omega (arith, c .before .if1 .taken, c .before .before .length-of .ensures)))
 
 returns-2 : tie.Need-returns-2
 returns-2 c =
     let a = c .before .before .before .before .args in
-    sym (handlers-after (now (a .tables)) (now (a .work)) (a .n .0) (a .position) (omega (arith, c .if1 .left, c .before .length-of .ensures)))
+    sym (handlers-after (now (a .tables)) (now (a .work)) (a .n .0) (a .position)
+    (omega (arith, c .if1 .left, c .before .length-of .ensures)))
 
 pub fetch-spec : {M : Type 1} → statement M
 fetch-spec = tie.close (tie.spec length-of-requires read-slot-requires returns returns-2)

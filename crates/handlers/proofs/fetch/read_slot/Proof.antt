@@ -8,13 +8,16 @@ use Rattle.handlers.proofs.fetch.read_slot.Statement.{statement}
 use Rattle.handlers.proofs.fetch.read_slot.Tie as tie
 
 returns : tie.Need-returns
-returns c = no-node (c .before .before .before .args .work .now) (c .before .before .before .args .n .0) (c .before .before .before .args .position) (c .if1 .taken)
+returns c = no-node (c .before .before .before .args .work .now) (c .before .before .before .args .n .0)
+    (c .before .before .before .args .position) (c .if1 .taken)
 
 returns-2 : tie.Need-returns-2
-returns-2 c = no-position (c .before .before .before .before .args .work .now) (c .before .before .before .before .args .n .0) (c .before .before .before .before .args .position) (c .before .if1 .left) (c .if2 .taken)
+returns-2 c = no-position (c .before .before .before .before .args .work .now) (c .before .before .before .before .args .n .0)
+    (c .before .before .before .before .args .position) (c .before .if1 .left) (c .if2 .taken)
 
 returns-3 : tie.Need-returns-3
-returns-3 c = no-room (c .before .before .before .before .before .args .work .now) (c .before .before .before .before .before .args .n .0) (c .before .before .before .before .before .args .position) (c .before .before .if1 .left) (c .before .if2 .left) (c .if3 .taken)
+returns-3 c = no-room (c .before .before .before .before .before .args .work .now) (c .before .before .before .before .before .args .n .0)
+    (c .before .before .before .before .before .args .position) (c .before .before .if1 .left) (c .before .if2 .left) (c .if3 .taken)
 
 slot-of-requires : tie.Need-slot-of-requires
 slot-of-requires c κs = search needs
@@ -26,14 +29,27 @@ add-operand : tie.Need-add-operand
 add-operand c = search needs
 
 operand-requires : tie.Need-operand-requires
-operand-requires c κs = (omega (arith, c .before .slot-of .ensures, c .before .before .if3 .left, c .before .before .before .if2 .left, c .before .before .before .before .if1 .left), inl refl)
+operand-requires c κs = (
+  omega (
+    arith,
+    c .before .slot-of .ensures,
+    c .before .before .if3 .left,
+    c .before .before .before .if2 .left,
+    c .before .before .before .before .if1 .left,
+  ),
+  inl refl,
+)
 
 instruction-of-requires : tie.Need-instruction-of-requires
 instruction-of-requires c κs = search needs
 
 returns-4 : tie.Need-returns-4
 returns-4 c =
-    made (c .before .before .before .before .before .before .before .before .before .args .work .now) (c .before .before .before .before .before .before .before .before .before .args .n .0) (c .before .before .before .before .before .before .before .before .before .args .position) _ _ _ (c .before .before .before .before .before .before .if1 .left) (c .before .before .before .before .before .if2 .left) (c .before .before .before .before .if3 .left) (c .before .before .before .slot-of .ensures) (c .before .operand .ensures) (c .instruction-of .ensures)
+    let p6 = c .before .before .before .before .before .before in
+    let p9 = p6 .before .before .before in
+    made (p9 .args .work .now) (p9 .args .n .0) (p9 .args .position) _ _ _ (p6 .if1 .left)
+    (c .before .before .before .before .before .if2 .left) (c .before .before .before .before .if3 .left)
+    (c .before .before .before .slot-of .ensures) (c .before .operand .ensures) (c .instruction-of .ensures)
 
 pub read-slot-spec : {M : Type 1} → statement M
 read-slot-spec =

@@ -17,7 +17,12 @@ same-length : tie.Need-same-length
 same-length c = search needs
 
 returns : tie.Need-returns
-returns c = rw (sym (c .before .before .before .before .before .before .is-handler .ensures) ∙ c .before .before .before .before .before .if1 .taken, c .before .before .store .ensures, c .before .before .before .slot-of .ensures)
+returns c = rw (
+  sym (c .before .before .before .before .before .before .is-handler .ensures)
+      ∙ c .before .before .before .before .before .if1 .taken,
+  c .before .before .store .ensures,
+  c .before .before .before .slot-of .ensures,
+)
 
 returns-2 : tie.Need-returns-2
 returns-2 c = rw (sym (c .before .is-handler .ensures) ∙ c .if1 .left)

@@ -28,7 +28,8 @@ returns c =
     let a = c .before .before .before .before .before .before .before .before .before .before .args in
     let h = c .before .before .before .before .before .before .before .before .if1 .taken in
     rw (le-leb (a .at + 5) (length (now (a .work))) h)
-    (writes-on (a .b ∷ []) (bytes4 (a .x)) _ _ _ _ _ _ (omega (arith, h)) (c .before .before .before .before .before .before .put-byte .ensures) (c .before .before .put-word .ensures) .buffer)
+    (writes-on (a .b ∷ []) (bytes4 (a .x)) _ _ _ _ _ _ (omega (arith, h))
+    (c .before .before .before .before .before .before .put-byte .ensures) (c .before .before .put-word .ensures) .buffer)
 
 returns-2 : tie.Need-returns-2
 returns-2 c = rw (lt-leb (c .before .before .args .at + 5) (length (now (c .before .before .args .work))) (c .if1 .left))

@@ -40,16 +40,23 @@ returns c =
 
 returns-2 : tie.Need-returns-2
 returns-2 c =
-    let job = now (c .before .before .before .before .before .before .before .before .before .before .before .before .before .before .args .job) in
-    let a = is-accepted _ _ _ (c .before .before .before .before .before .before .before .before .before .before .before .decode .ensures .judged) (c .before .before .before .before .before .before .before .before .before .enum-told .given .1) in
-    let found = c .before .before .before .before .before .check-buffers .ensures job (a .past) refl (sym (c .before .before .before .before .before .before .count-of .ensures ∙ a .stands .counts TURN (omega arith))) in
+    let p6 = c .before .before .before .before .before .before in
+    let p9 = p6 .before .before .before in
+    let p11 = p9 .before .before in
+    let p14 = p11 .before .before .before in
+    let job = now (p14 .args .job) in
+    let a = is-accepted _ _ _ (p11 .decode .ensures .judged) (p9 .enum-told .given .1) in
+    let found = c .before .before .before .before .before .check-buffers .ensures job (a .past) refl
+    (sym (p6 .count-of .ensures ∙ a .stands .counts TURN (omega arith))) in
     refused-behind job _ _ (a .past) (a .decoded) _ found _ (c .before .before .before .checked .given .1) (c .clear .ensures)
 
 returns-3 : tie.Need-returns-3
 returns-3 c =
     let job = now (c .before .before .before .before .before .before .before .before .before .before .before .args .job) in
-    let a = is-accepted _ _ _ (c .before .before .before .before .before .before .before .before .decode .ensures .judged) (c .before .before .before .before .before .before .enum-told .given .1) in
-    let found = c .before .before .check-buffers .ensures job (a .past) refl (sym (c .before .before .before .count-of .ensures ∙ a .stands .counts TURN (omega arith))) in
+    let a = is-accepted _ _ _ (c .before .before .before .before .before .before .before .before .decode .ensures .judged)
+    (c .before .before .before .before .before .before .enum-told .given .1) in
+    let found = c .before .before .check-buffers .ensures job (a .past) refl
+    (sym (c .before .before .before .count-of .ensures ∙ a .stands .counts TURN (omega arith))) in
     accepted-behind job _ _ (a .past) (a .decoded) _ found (c .enum-told2 .given .1) (a .stands)
 
 pub judge-spec : {M : Type 1} → statement M

@@ -30,7 +30,9 @@ enum-known-read : tie.Need-enum-known-read Inv-loop μ-loop
 enum-known-read c = search needs
 
 returns : tie.Need-returns Inv-loop μ-loop
-returns c = λ all e stands. looking-reads _ all _ _ (c .before .before .before .before .before .loop .inv all e stands) (c .before .before .before .before .loop-test .taken) _ (reads-refused _ _ _ _ (c .before .before .before .read-command .ensures) (c .before .read .given .1))
+returns c = λ all e stands. looking-reads _ all _ _ (c .before .before .before .before .before .loop .inv all e stands)
+    (c .before .before .before .before .loop-test .taken) _ (reads-refused _ _ _ _ (c .before .before .before .read-command .ensures)
+    (c .before .read .given .1))
 
 enum-known-read-2 : tie.Need-enum-known-read-2 Inv-loop μ-loop
 enum-known-read-2 c = search needs
@@ -43,25 +45,36 @@ is-far-requires c κs = search needs
 
 returns-2 : tie.Need-returns-2 Inv-loop μ-loop
 returns-2 c =
+    let p6 = c .before .before .before .before .before .before in
+    let p7 = p6 .before in
+    let p8 = p7 .before in
     λ all e stands.
     let d = c .before .before .before .before .read2 .given .0 .0 in
-    let r = reads-whole _ _ _ d _ (c .before .before .before .before .before .before .read-command .ensures) (c .before .before .before .before .read2 .given .1) in
-    sym (looking-found _ all _ _ (c .before .before .before .before .before .before .before .before .loop .inv all e stands) _ stands (c .before .before .before .before .before .before .before .loop-test .taken) d _ _ _ (r .0) (c .before .before .length-of .ensures) (c .before .is-far .ensures) (c .if1 .taken))
+    let r = reads-whole _ _ _ d _ (p6 .read-command .ensures) (c .before .before .before .before .read2 .given .1) in
+    sym (looking-found _ all _ _ (p8 .loop .inv all e stands) _ stands (p7 .loop-test .taken) d _ _ _ (r .0)
+    (c .before .before .length-of .ensures) (c .before .is-far .ensures) (c .if1 .taken))
 
 open-after-requires : tie.Need-open-after-requires Inv-loop μ-loop
 open-after-requires c κs = search needs
 
 loop-less : tie.Need-loop-less Inv-loop μ-loop
 loop-less c =
-    let r = reads-whole _ _ _ (c .before .before .before .before .before .read2 .given .0 .0) _ (c .before .before .before .before .before .before .before .read-command .ensures) (c .before .before .before .before .before .read2 .given .1) in
+    let r = reads-whole _ _ _ (c .before .before .before .before .before .read2 .given .0 .0) _
+    (c .before .before .before .before .before .before .before .read-command .ensures)
+    (c .before .before .before .before .before .read2 .given .1) in
     omega (arith, read-at _ _ _ _ (r .0) .later, c .before .before .before .before .before .before .before .before .loop-test .taken)
 
 loop-again : tie.Need-loop-again Inv-loop μ-loop
 loop-again c =
+    let p7 = c .before .before .before .before .before .before .before in
+    let p8 = p7 .before in
+    let p9 = p8 .before in
     let d = c .before .before .before .before .before .read2 .given .0 .0 in
-    let r = reads-whole _ _ _ d _ (c .before .before .before .before .before .before .before .read-command .ensures) (c .before .before .before .before .before .read2 .given .1) in
+    let r = reads-whole _ _ _ d _ (p7 .read-command .ensures) (c .before .before .before .before .before .read2 .given .1) in
     λ all e stands.
-    looking-on _ all _ _ (c .before .before .before .before .before .before .before .before .before .loop .inv all e stands) _ stands (c .before .before .before .before .before .before .before .before .loop-test .taken) d _ _ _ (r .0) (c .before .before .before .length-of .ensures) (c .before .before .is-far .ensures) (c .before .if1 .left) _ (c .open-after .ensures)
+    looking-on _ all _ _ (p9 .loop .inv all e stands) _ stands (p8 .loop-test .taken) d _ _ _ (r .0)
+    (c .before .before .before .length-of .ensures) (c .before .before .is-far .ensures) (c .before .if1 .left) _
+    (c .open-after .ensures)
 
 returns-3 : tie.Need-returns-3 Inv-loop μ-loop
 returns-3 c = λ all e stands. sym (looking-end _ all _ _ (c .before .loop .inv all e stands) (c .loop-test .left))

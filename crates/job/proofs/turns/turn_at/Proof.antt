@@ -35,10 +35,15 @@ wide-requires : tie.Need-wide-requires
 wide-requires c κs = search needs
 
 returns : tie.Need-returns
-returns c = turn-inside (c .before .before .before .before .before .before .before .before .args .job .now) _ (c .before .before .before .before .before .before .before .before .args .k) _ _ _ (c .before .before .before .before .before .count-of .ensures) (c .before .before .before .before .less .ensures) (c .before .before .before .less2 .ensures) _ (c .wide .ensures .0)
+returns c = turn-inside (c .before .before .before .before .before .before .before .before .args .job .now) _
+    (c .before .before .before .before .before .before .before .before .args .k) _ _ _
+    (c .before .before .before .before .before .count-of .ensures) (c .before .before .before .before .less .ensures)
+    (c .before .before .before .less2 .ensures) _ (c .wide .ensures .0)
 
 returns-2 : tie.Need-returns-2
-returns-2 c = turn-outside (c .before .before .before .before .before .before .args .job .now) _ (c .before .before .before .before .before .before .args .k) _ _ _ (c .before .before .before .count-of .ensures) (c .before .before .less .ensures) (c .before .less2 .ensures) (c .if1 .left)
+returns-2 c = turn-outside (c .before .before .before .before .before .before .args .job .now) _
+    (c .before .before .before .before .before .before .args .k) _ _ _ (c .before .before .before .count-of .ensures)
+    (c .before .before .less .ensures) (c .before .less2 .ensures) (c .if1 .left)
 
 pub turn-at-spec : {M : Type 1} → statement M
 turn-at-spec =

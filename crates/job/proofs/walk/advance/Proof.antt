@@ -15,10 +15,15 @@ enum-known-read-2 : tie.Need-enum-known-read-2
 enum-known-read-2 c = search needs
 
 admit-requires : tie.Need-admit-requires
-admit-requires c κs = (c .before .before .before .before .before .before .before .pre, reads-whole _ _ _ _ _ (c .before .before .before .before .read-command .ensures) (c .before .before .read2 .given .1))
+admit-requires c κs = (
+  c .before .before .before .before .before .before .before .pre,
+  reads-whole _ _ _ _ _
+      (c .before .before .before .before .read-command .ensures) (c .before .before .read2 .given .1),
+)
 
 returns : tie.Need-returns
-returns c = λ past stands valid short. step-unread _ _ (c .before .before .before .before .before .before .pre .0) past _ (reads-refused _ _ _ _ (c .before .before .before .read-command .ensures) (c .before .read .given .1))
+returns c = λ past stands valid short. step-unread _ _ (c .before .before .before .before .before .before .pre .0) past _
+    (reads-refused _ _ _ _ (c .before .before .before .read-command .ensures) (c .before .read .given .1))
 
 same-length : tie.Need-same-length
 same-length c = search needs

@@ -43,12 +43,20 @@ same-length-3 : tie.Need-same-length-3 Inv-loop μ-loop
 same-length-3 c =
     let g = c .before .before .before .before .before .before .before .before .loop .inv .1 in
     let h = c .before .before .before .before .before .advance .kept in
-    omega (arith, h .1 .1 .0, g .stands .size, c .before .before .before .before .before .before .before .before .before .before .before .before .before .before .before .before .before .pre)
+    omega (
+      arith,
+      h .1 .1 .0,
+      g .stands .size,
+      c .before .before .before .before .before .before .before .before .before .before .before
+          .before .before .before .before .before .before .pre,
+    )
 
 returns-3 : tie.Need-returns-3 Inv-loop μ-loop
 returns-3 c =
     let g = c .before .before .before .before .before .before .before .before .loop .inv .1 in
-    going-stop _ _ _ g (c .before .before .before .before .before .before .before .loop-test .taken) _ _ (steps-stop _ _ (g .past) _ _ _ (c .before .before .before .before .before .advance .ensures (g .past) (g .stands) (g .valid) (g .short)) (c .before .s .given .1))
+    going-stop _ _ _ g (c .before .before .before .before .before .before .before .loop-test .taken) _ _
+    (steps-stop _ _ (g .past) _ _ _ (c .before .before .before .before .before .advance .ensures (g .past) (g .stands) (g .valid)
+    (g .short)) (c .before .s .given .1))
 
 enum-known-s-2 : tie.Need-enum-known-s-2 Inv-loop μ-loop
 enum-known-s-2 c = search needs
@@ -56,17 +64,26 @@ enum-known-s-2 c = search needs
 loop-less : tie.Need-loop-less Inv-loop μ-loop
 loop-less c =
     let g = c .before .before .before .before .before .before .before .before .loop .inv .1 in
-    let o = steps-next _ _ (g .past) _ _ _ (c .before .before .before .before .before .advance .ensures (g .past) (g .stands) (g .valid) (g .short)) (c .before .s2 .given .1) in
+    let o = steps-next _ _ (g .past) _ _ _ (c .before .before .before .before .before .advance .ensures (g .past) (g .stands) (g .valid)
+    (g .short)) (c .before .s2 .given .1) in
     omega (arith, o .later, c .before .before .before .before .before .before .before .loop-test .taken)
 
 loop-again : tie.Need-loop-again Inv-loop μ-loop
 loop-again c =
     let g = c .before .before .before .before .before .before .before .before .loop .inv .1 in
-    let o = steps-next _ _ (g .past) _ _ _ (c .before .before .before .before .before .advance .ensures (g .past) (g .stands) (g .valid) (g .short)) (c .before .s2 .given .1) in
-    (c .before .before .before .before .before .before .before .before .loop .inv .0, going-on _ _ _ g (c .before .before .before .before .before .before .before .loop-test .taken) _ _ o)
+    let o = steps-next _ _ (g .past) _ _ _ (c .before .before .before .before .before .advance .ensures (g .past) (g .stands) (g .valid)
+    (g .short)) (c .before .s2 .given .1) in (
+      c .before .before .before .before .before .before .before .before .loop .inv .0,
+      going-on _ _ _ g
+          (c .before .before .before .before .before .before .before .loop-test .taken) _ _ o,
+    )
 
 same-length-4 : tie.Need-same-length-4 Inv-loop μ-loop
-same-length-4 c = omega (arith, c .before .loop .inv .1 .stands .size, c .before .before .before .before .before .before .before .before .before .before .pre)
+same-length-4 c = omega (
+  arith,
+  c .before .loop .inv .1 .stands .size,
+  c .before .before .before .before .before .before .before .before .before .before .pre,
+)
 
 returns-4 : tie.Need-returns-4 Inv-loop μ-loop
 returns-4 c = going-end _ _ _ (c .before .loop .inv .1) (c .loop-test .left)

@@ -47,15 +47,24 @@ slice-aggregate-put c = search needs
 put-requires : tie.Need-put-requires
 put-requires c κs =
     let z = c .before .before .before .before .before .before .before .before .args in
-    word-room (now (z .snapshot)) (z .place) (z .n) _ _ _ _ (c .before .before .before .before .before .operand .ensures) (c .before .before .before .before .operand2 .ensures) (c .before .before .before .operand3 .ensures) (c .before .before .operand4 .ensures) (now (z .text)) (z .at) (c .before .before .before .before .before .before .before .before .pre .1)
+    word-room (now (z .snapshot)) (z .place) (z .n) _ _ _ _ (c .before .before .before .before .before .operand .ensures)
+    (c .before .before .before .before .operand2 .ensures) (c .before .before .before .operand3 .ensures)
+    (c .before .before .operand4 .ensures) (now (z .text)) (z .at)
+    (c .before .before .before .before .before .before .before .before .pre .1)
 
 slice-aggregate-put-fields : tie.Need-slice-aggregate-put-fields
 slice-aggregate-put-fields c = search needs
 
 put-fields-requires : tie.Need-put-fields-requires
 put-fields-requires c κs =
-    let z = c .before .before .before .before .before .before .before .before .before .before .before .before .before .args in
-    five-room (now (z .snapshot)) (z .place) (z .n) _ _ _ _ (c .before .before .before .before .before .before .before .before .before .before .operand .ensures) (c .before .before .before .before .before .before .before .before .before .operand2 .ensures) (c .before .before .before .before .before .before .before .before .operand3 .ensures) (c .before .before .before .before .before .before .before .operand4 .ensures) (now (z .text)) (z .at) (c .before .before .before .before .before .before .before .before .before .before .before .before .before .pre .1) _ _ (c .before .before .before .before .put .ensures)
+    let p7 = c .before .before .before .before .before .before .before in
+    let p8 = p7 .before in
+    let p9 = p8 .before in
+    let p10 = p9 .before in
+    let p13 = p10 .before .before .before in
+    let z = p13 .args in
+    five-room (now (z .snapshot)) (z .place) (z .n) _ _ _ _ (p10 .operand .ensures) (p9 .operand2 .ensures) (p8 .operand3 .ensures)
+    (p7 .operand4 .ensures) (now (z .text)) (z .at) (p13 .pre .1) _ _ (c .before .before .before .before .put .ensures)
 
 add-put-messages : tie.Need-add-put-messages
 add-put-messages c = search needs
@@ -65,21 +74,50 @@ cast-put-messages c = search needs
 
 put-messages-requires : tie.Need-put-messages-requires
 put-messages-requires c κs =
-    let z = c .before .before .before .before .before .before .before .before .before .before .before .before .before .before .before .before .before .args in
-    (omega (arith, c .before .before .before .before .before .before .before .before .before .before .before .before .before .before .before .before .before .pre .0, c .before .before .before .before .before .before .before .before .before .before .before .operand4 .ensures), messages-room (now (z .snapshot)) (z .place) (z .n) _ _ _ _ (c .before .before .before .before .before .before .before .before .before .before .before .before .before .before .operand .ensures) (c .before .before .before .before .before .before .before .before .before .before .before .before .before .operand2 .ensures) (c .before .before .before .before .before .before .before .before .before .before .before .before .operand3 .ensures) (c .before .before .before .before .before .before .before .before .before .before .before .operand4 .ensures) (now (z .text)) (z .at) (c .before .before .before .before .before .before .before .before .before .before .before .before .before .before .before .before .before .pre .1) _ _ (c .before .before .before .before .before .before .before .before .put .ensures) _ _ (c .before .before .before .put-fields .ensures))
+    let p8 = c .before .before .before .before .before .before .before .before in
+    let p11 = p8 .before .before .before in
+    let p12 = p11 .before in
+    let p13 = p12 .before in
+    let p14 = p13 .before in
+    let p17 = p14 .before .before .before in
+    let z = p17 .args in (
+      omega (arith, p17 .pre .0, p11 .operand4 .ensures),
+      messages-room (now (z .snapshot)) (z .place) (z .n) _ _ _ _
+          (p14 .operand .ensures) (p13 .operand2 .ensures) (p12 .operand3 .ensures) (p11 .operand4 .ensures) (now (z .text)) (z .at)
+          (p17 .pre .1) _ _ (p8 .put .ensures) _ _ (c .before .before .before .put-fields .ensures),
+    )
 
 put-byte-requires : tie.Need-put-byte-requires
 put-byte-requires c κs =
-    let z = c .before .before .before .before .before .before .before .before .before .before .before .before .before .before .before .before .before .before .before .before .before .args in
-    end-room (now (z .snapshot)) (z .place) (z .n) _ _ _ _ (c .before .before .before .before .before .before .before .before .before .before .before .before .before .before .before .before .before .before .operand .ensures) (c .before .before .before .before .before .before .before .before .before .before .before .before .before .before .before .before .before .operand2 .ensures) (c .before .before .before .before .before .before .before .before .before .before .before .before .before .before .before .before .operand3 .ensures) (c .before .before .before .before .before .before .before .before .before .before .before .before .before .before .before .operand4 .ensures) (now (z .text)) (z .at) (c .before .before .before .before .before .before .before .before .before .before .before .before .before .before .before .before .before .before .before .before .before .pre .1) _ _ (c .before .before .before .before .before .before .before .before .before .before .before .before .put .ensures) _ _ (c .before .before .before .before .before .before .before .put-fields .ensures) _ _ (c .before .before .before .put-messages .ensures)
+    let p7 = c .before .before .before .before .before .before .before in
+    let p12 = p7 .before .before .before .before .before in
+    let p15 = p12 .before .before .before in
+    let p16 = p15 .before in
+    let p17 = p16 .before in
+    let p18 = p17 .before in
+    let p21 = p18 .before .before .before in
+    let z = p21 .args in
+    end-room (now (z .snapshot)) (z .place) (z .n) _ _ _ _ (p18 .operand .ensures) (p17 .operand2 .ensures) (p16 .operand3 .ensures)
+    (p15 .operand4 .ensures) (now (z .text)) (z .at) (p21 .pre .1) _ _ (p12 .put .ensures) _ _ (p7 .put-fields .ensures) _ _
+    (c .before .before .before .put-messages .ensures)
 
 same-length : tie.Need-same-length
 same-length c = search needs
 
 returns : tie.Need-returns
 returns c =
-    let z = c .before .before .before .before .before .before .before .before .before .before .before .before .before .before .before .before .before .before .before .before .before .before .before .before .args in
-    node-put (now (z .snapshot)) (z .place) (z .n) _ _ _ _ (c .before .before .before .before .before .before .before .before .before .before .before .before .before .before .before .before .before .before .before .before .before .operand .ensures) (c .before .before .before .before .before .before .before .before .before .before .before .before .before .before .before .before .before .before .before .before .operand2 .ensures) (c .before .before .before .before .before .before .before .before .before .before .before .before .before .before .before .before .before .before .before .operand3 .ensures) (c .before .before .before .before .before .before .before .before .before .before .before .before .before .before .before .before .before .before .operand4 .ensures) (now (z .text)) (z .at) (c .before .before .before .before .before .before .before .before .before .before .before .before .before .before .before .before .before .before .before .before .before .before .before .before .pre .1) _ _ (c .before .before .before .before .before .before .before .before .before .before .before .before .before .before .before .put .ensures) _ _ (c .before .before .before .before .before .before .before .before .before .before .put-fields .ensures) _ _ (c .before .before .before .before .before .before .put-messages .ensures) _ _ (c .before .before .put-byte .ensures)
+    let p6 = c .before .before .before .before .before .before in
+    let p10 = p6 .before .before .before .before in
+    let p15 = p10 .before .before .before .before .before in
+    let p18 = p15 .before .before .before in
+    let p19 = p18 .before in
+    let p20 = p19 .before in
+    let p21 = p20 .before in
+    let p24 = p21 .before .before .before in
+    let z = p24 .args in
+    node-put (now (z .snapshot)) (z .place) (z .n) _ _ _ _ (p21 .operand .ensures) (p20 .operand2 .ensures) (p19 .operand3 .ensures)
+    (p18 .operand4 .ensures) (now (z .text)) (z .at) (p24 .pre .1) _ _ (p15 .put .ensures) _ _ (p10 .put-fields .ensures) _ _
+    (p6 .put-messages .ensures) _ _ (c .before .before .put-byte .ensures)
 
 pub put-node-line-spec : {M : Type 1} → statement M
 put-node-line-spec =

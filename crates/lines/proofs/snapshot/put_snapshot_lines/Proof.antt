@@ -11,7 +11,8 @@ use Rattle.lines.proofs.snapshot.put_snapshot_lines.Statement.{statemen
 use Rattle.lines.proofs.snapshot.put_snapshot_lines.Tie as tie
 
 abbrev Inv-loop : tie.InvT-loop
-Inv-loop text₀ at snapshot nodes variables next₀ place₀ n₀ text next place n = (n ≤ nodes) × (place ≡ partAt snapshot n) × Put (partLine snapshot) text₀ at n text next
+Inv-loop text₀ at snapshot nodes variables next₀ place₀ n₀ text next place n = (n ≤ nodes) × (place ≡ partAt snapshot n) × Put
+    (partLine snapshot) text₀ at n text next
 
 abbrev μ-loop : tie.MeasureT-loop
 μ-loop text₀ at snapshot nodes variables next₀ place₀ n₀ text next place n = nodes - n
@@ -23,14 +24,21 @@ loop-holds c = (omega arith, refl, none-put _ _ _)
 put-node-line-requires : tie.Need-put-node-line-requires Inv-loop μ-loop
 put-node-line-requires c κs =
     let z = c .before .before .before .before .before .args in
-    let l = c .before .before .loop in
-    (part-inside (now (z .snapshot)) (z .nodes) (z .variables) (l .n) _ (c .before .before .before .before .before .pre .0) (c .before .loop-test .taken) (l .inv .1), rw (l .inv .1) (room _ _ _ _ (nodes-room (now (z .snapshot)) (z .nodes) (z .variables) (now (z .text)) (z .at) (c .before .before .before .before .before .pre .1)) (l .n) (c .before .loop-test .taken) _ _ (l .inv .2)))
+    let l = c .before .before .loop in (
+      part-inside (now (z .snapshot)) (z .nodes) (z .variables) (l .n) _ (c .before .before .before .before .before .pre .0)
+          (c .before .loop-test .taken) (l .inv .1),
+      rw (l .inv .1)
+          (room _ _ _ _ (nodes-room (now (z .snapshot)) (z .nodes) (z .variables) (now (z .text)) (z .at)
+          (c .before .before .before .before .before .pre .1)) (l .n) (c .before .loop-test .taken) _ _ (l .inv .2)),
+    )
 
 next-part-requires : tie.Need-next-part-requires Inv-loop μ-loop
 next-part-requires c κs =
     let z = c .before .before .before .before .before .before .before .before .args in
     let l = c .before .before .before .before .before .loop in
-    part-inside (now (z .snapshot)) (z .nodes) (z .variables) (l .n) _ (c .before .before .before .before .before .before .before .before .pre .0) (c .before .before .before .before .loop-test .taken) (l .inv .1)
+    part-inside (now (z .snapshot)) (z .nodes) (z .variables) (l .n) _
+    (c .before .before .before .before .before .before .before .before .pre .0) (c .before .before .before .before .loop-test .taken)
+    (l .inv .1)
 
 add-n : tie.Need-add-n Inv-loop μ-loop
 add-n c = search needs
@@ -40,15 +48,29 @@ loop-less c = search needs
 
 loop-again : tie.Need-loop-again Inv-loop μ-loop
 loop-again c =
-    let z = c .before .before .before .before .before .before .before .before .before .args in
-    let l = c .before .before .before .before .before .before .loop in
-    (omega (arith, c .before .before .before .before .before .loop-test .taken), part-next (now (z .snapshot)) (l .n) (l .place) _ (l .inv .1) (c .next-part .ensures), one-put _ _ _ _ (nodes-room (now (z .snapshot)) (z .nodes) (z .variables) (now (z .text)) (z .at) (c .before .before .before .before .before .before .before .before .before .pre .1)) (l .n) (c .before .before .before .before .before .loop-test .taken) _ _ (l .inv .2) _ _ (rw (l .inv .1) at (c .before .before .before .put-node-line .ensures)))
+    let p6 = c .before .before .before .before .before .before in
+    let p9 = p6 .before .before .before in
+    let z = p9 .args in
+    let l = p6 .loop in (
+      omega (arith, c .before .before .before .before .before .loop-test .taken),
+      part-next (now (z .snapshot)) (l .n) (l .place) _
+          (l .inv .1) (c .next-part .ensures),
+      one-put _ _ _ _ (nodes-room (now (z .snapshot)) (z .nodes) (z .variables) (now (z .text))
+          (z .at) (p9 .pre .1)) (l .n) (c .before .before .before .before .before .loop-test .taken) _ _ (l .inv .2) _ _
+          (rw (l .inv .1) at (c .before .before .before .put-node-line .ensures)),
+    )
 
 put-variable-lines-requires : tie.Need-put-variable-lines-requires Inv-loop μ-loop
 put-variable-lines-requires c κs =
     let z = c .before .before .before .before .before .args in
-    let l = c .before .before .loop in
-    (variables-inside (now (z .snapshot)) (z .nodes) (z .variables) (now (z .text)) (z .at) (c .before .before .before .before .before .pre .1) (l .n) (l .place) (l .inv .0) (c .before .loop-test .left) (l .inv .1) _ _ (l .inv .2) (c .before .before .before .before .before .pre .0), variables-room (now (z .snapshot)) (z .nodes) (z .variables) (now (z .text)) (z .at) (c .before .before .before .before .before .pre .1) (l .n) (l .place) (l .inv .0) (c .before .loop-test .left) (l .inv .1) _ _ (l .inv .2))
+    let l = c .before .before .loop in (
+      variables-inside (now (z .snapshot)) (z .nodes) (z .variables) (now (z .text)) (z .at)
+          (c .before .before .before .before .before .pre .1) (l .n) (l .place) (l .inv .0) (c .before .loop-test .left) (l .inv .1) _ _
+          (l .inv .2) (c .before .before .before .before .before .pre .0),
+      variables-room (now (z .snapshot)) (z .nodes) (z .variables)
+          (now (z .text)) (z .at) (c .before .before .before .before .before .pre .1) (l .n) (l .place) (l .inv .0)
+          (c .before .loop-test .left) (l .inv .1) _ _ (l .inv .2),
+    )
 
 same-length : tie.Need-same-length Inv-loop μ-loop
 same-length c = search needs
@@ -57,7 +79,10 @@ returns : tie.Need-returns Inv-loop μ-loop
 returns c =
     let z = c .before .before .before .before .before .before .before .before .args in
     let l = c .before .before .before .before .before .loop in
-    snapshot-put (now (z .snapshot)) (z .nodes) (z .variables) (now (z .text)) (z .at) (c .before .before .before .before .before .before .before .before .pre .1) (l .n) (l .place) (l .inv .0) (c .before .before .before .before .loop-test .left) (l .inv .1) _ _ (l .inv .2) _ _ (c .before .before .put-variable-lines .ensures)
+    snapshot-put (now (z .snapshot)) (z .nodes) (z .variables) (now (z .text)) (z .at)
+    (c .before .before .before .before .before .before .before .before .pre .1) (l .n) (l .place) (l .inv .0)
+    (c .before .before .before .before .loop-test .left) (l .inv .1) _ _ (l .inv .2) _ _
+    (c .before .before .put-variable-lines .ensures)
 
 pub put-snapshot-lines-spec : {M : Type 1} → statement M
 put-snapshot-lines-spec =

@@ -11,7 +11,8 @@ use Rattle.lines.proofs.snapshot.put_variable_lines.Statement.{statemen
 use Rattle.lines.proofs.snapshot.put_variable_lines.Tie as tie
 
 abbrev Inv-loop : tie.InvT-loop
-Inv-loop text₀ at snapshot place variables next₀ x₀ t10 text next x = (x ≤ variables) × Put (variableLine snapshot place) text₀ at x text next
+Inv-loop text₀ at snapshot place variables next₀ x₀ t10 text next x = (x ≤ variables) × Put
+    (variableLine snapshot place) text₀ at x text next
 
 abbrev μ-loop : tie.MeasureT-loop
 μ-loop text₀ at snapshot place variables next₀ x₀ t10 text next x = variables - x
@@ -40,7 +41,9 @@ slice-aggregate-put-line-2 c = search needs
 put-line-requires : tie.Need-put-line-requires Inv-loop μ-loop
 put-line-requires c κs =
     let l = c .before .before .before .before .before .loop in
-    rw (variable-same _ _ (l .x) _ (c .before .before .before .operand .ensures)) at (room _ _ _ _ (c .before .before .before .before .before .before .before .before .pre .1) (l .x) (c .before .before .before .before .loop-test .taken) _ _ (l .inv .1))
+    rw (variable-same _ _ (l .x) _ (c .before .before .before .operand .ensures)) at
+    (room _ _ _ _ (c .before .before .before .before .before .before .before .before .pre .1) (l .x)
+    (c .before .before .before .before .loop-test .taken) _ _ (l .inv .1))
 
 add-x : tie.Need-add-x Inv-loop μ-loop
 add-x c = search needs
@@ -50,8 +53,15 @@ loop-less c = search needs
 
 loop-again : tie.Need-loop-again Inv-loop μ-loop
 loop-again c =
-    let l = c .before .before .before .before .before .before .before .before .loop in
-    (search needs, one-put _ _ _ _ (c .before .before .before .before .before .before .before .before .before .before .before .pre .1) (l .x) (c .before .before .before .before .before .before .before .loop-test .taken) _ _ (l .inv .1) _ _ (rw (variable-same _ _ (l .x) _ (c .before .before .before .before .before .before .operand .ensures)) (c .before .before .put-line .ensures)))
+    let p6 = c .before .before .before .before .before .before in
+    let p7 = p6 .before in
+    let p8 = p7 .before in
+    let p11 = p8 .before .before .before in
+    let l = p8 .loop in (
+      search needs,
+      one-put _ _ _ _ (p11 .pre .1) (l .x) (p7 .loop-test .taken) _ _ (l .inv .1) _ _
+          (rw (variable-same _ _ (l .x) _ (p6 .operand .ensures)) (c .before .before .put-line .ensures)),
+    )
 
 same-length : tie.Need-same-length Inv-loop μ-loop
 same-length c = search needs

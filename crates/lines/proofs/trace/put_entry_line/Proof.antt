@@ -48,33 +48,63 @@ cast-put-decimal-2 c = search needs
 
 put-decimal-requires : tie.Need-put-decimal-requires
 put-decimal-requires c κs =
-    let z = c .before .before .before .before .before .before .before .args in
-    let same = entry-same (now (z .trace)) (z .k) _ _ _ _ (c .before .before .before .before .operand .ensures) (c .before .before .before .operand2 .ensures) (c .before .before .operand3 .ensures) (c .before .operand4 .ensures) in
-    first-room (decimal (c .before .before .before .before .operand .result)) (c .before .before .before .operand2 .result ∷ c .before .before .operand3 .result ∷ c .before .operand4 .result ∷ []) (now (z .text)) (z .at) (rw same at (c .before .before .before .before .before .before .before .pre .1))
+    let p7 = c .before .before .before .before .before .before .before in
+    let z = p7 .args in
+    let same = entry-same (now (z .trace)) (z .k) _ _ _ _ (c .before .before .before .before .operand .ensures)
+    (c .before .before .before .operand2 .ensures) (c .before .before .operand3 .ensures) (c .before .operand4 .ensures) in
+    first-room (decimal (c .before .before .before .before .operand .result))
+    (c .before .before .before .operand2 .result ∷ c .before .before .operand3 .result ∷ c .before .operand4 .result ∷ [])
+    (now (z .text)) (z .at) (rw same at (p7 .pre .1))
 
 slice-aggregate-put-fields : tie.Need-slice-aggregate-put-fields
 slice-aggregate-put-fields c = search needs
 
 put-fields-requires : tie.Need-put-fields-requires
 put-fields-requires c κs =
-    let z = c .before .before .before .before .before .before .before .before .before .before .before .before .args in
-    let same = entry-same (now (z .trace)) (z .k) _ _ _ _ (c .before .before .before .before .before .before .before .before .before .operand .ensures) (c .before .before .before .before .before .before .before .before .operand2 .ensures) (c .before .before .before .before .before .before .before .operand3 .ensures) (c .before .before .before .before .before .before .operand4 .ensures) in
-    numbers-room (decimal (c .before .before .before .before .before .before .before .before .before .operand .result)) (c .before .before .before .before .before .before .before .before .operand2 .result ∷ c .before .before .before .before .before .before .before .operand3 .result ∷ c .before .before .before .before .before .before .operand4 .result ∷ []) (now (z .text)) (z .at) (rw same at (c .before .before .before .before .before .before .before .before .before .before .before .before .pre .1)) _ _ (c .before .before .before .before .put-decimal .ensures)
+    let p6 = c .before .before .before .before .before .before in
+    let p7 = p6 .before in
+    let p8 = p7 .before in
+    let p9 = p8 .before in
+    let p12 = p9 .before .before .before in
+    let z = p12 .args in
+    let same = entry-same (now (z .trace)) (z .k) _ _ _ _ (p9 .operand .ensures) (p8 .operand2 .ensures) (p7 .operand3 .ensures)
+    (p6 .operand4 .ensures) in
+    numbers-room (decimal (p9 .operand .result)) (p8 .operand2 .result ∷ p7 .operand3 .result ∷ p6 .operand4 .result ∷ []) (now (z .text))
+    (z .at) (rw same at (p12 .pre .1)) _ _ (c .before .before .before .before .put-decimal .ensures)
 
 put-byte-requires : tie.Need-put-byte-requires
 put-byte-requires c κs =
-    let z = c .before .before .before .before .before .before .before .before .before .before .before .before .before .before .before .before .args in
-    let same = entry-same (now (z .trace)) (z .k) _ _ _ _ (c .before .before .before .before .before .before .before .before .before .before .before .before .before .operand .ensures) (c .before .before .before .before .before .before .before .before .before .before .before .before .operand2 .ensures) (c .before .before .before .before .before .before .before .before .before .before .before .operand3 .ensures) (c .before .before .before .before .before .before .before .before .before .before .operand4 .ensures) in
-    feed-room (decimal (c .before .before .before .before .before .before .before .before .before .before .before .before .before .operand .result)) (c .before .before .before .before .before .before .before .before .before .before .before .before .operand2 .result ∷ c .before .before .before .before .before .before .before .before .before .before .before .operand3 .result ∷ c .before .before .before .before .before .before .before .before .before .before .operand4 .result ∷ []) (now (z .text)) (z .at) (rw same at (c .before .before .before .before .before .before .before .before .before .before .before .before .before .before .before .before .pre .1)) _ _ (c .before .before .before .before .before .before .before .before .put-decimal .ensures) _ _ (c .before .before .before .put-fields .ensures)
+    let p8 = c .before .before .before .before .before .before .before .before in
+    let p10 = p8 .before .before in
+    let p11 = p10 .before in
+    let p12 = p11 .before in
+    let p13 = p12 .before in
+    let p16 = p13 .before .before .before in
+    let z = p16 .args in
+    let same = entry-same (now (z .trace)) (z .k) _ _ _ _ (p13 .operand .ensures) (p12 .operand2 .ensures) (p11 .operand3 .ensures)
+    (p10 .operand4 .ensures) in
+    feed-room (decimal (p13 .operand .result)) (p12 .operand2 .result ∷ p11 .operand3 .result ∷ p10 .operand4 .result ∷ [])
+    (now (z .text)) (z .at) (rw same at (p16 .pre .1)) _ _ (p8 .put-decimal .ensures) _ _
+    (c .before .before .before .put-fields .ensures)
 
 same-length : tie.Need-same-length
 same-length c = search needs
 
 returns : tie.Need-returns
 returns c =
-    let z = c .before .before .before .before .before .before .before .before .before .before .before .before .before .before .before .before .before .before .before .args in
-    let same = entry-same (now (z .trace)) (z .k) _ _ _ _ (c .before .before .before .before .before .before .before .before .before .before .before .before .before .before .before .before .operand .ensures) (c .before .before .before .before .before .before .before .before .before .before .before .before .before .before .before .operand2 .ensures) (c .before .before .before .before .before .before .before .before .before .before .before .before .before .before .operand3 .ensures) (c .before .before .before .before .before .before .before .before .before .before .before .before .before .operand4 .ensures) in
-    rw same (line-put (decimal (c .before .before .before .before .before .before .before .before .before .before .before .before .before .before .before .before .operand .result)) (c .before .before .before .before .before .before .before .before .before .before .before .before .before .before .before .operand2 .result ∷ c .before .before .before .before .before .before .before .before .before .before .before .before .before .before .operand3 .result ∷ c .before .before .before .before .before .before .before .before .before .before .before .before .before .operand4 .result ∷ []) (now (z .text)) (z .at) (rw same at (c .before .before .before .before .before .before .before .before .before .before .before .before .before .before .before .before .before .before .before .pre .1)) _ _ (c .before .before .before .before .before .before .before .before .before .before .before .put-decimal .ensures) _ _ (c .before .before .before .before .before .before .put-fields .ensures) _ _ (c .before .before .put-byte .ensures))
+    let p6 = c .before .before .before .before .before .before in
+    let p11 = p6 .before .before .before .before .before in
+    let p13 = p11 .before .before in
+    let p14 = p13 .before in
+    let p15 = p14 .before in
+    let p16 = p15 .before in
+    let p19 = p16 .before .before .before in
+    let z = p19 .args in
+    let same = entry-same (now (z .trace)) (z .k) _ _ _ _ (p16 .operand .ensures) (p15 .operand2 .ensures) (p14 .operand3 .ensures)
+    (p13 .operand4 .ensures) in
+    rw same (line-put (decimal (p16 .operand .result)) (p15 .operand2 .result ∷ p14 .operand3 .result ∷ p13 .operand4 .result ∷ [])
+    (now (z .text)) (z .at) (rw same at (p19 .pre .1)) _ _ (p11 .put-decimal .ensures) _ _ (p6 .put-fields .ensures) _ _
+    (c .before .before .put-byte .ensures))
 
 pub put-entry-line-spec : {M : Type 1} → statement M
 put-entry-line-spec =

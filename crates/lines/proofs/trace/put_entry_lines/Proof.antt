@@ -18,8 +18,11 @@ loop-holds c = (omega arith, none-put _ _ _)
 
 put-entry-line-requires : tie.Need-put-entry-line-requires Inv-loop μ-loop
 put-entry-line-requires c κs =
-    let l = c .before .before .loop in
-    (omega (arith, c .before .before .before .before .before .pre .0, c .before .loop-test .taken), room _ _ _ _ (c .before .before .before .before .before .pre .1) (l .k) (c .before .loop-test .taken) _ _ (l .inv .1))
+    let l = c .before .before .loop in (
+      omega (arith, c .before .before .before .before .before .pre .0, c .before .loop-test .taken),
+      room _ _ _ _
+          (c .before .before .before .before .before .pre .1) (l .k) (c .before .loop-test .taken) _ _ (l .inv .1),
+    )
 
 add-k : tie.Need-add-k Inv-loop μ-loop
 add-k c = search needs
@@ -29,8 +32,11 @@ loop-less c = search needs
 
 loop-again : tie.Need-loop-again Inv-loop μ-loop
 loop-again c =
-    let l = c .before .before .before .before .before .loop in
-    (search needs, one-put _ _ _ _ (c .before .before .before .before .before .before .before .before .pre .1) (l .k) (c .before .before .before .before .loop-test .taken) _ _ (l .inv .1) _ _ (c .before .before .put-entry-line .ensures))
+    let l = c .before .before .before .before .before .loop in (
+      search needs,
+      one-put _ _ _ _ (c .before .before .before .before .before .before .before .before .pre .1) (l .k)
+          (c .before .before .before .before .loop-test .taken) _ _ (l .inv .1) _ _ (c .before .before .put-entry-line .ensures),
+    )
 
 same-length : tie.Need-same-length Inv-loop μ-loop
 same-length c = search needs

@@ -26,10 +26,18 @@ returns : tie.Need-returns
 returns c = rw (c .before .before .before .enum-told .given .1) (record { holds = c .take-oldest .ensures; kept = λ h. true-false (sym h) })
 
 returns-2 : tie.Need-returns-2
-returns-2 c = rw (c .before .before .before .before .change .given .1) (record { holds = c .deliver .ensures; kept = λ h. true-false (sym h) })
+returns-2 c = rw (c .before .before .before .before .change .given .1)
+    (record { holds = c .deliver .ensures; kept = λ h. true-false (sym h) })
 
 returns-3 : tie.Need-returns-3
-returns-3 c = record { holds = record { bounded = c .before .before .pre .1 .0; same = queues-left _ _ _ _ (c .before .before .args .change) (c .match .keys3) }; kept = λ _. (refl, refl) }
+returns-3 c = record {
+  holds = record {
+    bounded = c .before .before .pre .1 .0;
+    same = queues-left _ _ _ _
+        (c .before .before .args .change) (c .match .keys3);
+  };
+  kept = λ _. (refl, refl);
+}
 
 pub change-queues-spec : {M : Type 1} → statement M
 change-queues-spec =

@@ -12,15 +12,19 @@ use Rattle.memory.proofs.queues.deliver.Statement.{statement}
 use Rattle.memory.proofs.queues.deliver.Tie as tie
 
 abbrev Inv-loop : tie.InvT-loop
-Inv-loop queue₀ waiting₀ t n port value target₀ queue waiting target = (target ≤ 32) × Serving (wiredIn t (n .0) port) value (queues waiting₀ queue₀) target waiting queue
+Inv-loop queue₀ waiting₀ t n port value target₀ queue waiting target = (target ≤ 32) × Serving (wiredIn t (n .0) port) value
+    (queues waiting₀ queue₀) target waiting queue
 
 abbrev μ-loop : tie.MeasureT-loop
 μ-loop queue₀ waiting₀ t n port value target₀ queue waiting target = 32 - target
 
 loop-holds : tie.Need-loop-holds Inv-loop μ-loop
 loop-holds c =
-    let z = c .before in
-    (omega arith, serving-none _ _ (now (z .args .waiting)) (now (z .args .queue)) (z .pre .0 .1) (z .pre .0 .0) (z .pre .1 .0) (z .pre .1 .1))
+    let z = c .before in (
+      omega arith,
+      serving-none _ _ (now (z .args .waiting)) (now (z .args .queue)) (z .pre .0 .1) (z .pre .0 .0) (z .pre .1 .0)
+          (z .pre .1 .1),
+    )
 
 cast-t12 : tie.Need-cast-t12 Inv-loop μ-loop
 cast-t12 c = search needs

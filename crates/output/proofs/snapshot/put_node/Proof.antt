@@ -31,7 +31,12 @@ same-length c = search needs
 
 returns : tie.Need-returns
 returns c =
-    let z = c .before .before .before .before .before .before .before .before .before .before .before .before .before .before .before .before .before .before .before .before .before .before .before in
+    let p6 = c .before .before .before .before .before .before in
+    let p10 = p6 .before .before .before .before in
+    let p14 = p10 .before .before .before .before in
+    let p18 = p14 .before .before .before .before in
+    let p23 = p18 .before .before .before .before .before in
+    let z = p23 in
     let h = z .pre .0 .0 in
     let e = mod-eq-of-lt (z .pre .0 .1) in
     let long = length-messages (now (z .args .queue)) (z .args .first) (z .args .waiting) (omega (arith, z .pre .1)) in
@@ -39,9 +44,9 @@ returns c =
     (writes-on _ _ _ _ _ _ _ _ (omega (arith, h, long, z .pre .1 .0))
     (writes-on _ _ _ _ _ _ _ _ (omega (arith, h))
     (writes-on _ _ _ _ _ _ _ _ (omega (arith, h))
-    (writes-on _ _ _ _ _ _ _ _ (omega (arith, h)) (c .before .before .before .before .before .before .before .before .before .before .before .before .before .before .before .before .before .before .put-byte .ensures) (c .before .before .before .before .before .before .before .before .before .before .before .before .before .before .put-word .ensures))
-    (c .before .before .before .before .before .before .before .before .before .before .put-word2 .ensures))
-    (c .before .before .before .before .before .before .put-byte2 .ensures))
+    (writes-on _ _ _ _ _ _ _ _ (omega (arith, h)) (p18 .put-byte .ensures) (p14 .put-word .ensures))
+    (p10 .put-word2 .ensures))
+    (p6 .put-byte2 .ensures))
     (c .before .before .put-words .ensures))
 
 pub put-node-spec : {M : Type 1} → statement M

@@ -43,11 +43,16 @@ mul-put-node c = search needs
 
 put-node-requires : tie.Need-put-node-requires Inv-loop μ-loop
 put-node-requires c κs =
-    let z = c .before .before .before .before .before .before .before .before .before .before .before in
-    let l = c .before .before .before .before .before .before .before .before .before .loop in
+    let p8 = c .before .before .before .before .before .before .before .before in
+    let p9 = p8 .before in
+    let p11 = p9 .before .before in
+    let z = p11 in
+    let l = p9 .loop in
     let h = z .pre .0 in
-    let slots : length (z .args .t2 .queue) ≡ 512 = search needs in
-    ((omega (arith, l .inv .1 .place, l .inv .1 .size, c .before .before .before .before .before .before .before .before .loop-test .taken, h .0, h .1), z .pre .1 .1 (l .n)), (z .pre .1 .0 (l .n), omega (arith, c .before .before .before .before .before .before .before .before .loop-test .taken, h .1, slots)))
+    let slots : length (z .args .t2 .queue) ≡ 512 = search needs in (
+      (omega (arith, l .inv .1 .place, l .inv .1 .size, p8 .loop-test .taken, h .0, h .1), z .pre .1 .1 (l .n)),
+      (z .pre .1 .0 (l .n), omega (arith, p8 .loop-test .taken, h .1, slots)),
+    )
 
 add-n : tie.Need-add-n Inv-loop μ-loop
 add-n c = search needs
@@ -57,20 +62,30 @@ loop-less c = search needs
 
 loop-again : tie.Need-loop-again Inv-loop μ-loop
 loop-again c =
-    let z = c .before .before .before .before .before .before .before .before .before .before .before .before .before .before in
-    let l = c .before .before .before .before .before .before .before .before .before .before .before .before .loop in
+    let p11 = c .before .before .before .before .before .before .before .before .before .before .before in
+    let p12 = p11 .before in
+    let p14 = p12 .before .before in
+    let z = p14 in
+    let l = p12 .loop in
     let h = z .pre .0 in
     let s = z .args .t2 in
     let counts : length (s .waiting) ≡ 32 = search needs in
-    let slots : length (s .queue) ≡ 512 = search needs in
-    (omega (arith, c .before .before .before .before .before .before .before .before .before .before .before .loop-test .taken), one-shown s (z .pre .1 .0) counts slots _ (l .n) (l .snapshot) (l .at) _ _ (omega (arith, c .before .before .before .before .before .before .before .before .before .before .before .loop-test .taken, h .1)) (omega (arith, c .before .before .before .before .before .before .before .before .before .before .before .loop-test .taken, h .0, h .1)) (search needs) (l .inv .1) (c .before .before .put-node .ensures))
+    let slots : length (s .queue) ≡ 512 = search needs in (
+      omega (arith, p11 .loop-test .taken),
+      one-shown s (z .pre .1 .0) counts slots _ (l .n) (l .snapshot) (l .at) _ _
+          (omega (arith, p11 .loop-test .taken, h .1)) (omega (arith, p11 .loop-test .taken, h .0, h .1)) (search needs) (l .inv .1)
+          (c .before .before .put-node .ensures),
+    )
 
 put-words-requires : tie.Need-put-words-requires Inv-loop μ-loop
 put-words-requires c κs =
     let z = c .before .before .before .before .before .before .before in
     let l = c .before .before .before .before .before .loop in
-    let variables : length (z .args .t2 .variable) ≡ 64 = search needs in
-    (omega (arith, l .inv .1 .place, l .inv .1 .size, l .inv .0, z .pre .0 .0, z .pre .0 .1, z .pre .0 .2), omega (arith, z .pre .0 .2, variables))
+    let variables : length (z .args .t2 .variable) ≡ 64 = search needs in (
+      omega (arith, l .inv .1 .place, l .inv .1 .size, l .inv .0, z .pre .0 .0, z .pre .0 .1, z .pre .0 .2),
+      omega
+          (arith, z .pre .0 .2, variables),
+    )
 
 same-length : tie.Need-same-length Inv-loop μ-loop
 same-length c = search needs
@@ -81,7 +96,9 @@ returns c =
     let l = c .before .before .before .before .before .before .before .before .loop in
     let e : l .n ≡ z .args .nodes = omega (arith, l .inv .0, c .before .before .before .before .before .before .before .loop-test .left) in
     let variables : length (z .args .t2 .variable) ≡ 64 = search needs in
-    all-shown (z .args .t2) _ (z .args .nodes) (z .args .variables) (l .snapshot) (l .at) _ _ (omega (arith, z .pre .0 .2, variables)) (omega (arith, l .inv .1 .place, l .inv .0, z .pre .0 .0, z .pre .0 .1, z .pre .0 .2)) (rw e at (l .inv .1 .writes)) (c .before .before .put-words .ensures)
+    all-shown (z .args .t2) _ (z .args .nodes) (z .args .variables) (l .snapshot) (l .at) _ _ (omega (arith, z .pre .0 .2, variables))
+    (omega (arith, l .inv .1 .place, l .inv .0, z .pre .0 .0, z .pre .0 .1, z .pre .0 .2)) (rw e at (l .inv .1 .writes))
+    (c .before .before .put-words .ensures)
 
 pub put-snapshot-spec : {M : Type 1} → statement M
 put-snapshot-spec =

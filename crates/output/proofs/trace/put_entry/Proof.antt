@@ -33,13 +33,17 @@ same-length c = search needs
 
 returns : tie.Need-returns
 returns c =
-    let h = c .before .before .before .before .before .before .before .before .before .before .before .before .before .before .before .before .before .before .before .before .pre .0 in
-    let e = entry-bytes (entryWith (c .before .before .before .before .before .before .before .before .before .before .before .before .before .before .before .before .before .before .before .before .args .x)) (c .before .before .before .before .before .before .before .before .before .before .before .before .before .before .before .before .before .before .before .before .pre .1) in
+    let p6 = c .before .before .before .before .before .before in
+    let p11 = p6 .before .before .before .before .before in
+    let p16 = p11 .before .before .before .before .before in
+    let p20 = p16 .before .before .before .before in
+    let h = p20 .pre .0 in
+    let e = entry-bytes (entryWith (p20 .args .x)) (p20 .pre .1) in
     rw (← e)
     (writes-on _ _ _ _ _ _ _ _ (omega (arith, h))
     (writes-on _ _ _ _ _ _ _ _ (omega (arith, h))
-    (writes-on _ _ _ _ _ _ _ _ (omega (arith, h)) (c .before .before .before .before .before .before .before .before .before .before .before .before .before .before .before .before .put-byte .ensures) (c .before .before .before .before .before .before .before .before .before .before .before .put-byte2 .ensures))
-    (c .before .before .before .before .before .before .put-byte3 .ensures))
+    (writes-on _ _ _ _ _ _ _ _ (omega (arith, h)) (p16 .put-byte .ensures) (p11 .put-byte2 .ensures))
+    (p6 .put-byte3 .ensures))
     (c .before .before .put-word .ensures))
 
 pub put-entry-spec : {M : Type 1} → statement M

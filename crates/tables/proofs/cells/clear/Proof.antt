@@ -38,7 +38,8 @@ loop-again c =
     let m = c .loop-test .taken in (
       omega (arith, length-set (l .tables) (l .i) 0),
       length-set (l .tables) (l .i) 0 ∙ l .inv .1,
-      below-more (λ k. getD (set (l .tables) (l .i) 0) k 0 ≡ 0) (l .i) (λ k h. getD-set-other (l .tables) (l .i) k 0 0 (λ e. omega arith) ∙ z k h) (getD-set-same (l .tables) (l .i) 0 0 m),
+      below-more (λ k. getD (set (l .tables) (l .i) 0) k 0 ≡ 0) (l .i)
+          (λ k h. getD-set-other (l .tables) (l .i) k 0 0 (λ e. omega arith) ∙ z k h) (getD-set-same (l .tables) (l .i) 0 0 m),
     )
 
 same-length : tie.Need-same-length Inv-loop μ-loop

@@ -18,7 +18,8 @@ same-length : tie.Need-same-length
 same-length c = search needs
 
 returns : tie.Need-returns
-returns c = c .before .before .put .ensures ∙ sym (mark-inside _ _ _ _ _ (c .before .before .before .before .before .if1 .taken) (c .before .before .before .before .if2 .taken))
+returns c = c .before .before .put .ensures ∙ sym (mark-inside _ _ _ _ _ (c .before .before .before .before .before .if1 .taken)
+    (c .before .before .before .before .if2 .taken))
 
 returns-2 : tie.Need-returns-2
 returns-2 c = sym (mark-beside _ _ _ _ _ (c .before .if1 .taken) (c .if2 .left))
