@@ -6,7 +6,7 @@ use std::collections::{BTreeMap, BTreeSet};
 use std::process::Command;
 
 use common::made::{all, runs_of, Made};
-use flow_reference::corpus::{records, runs, Run};
+use flow_reference::corpus::{records, runs, Change, Run};
 use flow_reference::table::*;
 use flow_reference::{decode, Mode, Program, Refusal};
 
@@ -160,6 +160,15 @@ fn the_first_of_several_commands() {
     assert_eq!(numbers.into_iter().collect::<String>(), expected.concat() + "23456789");
 }
 
+/// The changes in the order of their numbers.
+const CHANGES: [Change; 5] = [
+    Change::Nothing,
+    Change::FirstOfWork,
+    Change::LastOfWork,
+    Change::LastOfTrace,
+    Change::LastOfSnapshot,
+];
+
 /// The runs of a file of records.
 fn read_back(mut file: &[u8]) -> Vec<Run> {
     let mut runs = Vec::new();
@@ -167,8 +176,9 @@ fn read_back(mut file: &[u8]) -> Vec<Run> {
         let (head, behind) = rest.split_at(8);
         let length = |at: usize| usize::from(head[at]) + 256 * usize::from(head[at + 1]);
         let (job, behind) = behind.split_at(length(0));
-        let mode = common::MODES[usize::from(*mode)];
-        runs.push(Run { mode, seed: *seed, lengths: [length(2), length(4), length(6)], job: job.to_vec() });
+        let (mode, change) = (common::MODES[usize::from(mode % 2)], CHANGES[usize::from(mode / 2)]);
+        let lengths = [length(2), length(4), length(6)];
+        runs.push(Run { mode, change, seed: *seed, lengths, job: job.to_vec() });
         file = behind;
     }
     assert!(file.is_empty());

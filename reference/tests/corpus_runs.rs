@@ -6,7 +6,7 @@ use std::collections::{BTreeMap, BTreeSet};
 
 use common::made::{all, runs_of, Made};
 use common::{run_dirty, MODES};
-use flow_reference::corpus::Run;
+use flow_reference::corpus::{Change, Run};
 use flow_reference::output::{snapshot_length, ENTRY_BYTES};
 use flow_reference::print::print;
 use flow_reference::{decode, Answer, Mode, Outcome, Refusal};
@@ -19,12 +19,23 @@ fn ran() -> impl Iterator<Item = (&'static Run, Answer)> {
     })
 }
 
-/// Every run keeps the bytes that it has to keep.
-#[test]
-fn all_kept() {
-    for Made { run, text, .. } in all() {
-        assert_eq!(text.lines().last(), Some("kept"), "{run:?}");
+/// The last line of a run's text.
+fn last_line(run: &Run) -> &'static str {
+    if run.change == Change::Nothing {
+        "kept"
+    } else {
+        "changed"
     }
+}
+
+/// Every run keeps the bytes that it has to keep; where one of them is changed after it, that is said.
+#[test]
+fn kept_or_changed() {
+    for Made { run, text, .. } in all() {
+        assert_eq!(text.lines().last(), Some(last_line(run)), "{run:?}");
+    }
+    assert_eq!(all().iter().filter(|made| made.run.change != Change::Nothing).count(), 16);
+    assert!(runs_of("changes").iter().all(|run| run.change != Change::Nothing));
 }
 
 /// The text without its last line is the printing program's, if the buffers are long enough.
@@ -33,7 +44,7 @@ fn texts_of_the_printing_program() {
     let mut same = 0;
     for Made { run, outcome, text } in all() {
         if !matches!(outcome, Outcome::Refused(Refusal { number: 10.., .. })) {
-            assert_eq!(*text, print(&run.job, run.mode) + "kept\n");
+            assert_eq!(*text, print(&run.job, run.mode) + last_line(run) + "\n");
             same += 1;
         }
     }

@@ -1,12 +1,15 @@
 // The runs on standard input: a head of 10 bytes, then the job's bytes.
 use libc::STDIN_FILENO;
 ghost use Prim.Native.Nat.{_<_, _≤_};
+ghost use mathlib.Core.Path.{_≡_};
 ghost use lib.ListN.{length};
 ghost use Rattle.conformance.specs.Input.{Fits, Short};
 
-// What a run is asked to be: monitored or not, what its buffers hold before it, and the lengths of its job and of its buffers.
+// What a run is asked to be: monitored or not, which byte is changed after it, what its buffers hold before it, and the lengths of its job
+// and of its buffers.
 pub struct Head {
     pub monitored: bool,
+    pub change: u8,
     pub seed: u8,
     pub job: usize,
     pub trace: usize,
@@ -31,7 +34,7 @@ pub const WORK: usize = 16500;
 
 // A byte as a number, which is below 256.
 pub fn wide(x: u8) -> usize
-    ensures { λ r. ⌜ r < 256 ⌝ }
+    ensures { λ r. ⌜ (r ≡ x) × (r < 256) ⌝ }
 {
     x as usize
 }
@@ -48,7 +51,8 @@ fn read_head() -> Record {
         return Record::End;
     }
     Record::Run(Head {
-        monitored: head[0] == 0,
+        monitored: head[0] % 2 == 0,
+        change: head[0] / 2,
         seed: head[1],
         job: pair(head[2], head[3]),
         trace: pair(head[4], head[5]),

@@ -1,8 +1,10 @@
 // Runs the jobs on standard input one after the other, and prints for each the lines of its run, then `kept` if the run left every other
-// byte of its buffers as it was and its work buffer cleared, else `changed`.
+// byte of its buffers as it was and its work buffer cleared, else `changed`. After some runs it changes such a byte itself, so that
+// `changed` has to be printed.
 mod buffers;
 mod input;
 
+use buffers::change_one;
 use buffers::fill_all;
 use buffers::kept;
 use input::Head;
@@ -36,7 +38,32 @@ fn put_verdict(text: &mut [u8], at: usize, keeps: bool) -> usize
     put(text, at, b"changed\n")
 }
 
-// Runs a job with filled buffers, puts its lines and the line that says whether it kept its buffers, and answers where the text ends.
+// Runs a job with buffers that are filled, changes a byte if the head asks for it, puts the run's lines and the line that says whether the
+// buffers were kept, and answers the place after them.
+fn run_filled(
+    head: Head,
+    job: &[u8],
+    trace: &mut [u8],
+    snapshot: &mut [u8],
+    work: &mut [u8],
+    text: &mut [u8],
+    at: usize,
+) -> usize
+    requires { ⌜ at + 131080 ≤ length (now text) ⌝ }
+    ensures { λ r. ⌜ r ≤ at + 131080 ⌝ }
+{
+    let printed = run_to_text(text, at, job, trace, snapshot, work, head.monitored);
+    match printed {
+        Printed::Put(next, answer) => {
+            change_one(trace, snapshot, work, head.change);
+            let keeps = kept(answer, job, trace, snapshot, work, head.seed);
+            put_verdict(text, next, keeps)
+        }
+        Printed::NoRoom => at,
+    }
+}
+
+// The same, and fills the buffers before.
 fn conform(
     head: Head,
     job: &[u8],
@@ -46,20 +73,11 @@ fn conform(
     text: &mut [u8],
     at: usize,
 ) -> usize
-    requires { ⌜ length (now snapshot) ≤ 2700 ⌝ }
     requires { ⌜ at + 131080 ≤ length (now text) ⌝ }
     ensures { λ r. ⌜ r ≤ at + 131080 ⌝ }
 {
-    let seed = head.seed;
-    fill_all(trace, snapshot, work, seed);
-    let printed = run_to_text(text, at, job, trace, snapshot, work, head.monitored);
-    match printed {
-        Printed::Put(next, answer) => {
-            let keeps = kept(answer, job, trace, snapshot, work, seed);
-            put_verdict(text, next, keeps)
-        }
-        Printed::NoRoom => at,
-    }
+    fill_all(trace, snapshot, work, head.seed);
+    run_filled(head, job, trace, snapshot, work, text, at)
 }
 
 // Writes the text out if that of one more run may not fit after it, and answers where that goes.

@@ -2,6 +2,7 @@
 
 mod buffers;
 mod bytes;
+mod changes;
 mod edits;
 mod full;
 mod groups;
@@ -22,7 +23,7 @@ mod worlds;
 
 use std::collections::BTreeSet;
 
-pub use run::Run;
+pub use run::{Change, Run};
 use run::Runs;
 
 pub type Job = Vec<u8>;
@@ -76,6 +77,7 @@ pub fn families() -> Vec<Family> {
         ("pairs", pairs::jobs(350)),
     ];
     list.extend(pairs.map(|(name, jobs)| Family { name, runs: runs.pairs(&jobs) }));
+    list.push(Family { name: "changes", runs: changes::runs(&mut runs) });
     list
 }
 

@@ -12,7 +12,8 @@ use Rattle.conformance.proofs.conform_all.Tie as tie
 
 abbrev Inv-loop : tie.InvT-loop
 Inv-loop text₀ job₀ trace₀ snapshot₀ work₀ at₀ left₀ text job trace snapshot work at left =
-    (at + 131080 ≤ length text) × (length text ≡ length text₀) × (length job ≡ 16400) × (length trace ≡ 28800) × (length snapshot ≡ 2700) × (length work ≡ 16500)
+    (at + 131080 ≤ length text) × (length text ≡ length text₀) × (length job ≡ 16400) × (length trace ≡ 28800) × (length snapshot ≡ 2700)
+    × (length work ≡ 16500)
 
 abbrev μ-loop : tie.MeasureT-loop
 μ-loop text₀ job₀ trace₀ snapshot₀ work₀ at₀ left₀ text job trace snapshot work at left = left
@@ -45,29 +46,37 @@ slice-aggregate-conform : tie.Need-slice-aggregate-conform Inv-loop μ-loop
 slice-aggregate-conform c = sym (length-take-le _ _ (array-share-prefix-job (c .before)))
 
 array-borrow-prefix-trace : tie.Need-array-borrow-prefix-trace Inv-loop μ-loop
-array-borrow-prefix-trace c = omega (arith, found _ _ (c .before .before .before .before .before .read-run .ensures) (c .before .before .found .given .1) .trace)
+array-borrow-prefix-trace c = omega (
+  arith,
+  found _ _ (c .before .before .before .before .before .read-run .ensures) (c .before .before
+      .found .given .1) .trace,
+)
 
 slice-aggregate-conform-2 : tie.Need-slice-aggregate-conform-2 Inv-loop μ-loop
 slice-aggregate-conform-2 c = sym (length-take-le _ _ (array-borrow-prefix-trace (c .before)))
 
 array-borrow-prefix-snapshot : tie.Need-array-borrow-prefix-snapshot Inv-loop μ-loop
-array-borrow-prefix-snapshot c = omega (arith, found _ _ (c .before .before .before .before .before .before .read-run .ensures) (c .before .before .before .found .given .1) .snapshot)
+array-borrow-prefix-snapshot c = omega (
+  arith,
+  found _ _ (c .before .before .before .before .before .before .read-run .ensures) (c .before
+      .before .before .found .given .1) .snapshot,
+)
 
 slice-aggregate-conform-3 : tie.Need-slice-aggregate-conform-3 Inv-loop μ-loop
 slice-aggregate-conform-3 c = sym (length-take-le _ _ (array-borrow-prefix-snapshot (c .before)))
 
 array-borrow-prefix-work : tie.Need-array-borrow-prefix-work Inv-loop μ-loop
-array-borrow-prefix-work c = omega (arith, found _ _ (c .before .before .before .before .before .before .before .read-run .ensures) (c .before .before .before .before .found .given .1) .work)
+array-borrow-prefix-work c = omega (
+  arith,
+  found _ _ (c .before .before .before .before .before .before .before .read-run .ensures) (c
+      .before .before .before .before .found .given .1) .work,
+)
 
 slice-aggregate-conform-4 : tie.Need-slice-aggregate-conform-4 Inv-loop μ-loop
 slice-aggregate-conform-4 c = sym (length-take-le _ _ (array-borrow-prefix-work (c .before)))
 
 conform-requires : tie.Need-conform-requires Inv-loop μ-loop
-conform-requires c κs =
-    let w = found _ _ (c .before .before .before .before .before .before .before .before .before .read-run .ensures) (c .before .before .before .before .before .before .found .given .1) in
-    let l = c .before .before .before .before .before .before .before .before .before .before .before .before .loop in
-    let size = length-take-le (c .before .before .before .before .before .before .found .given .0 .0 .snapshot) (l .snapshot) (omega (arith, w .snapshot, l .inv .4)) in
-    (omega (arith, size, w .snapshot), search needs)
+conform-requires c κs = search needs
 
 make-room-requires : tie.Need-make-room-requires Inv-loop μ-loop
 make-room-requires c κs = search needs
@@ -80,10 +89,20 @@ loop-less c = search needs
 
 loop-again : tie.Need-loop-again Inv-loop μ-loop
 loop-again c =
-    let l = c .before .before .before .before .before .before .before .before .before .before .before .before .before .before .before .before .before .before .before .before .loop in
-    let h = c .before .before .before .before .before .before .before .before .before .before .before .before .before .before .found .given .0 .0 in
-    let x = c .before .before .before .before .before .before .before .conform .last in
-    (search needs, search needs, search needs, length-front (l .trace) (x .1 .1 .0) (h .trace) (search needs) ∙ l .inv .3, length-front (l .snapshot) (x .1 .1 .1 .0) (h .snapshot) (search needs) ∙ l .inv .4, length-front (l .work) (x .1 .1 .1 .1 .0) (h .work) (search needs) ∙ l .inv .5)
+    let l = c .before .before .before .before .before .before .before .before .before .before .before .before .before .before .before
+    .before .before .before .before .before .loop in
+    let h = c .before .before .before .before .before .before .before .before .before .before .before .before .before .before .found
+    .given .0 .0 in
+    let x = c .before .before .before .before .before .before .before .conform .last in (
+      search needs,
+      search needs,
+      search needs,
+      length-front (l .trace) (x .1 .1 .0) (h .trace) (search needs) ∙ l .inv .3,
+      length-front (l
+          .snapshot) (x .1 .1 .1 .0) (h .snapshot) (search needs) ∙ l .inv .4,
+      length-front (l .work) (x .1 .1 .1 .1 .0) (h .work)
+          (search needs) ∙ l .inv .5,
+    )
 
 same-length-2 : tie.Need-same-length-2 Inv-loop μ-loop
 same-length-2 c = search needs

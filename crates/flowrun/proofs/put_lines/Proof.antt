@@ -1,6 +1,6 @@
 -- `flowrun::put_lines` meets its contract: the text has room, and the buffers are as long as every run asks for.
 use Prim.Native.Nat.{_+_}
-use mathlib.Core.Path.{_≡_, ap}
+use mathlib.Core.Path.{ap}
 use native.Mathlib.Omega.{arith}
 use lib.ListN.{length, length-replicate}
 use denote.Ref.{now}

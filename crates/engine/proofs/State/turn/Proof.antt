@@ -73,14 +73,15 @@ element-write-self-3 c = search needs
 
 returns : tie.Need-returns
 returns c =
-    let p7 = c .before .before .before .before .before .before .before in
-    let p18 = p7 .before .before .before .before .before .before .before .before .before .before .before in
-    let z = p18 in
+    let z = c .before .before .before .before .before .before .before .before .before .before .before .before .before .before .before
+    .before .before .before in
     let s = z .args .t1 in
     let counts : length (s .waiting) ≡ 32 = search needs in
     let places : length (s .queue) ≡ 512 = search needs in
     carried-out (now (z .args .tables)) (z .args .fetched) s (z .args .n) (z .args .monitored) (z .pre .0) counts places
-    (p7 .plan-turn .result) (p7 .plan-turn .ensures) _ _ _ (c .before .before .change-queues .ensures) (c .change-variable .ensures)
+    (c .before .before .before .before .before .before .before .plan-turn .result)
+    (c .before .before .before .before .before .before .before .plan-turn .ensures) _ _ _
+    (c .before .before .change-queues .ensures) (c .change-variable .ensures)
 
 pub turn-spec : {M : Type 1} → statement M
 turn-spec =

@@ -1,15 +1,12 @@
--- `conformance::conform` meets its contract.
+-- `conformance::run_filled` meets its contract.
 use mathlib.Core.Path.{_≡_, ap}
 use native.Mathlib.Omega.{arith}
 use denote.Ref.{now}
 use lib.ListN.{length}
 use Rattle.printing.specs.Printing.{placeAfter}
 use borrow.Author.Needs.{needs}
-use Rattle.conformance.proofs.conform.Statement.{statement}
-use Rattle.conformance.proofs.conform.Tie as tie
-
-fill-all-requires : tie.Need-fill-all-requires
-fill-all-requires c κs = search needs
+use Rattle.conformance.proofs.run_filled.Statement.{statement}
+use Rattle.conformance.proofs.run_filled.Tie as tie
 
 run-to-text-requires : tie.Need-run-to-text-requires
 run-to-text-requires c κs = search needs
@@ -17,29 +14,33 @@ run-to-text-requires c κs = search needs
 enum-known-printed : tie.Need-enum-known-printed
 enum-known-printed c = search needs
 
+change-one-requires : tie.Need-change-one-requires
+change-one-requires c κs = search needs
+
 kept-requires : tie.Need-kept-requires
 kept-requires c κs = search needs
 
 put-verdict-requires : tie.Need-put-verdict-requires
 put-verdict-requires c κs =
     let same : length (c .before .before .before .before .before .before .before .before .before .before .before .before .before .before
-    .before .before .run-to-text .last .0) ≡ length (now (c .before .before .before .before .before .before .before .before
+    .before .before .before .before .before .before .before .before .before .before .before .before .run-to-text .last .0) ≡
+    length (now (c .before .before .before .before .before .before .before .before .before .before .before .before .before .before
     .before .before .before .before .before .before .before .before .before .before .before .before .before .before .before
-    .before .before .before .before .before .before .before .before .before .before .before .before .before .args .text)) = search
-    needs in
+    .before .before .before .before .before .before .before .args .text)) = search needs in
     let end = ap (placeAfter (c .before .before .before .before .before .before .before .before .before .before .before .before .before
     .before .before .before .before .before .before .before .before .before .before .before .before .before .before .before
     .before .before .before .before .before .before .before .before .args .at)) (c .before .before .before .before .before .before
-    .printed .given .1) in
+    .before .before .before .before .before .before .before .before .before .before .printed .given .1) in
     omega (
       arith,
       same,
       end,
       c .before .before .before .before .before .before .before .before .before .before .before .before .before
           .before .before .before .before .before .before .before .before .before .before .before .before .before .before .before
-          .before .before .before .before .before .before .before .before .pre .1,
+          .before .before .before .before .before .before .before .before .pre,
       c .before .before .before .before .before .before
-          .before .before .before .before .before .before .before .before .before .before .run-to-text .ensures .0,
+          .before .before .before .before .before .before .before .before .before .before .before .before .before .before .before
+          .before .before .before .before .before .run-to-text .ensures .0,
     )
 
 enum-told : tie.Need-enum-told
@@ -62,13 +63,15 @@ returns c =
     let end = ap (placeAfter (c .before .before .before .before .before .before .before .before .before .before .before .before .before
     .before .before .before .before .before .before .before .before .before .before .before .before .before .before .before
     .before .before .before .before .before .before .before .before .before .before .before .args .at)) (c .before .before .before
-    .before .before .before .before .before .before .printed .given .1) in
+    .before .before .before .before .before .before .before .before .before .before .before .before .before .before .before
+    .before .printed .given .1) in
     omega (
       arith,
       end,
       c .before .before .put-verdict .ensures,
       c .before .before .before .before .before .before .before .before .before
-          .before .before .before .before .before .before .before .before .before .before .run-to-text .ensures .0,
+          .before .before .before .before .before .before .before .before .before .before .before .before .before .before .before
+          .before .before .before .before .before .run-to-text .ensures .0,
     )
 
 same-length-5 : tie.Need-same-length-5
@@ -86,13 +89,13 @@ same-length-8 c = search needs
 returns-2 : tie.Need-returns-2
 returns-2 c = search needs
 
-pub conform-spec : {M : Type 1} → statement M
-conform-spec =
+pub run-filled-spec : {M : Type 1} → statement M
+run-filled-spec =
     tie.close
     (tie.spec
-    fill-all-requires
     run-to-text-requires
     enum-known-printed
+    change-one-requires
     kept-requires
     put-verdict-requires
     enum-told
