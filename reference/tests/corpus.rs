@@ -161,25 +161,20 @@ fn the_first_of_several_commands() {
 }
 
 /// The changes in the order of their numbers.
-const CHANGES: [Change; 5] = [
-    Change::Nothing,
-    Change::FirstOfWork,
-    Change::LastOfWork,
-    Change::LastOfTrace,
-    Change::LastOfSnapshot,
-];
+const CHANGES: [Change; 5] =
+    [Change::Nothing, Change::FirstOfWork, Change::LastOfWork, Change::LastOfTrace, Change::LastOfSnapshot];
 
 /// The runs of a file of records.
 fn read_back(mut file: &[u8]) -> Vec<Run> {
     let mut runs = Vec::new();
     while let [mode, seed, rest @ ..] = file {
-        let (head, behind) = rest.split_at(8);
+        let (head, rest) = rest.split_at(8);
         let length = |at: usize| usize::from(head[at]) + 256 * usize::from(head[at + 1]);
-        let (job, behind) = behind.split_at(length(0));
+        let (job, rest) = rest.split_at(length(0));
         let (mode, change) = (common::MODES[usize::from(mode % 2)], CHANGES[usize::from(mode / 2)]);
         let lengths = [length(2), length(4), length(6)];
         runs.push(Run { mode, change, seed: *seed, lengths, job: job.to_vec() });
-        file = behind;
+        file = rest;
     }
     assert!(file.is_empty());
     runs

@@ -18,7 +18,7 @@ use Rattle.tables.specs.Stands.{Stands}
 use Rattle.tables.proofs.Blank.{stands-blank}
 use Rattle.job.specs.declared.Verdict.{Verdict}
 use Rattle.job.specs.Decoding.{Decides}
-use Rattle.conformance.specs.Keeping.{fillByte, filling, allBelow, isKept}
+use Rattle.conformance.specs.Keeping.{fillByte, filling, allBelow, isKept, verdictLine}
 
 -- a byte of a filling, by its place modulo 256
 pub byte-same : (seed i : ℕ) → (seed + 31 * (i % 256)) % 256 ≡ fillByte seed i
@@ -101,3 +101,8 @@ part-more snapshot n = rw (add-one, number-one)
 pub stands-for : (d : Decoded) (t : List ℕ) (r : Verdict) → Decides d t r → Stands t (commandsOf d)
 stands-for (accepted past) t r h = h .judged .tables past refl
 stands-for (rejected q) t r h = rw (h .cleared q refl) stands-blank
+
+-- the line that says whether a run kept its buffers
+pub verdict-short : (keeps : Bool) → length (verdictLine keeps) ≤ 8
+verdict-short true = omega arith
+verdict-short false = omega arith

@@ -1,6 +1,6 @@
 -- What the buffers hold before a run, and what a run has to keep.
 use Prim.Native.Nat.{ℕ, zero, suc, _+_, _*_, _-_, _%_}
-use mathlib.Core.Bool.{Bool, true, _&&_}
+use mathlib.Core.Bool.{Bool, true, false, cond, _&&_}
 use mathlib.Core.List.{List, [], _∷_, _++_}
 use lib.Dec.{eqb}
 use lib.ListN.{length, getD, set}
@@ -32,11 +32,11 @@ isKept buffer from seed = allBelow (λ k. eqb (getD buffer (from + k) 0) (fillBy
 abbrev pub isCleared : List ℕ → Bool
 isCleared work = allBelow (λ k. eqb (getD work k 0) 0) workSize
 
--- the bytes of a snapshot of these nodes and variables: a byte outside reads 0
+-- the length of a snapshot of these nodes and variables; a byte outside reads 0
 abbrev pub sizeOf : List ℕ → ℕ → ℕ → ℕ
 sizeOf snapshot nodes variables = partAt snapshot nodes + 4 * variables
 
--- the bytes of the snapshot of a job
+-- the length of the snapshot of a job
 abbrev pub snapshotSize : List ℕ → List ℕ → ℕ
 snapshotSize job snapshot = sizeOf snapshot (nodesIn job) (variablesIn job)
 
@@ -58,3 +58,20 @@ changedAt buffer at = set buffer at ((getD buffer at 0 + 1) % 256)
 -- a buffer with its last byte changed so; unchanged if it has none
 abbrev pub changedLast : List ℕ → List ℕ
 changedLast buffer = changedAt buffer (length buffer - 1)
+
+-- the trace buffer after the byte with this number is changed: 3 is its last
+abbrev pub changedTrace : ℕ → List ℕ → List ℕ
+changedTrace which trace = cond (eqb which 3) (changedLast trace) trace
+
+-- the snapshot buffer after it: 4 is its last
+abbrev pub changedSnapshot : ℕ → List ℕ → List ℕ
+changedSnapshot which snapshot = cond (eqb which 4) (changedLast snapshot) snapshot
+
+-- the work buffer after it: 1 is its first, 2 its last
+abbrev pub changedWork : ℕ → List ℕ → List ℕ
+changedWork which work = cond (eqb which 1) (changedAt work 0) (cond (eqb which 2) (changedLast work) work)
+
+-- the lines `kept` and `changed`
+abbrev pub verdictLine : Bool → List ℕ
+verdictLine true = 107 ∷ 101 ∷ 112 ∷ 116 ∷ 10 ∷ []
+verdictLine false = 99 ∷ 104 ∷ 97 ∷ 110 ∷ 103 ∷ 101 ∷ 100 ∷ 10 ∷ []

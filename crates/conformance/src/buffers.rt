@@ -10,7 +10,7 @@ ghost use Prim.Native.Nat.{_<_};
 ghost use mathlib.Core.Path.{_≡_};
 ghost use lib.ListN.{length, getD};
 ghost use Rattle.conformance.specs.Keeping.{fillByte, filling, isKept, isCleared, sizeOf, snapshotSize, allKept, keeps};
-ghost use Rattle.conformance.specs.Keeping.{changedAt, changedLast};
+ghost use Rattle.conformance.specs.Keeping.{changedAt, changedLast, changedTrace, changedSnapshot, changedWork};
 
 // The bytes at the front of the work buffer that are 0 after a run.
 const CLEARED: usize = 16384;
@@ -68,7 +68,11 @@ fn change_last(buffer: &mut [u8])
 
 // Changes one byte that a run has to keep or to clear: 1 the first of the work buffer, 2 its last, 3 the last of the trace buffer, 4 that
 // of the snapshot buffer; another number none.
-pub fn change_one(trace: &mut [u8], snapshot: &mut [u8], work: &mut [u8], which: u8) {
+pub fn change_one(trace: &mut [u8], snapshot: &mut [u8], work: &mut [u8], which: u8)
+    ensures trace { λ _. ⌜ now (trace .exit) ≡ changedTrace which (now (trace .entry)) ⌝ }
+    ensures snapshot { λ _. ⌜ now (snapshot .exit) ≡ changedSnapshot which (now (snapshot .entry)) ⌝ }
+    ensures work { λ _. ⌜ now (work .exit) ≡ changedWork which (now (work .entry)) ⌝ }
+{
     match which {
         1 => change(work, 0),
         2 => change_last(work),

@@ -21,6 +21,8 @@ use text::put;
 ghost use mathlib.Core.Path.{_≡_};
 ghost use Prim.Native.Nat.{_+_, _≤_};
 ghost use lib.ListN.{length};
+ghost use Rattle.writing.specs.Writing.{Writes};
+ghost use Rattle.conformance.specs.Keeping.{verdictLine};
 
 // The bytes of text of one run at most, and of all that wait to be written.
 const LINES: usize = 131080;
@@ -30,7 +32,7 @@ const TEXT: usize = 262144;
 // Puts the line that says whether a run kept its buffers.
 fn put_verdict(text: &mut [u8], at: usize, keeps: bool) -> usize
     requires { ⌜ at + 8 ≤ length (now text) ⌝ }
-    ensures { λ r. ⌜ r ≤ at + 8 ⌝ }
+    ensures { λ r. ⌜ Writes (verdictLine keeps) (now (text .entry)) at (now (text .exit)) r ⌝ }
 {
     if keeps {
         return put(text, at, b"kept\n");

@@ -23,8 +23,8 @@ mod worlds;
 
 use std::collections::BTreeSet;
 
-pub use run::{Change, Run};
 use run::Runs;
+pub use run::{Change, Run};
 
 pub type Job = Vec<u8>;
 

@@ -4,6 +4,7 @@ use native.Mathlib.Omega.{arith}
 use denote.Ref.{now}
 use lib.ListN.{length}
 use Rattle.printing.specs.Printing.{placeAfter}
+use Rattle.conformance.proofs.Keeping.{verdict-short}
 use borrow.Author.Needs.{needs}
 use Rattle.conformance.proofs.run_filled.Statement.{statement}
 use Rattle.conformance.proofs.run_filled.Tie as tie
@@ -68,7 +69,8 @@ returns c =
     omega (
       arith,
       end,
-      c .before .before .put-verdict .ensures,
+      c .before .before .put-verdict .ensures .place,
+      verdict-short (c .before .before .before .before .kept .result),
       c .before .before .before .before .before .before .before .before .before
           .before .before .before .before .before .before .before .before .before .before .before .before .before .before .before
           .before .before .before .before .before .run-to-text .ensures .0,
