@@ -94,19 +94,13 @@ fn decide<'a>(
     if is_forbidden(tables, n, monitored, event) {
         let shown = redact(event);
         let entry = make_entry(n, shown);
-        return planned(
-            registers,
-            Change::Nothing,
-            Outcome::Stopped(Stop::Forbidden(entry)),
-        );
+        let forbidden = Outcome::Stopped(Stop::Forbidden(entry));
+        return planned(registers, Change::Nothing, forbidden);
     }
     let entry = make_entry(n, event);
     if blocks(tables, n, instruction, waiting) {
-        return planned(
-            registers,
-            Change::Nothing,
-            Outcome::Stopped(Stop::Full(entry)),
-        );
+        let full = Outcome::Stopped(Stop::Full(entry));
+        return planned(registers, Change::Nothing, full);
     }
     planned(effect.registers, change, Outcome::Made(entry))
 }
@@ -130,11 +124,8 @@ pub fn plan_turn<'a>(
     let i = n.0 as usize;
     if registers.position == IDLE {
         if waiting[i] == 0 {
-            return planned(
-                registers,
-                Change::Nothing,
-                Outcome::Stopped(Stop::Unready(n)),
-            );
+            let unready = Outcome::Stopped(Stop::Unready(n));
+            return planned(registers, Change::Nothing, unready);
         }
         let entry = make_entry(n, Event::Begin(oldest));
         let begun = Registers {

@@ -43,15 +43,31 @@ mul-put-node c = search needs
 
 put-node-requires : tie.Need-put-node-requires Inv-loop μ-loop
 put-node-requires c κs =
-    let p8 = c .before .before .before .before .before .before .before .before in
-    let p9 = p8 .before in
-    let p11 = p9 .before .before in
-    let z = p11 in
-    let l = p9 .loop in
+    let z = c .before .before .before .before .before .before .before .before .before .before .before in
+    let l = c .before .before .before .before .before .before .before .before .before .loop in
     let h = z .pre .0 in
     let slots : length (z .args .t2 .queue) ≡ 512 = search needs in (
-      (omega (arith, l .inv .1 .place, l .inv .1 .size, p8 .loop-test .taken, h .0, h .1), z .pre .1 .1 (l .n)),
-      (z .pre .1 .0 (l .n), omega (arith, p8 .loop-test .taken, h .1, slots)),
+      (
+        omega (
+          arith,
+          l .inv .1 .place,
+          l .inv .1 .size,
+          c .before .before .before .before .before .before .before .before
+              .loop-test .taken,
+          h .0,
+          h .1,
+        ),
+        z .pre .1 .1 (l .n),
+      ),
+      (
+        z .pre .1 .0 (l .n),
+        omega (
+          arith,
+          c .before .before .before .before .before .before .before .before .loop-test .taken,
+          h .1,
+          slots,
+        ),
+      ),
     )
 
 add-n : tie.Need-add-n Inv-loop μ-loop
@@ -62,19 +78,25 @@ loop-less c = search needs
 
 loop-again : tie.Need-loop-again Inv-loop μ-loop
 loop-again c =
-    let p11 = c .before .before .before .before .before .before .before .before .before .before .before in
-    let p12 = p11 .before in
-    let p14 = p12 .before .before in
-    let z = p14 in
-    let l = p12 .loop in
+    let z = c .before .before .before .before .before .before .before .before .before .before .before .before .before .before in
+    let l = c .before .before .before .before .before .before .before .before .before .before .before .before .loop in
     let h = z .pre .0 in
     let s = z .args .t2 in
     let counts : length (s .waiting) ≡ 32 = search needs in
     let slots : length (s .queue) ≡ 512 = search needs in (
-      omega (arith, p11 .loop-test .taken),
+      omega (arith, c .before .before .before .before .before .before .before .before .before .before .before .loop-test .taken),
       one-shown s (z .pre .1 .0) counts slots _ (l .n) (l .snapshot) (l .at) _ _
-          (omega (arith, p11 .loop-test .taken, h .1)) (omega (arith, p11 .loop-test .taken, h .0, h .1)) (search needs) (l .inv .1)
-          (c .before .before .put-node .ensures),
+          (omega (
+            arith,
+            c .before .before .before .before .before .before .before .before .before .before .before .loop-test .taken,
+            h .1,
+          )) (omega (
+            arith,
+            c .before .before .before .before .before .before .before .before .before .before .before
+                .loop-test .taken,
+            h .0,
+            h .1,
+          )) (search needs) (l .inv .1) (c .before .before .put-node .ensures),
     )
 
 put-words-requires : tie.Need-put-words-requires Inv-loop μ-loop
