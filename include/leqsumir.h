@@ -34,9 +34,9 @@ enum {
 
 /* Why a run stopped. */
 enum {
-    LEQSUMIR_TURNS_OUT = 0, /* every turn was completed */
+    LEQSUMIR_RAN_OUT = 0, /* every turn was completed */
     LEQSUMIR_FORBIDDEN = 1, /* the lists do not permit the entry; monitored runs alone */
-    LEQSUMIR_NOT_READY = 2, /* the node is idle and no message waits */
+    LEQSUMIR_UNREADY = 2, /* the node is idle and no message waits */
     LEQSUMIR_FULL = 3       /* a target of the send already holds 16 messages */
 };
 

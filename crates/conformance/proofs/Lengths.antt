@@ -4,10 +4,10 @@ use mathlib.Core.Bool.{Bool, true}
 use Rattle.conformance.specs.declared.input.Head.{Head}
 use Rattle.conformance.specs.declared.input.Record.{Record}
 use Rattle.conformance.specs.declared.input.Record.the-variants.{Run}
-use Rattle.conformance.specs.Input.{Within, Short, Fits}
+use Rattle.conformance.specs.Input.{HeadFits, Short, RecordFits}
 
-pub tested : (h : Head) (b : Bool) → Short h b → b ≡ true → Within h
+pub tested : (h : Head) (b : Bool) → Short h b → b ≡ true → HeadFits h
 tested h b s e = subst (λ (x : Bool). Short h x) e s
 
-pub found : (r : Record) (h : Head) → Fits r → r ≡ Run h → Within h
-found r h f e = subst (λ (x : Record). Fits x) e f
+pub found : (r : Record) (h : Head) → RecordFits r → r ≡ Run h → HeadFits h
+found r h f e = subst (λ (x : Record). RecordFits x) e f

@@ -6,7 +6,7 @@ use Rattle.conformance.specs.declared.input.Record.{Record}
 use Rattle.conformance.specs.declared.input.Record.the-variants.{Run, End}
 
 -- the lengths of a run are at most the largest
-pub record Within (h : Head) : Type 0 where
+pub record HeadFits (h : Head) : Type 0 where
   pub job : h .job ≤ 16400
   pub trace : h .trace ≤ 28800
   pub snapshot : h .snapshot ≤ 2700
@@ -14,10 +14,10 @@ pub record Within (h : Head) : Type 0 where
 
 -- the test for it
 abbrev pub Short : Head → Bool → Type 0
-Short h true = Within h
+Short h true = HeadFits h
 Short h false = Unit {0}
 
 -- a run that was read is within the lengths
-abbrev pub Fits : Record → Type 0
-Fits (Run h) = Within h
-Fits End = Unit {0}
+abbrev pub RecordFits : Record → Type 0
+RecordFits (Run h) = HeadFits h
+RecordFits End = Unit {0}

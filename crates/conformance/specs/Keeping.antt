@@ -33,12 +33,12 @@ abbrev pub isCleared : List ℕ → Bool
 isCleared work = allBelow (λ k. eqb (getD work k 0) 0) workSize
 
 -- the length of a snapshot of these nodes and variables; a byte outside reads 0
-abbrev pub sizeOf : List ℕ → ℕ → ℕ → ℕ
-sizeOf snapshot nodes variables = partAt snapshot nodes + 4 * variables
+abbrev pub lengthOf : List ℕ → ℕ → ℕ → ℕ
+lengthOf snapshot nodes variables = partAt snapshot nodes + 4 * variables
 
 -- the length of the snapshot of a job
-abbrev pub snapshotSize : List ℕ → List ℕ → ℕ
-snapshotSize job snapshot = sizeOf snapshot (nodesIn job) (variablesIn job)
+abbrev pub snapshotLength : List ℕ → List ℕ → ℕ
+snapshotLength job snapshot = lengthOf snapshot (nodesIn job) (variablesIn job)
 
 -- whether trace, snapshot and work buffer have the bytes of a filling, each from a place on
 abbrev pub allKept : List ℕ → ℕ → List ℕ → ℕ → List ℕ → ℕ → ℕ → Bool
@@ -49,7 +49,7 @@ allKept trace entries snapshot shown work cleared seed =
 abbrev pub keeps : Answer → List ℕ → List ℕ → List ℕ → List ℕ → ℕ → Bool
 keeps (a.Refused r) job trace snapshot work seed = allKept trace 0 snapshot 0 work 0 seed
 keeps (a.Ended x) job trace snapshot work seed =
-    isCleared work && allKept trace (7 * x .turns) snapshot (snapshotSize job snapshot) work workSize seed
+    isCleared work && allKept trace (7 * x .turns) snapshot (snapshotLength job snapshot) work workSize seed
 
 -- a buffer with one more, modulo 256, at a place; unchanged if it has no such place
 abbrev pub changedAt : List ℕ → ℕ → List ℕ

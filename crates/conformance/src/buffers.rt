@@ -9,7 +9,7 @@ use tables::cells::CELLS;
 ghost use Prim.Native.Nat.{_<_};
 ghost use mathlib.Core.Path.{_≡_};
 ghost use lib.ListN.{length, getD};
-ghost use Rattle.conformance.specs.Keeping.{fillByte, filling, isKept, isCleared, sizeOf, snapshotSize, allKept, keeps};
+ghost use Rattle.conformance.specs.Keeping.{fillByte, filling, isKept, isCleared, lengthOf, snapshotLength, allKept, keeps};
 ghost use Rattle.conformance.specs.Keeping.{changedAt, changedLast, changedTrace, changedSnapshot, changedWork};
 
 // The bytes at the front of the work buffer that are 0 after a run.
@@ -124,7 +124,7 @@ fn is_cleared(work: &[u8]) -> bool
 // The bytes of a snapshot (01's "picture") of these nodes and variables: 10 for each node with 4 for each message that waits, 4 for each
 // variable.
 fn size_of(snapshot: &[u8], nodes: u32, variables: u32) -> usize
-    ensures { λ r. ⌜ r ≡ sizeOf (now (snapshot .entry)) nodes variables ⌝ }
+    ensures { λ r. ⌜ r ≡ lengthOf (now (snapshot .entry)) nodes variables ⌝ }
 {
     let mut place: usize = 0;
     let mut n: u32 = 0;
@@ -137,7 +137,7 @@ fn size_of(snapshot: &[u8], nodes: u32, variables: u32) -> usize
 
 // The bytes of the snapshot of a job; a refused one has no nodes and variables.
 fn snapshot_size(job: &[u8], snapshot: &[u8]) -> usize
-    ensures { λ r. ⌜ r ≡ snapshotSize (now (job .entry)) (now (snapshot .entry)) ⌝ }
+    ensures { λ r. ⌜ r ≡ snapshotLength (now (job .entry)) (now (snapshot .entry)) ⌝ }
 {
     let mut tables = [0u32; CELLS];
     decode(job, &mut tables);

@@ -3,7 +3,7 @@ use libc::STDIN_FILENO;
 ghost use Prim.Native.Nat.{_<_, _≤_};
 ghost use mathlib.Core.Path.{_≡_};
 ghost use lib.ListN.{length};
-ghost use Rattle.conformance.specs.Input.{Fits, Short};
+ghost use Rattle.conformance.specs.Input.{RecordFits, Short};
 
 // What a run is asked to be: monitored or not, which byte is changed after it, what its buffers hold before it, and the lengths of its job
 // and of its buffers.
@@ -84,7 +84,7 @@ fn is_short(head: Head) -> bool
 // above the largest.
 pub fn read_run(job: &mut [u8]) -> Record
     requires { ⌜ 16400 ≤ length (now job) ⌝ }
-    ensures { λ r. ⌜ Fits r ⌝ }
+    ensures { λ r. ⌜ RecordFits r ⌝ }
 {
     let Record::Run(head) = read_head() else {
         return Record::End;

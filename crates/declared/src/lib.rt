@@ -1,4 +1,4 @@
-// What the tables say of flows, nodes, variables and functions, each under its own kind of number.
+// What the tables say of flows, nodes, variables, functions, wires, handlers and first messages, each under its own kind of number.
 ghost use mathlib.Core.Path.{_≡_};
 ghost use Rattle.model.specs.Declared.{isSeen};
 ghost use Rattle.tables.specs.Tables.{countIn, groupIn, openIn, flowIn, startIn, funAnswerIn, sharedIn, seesIn, lengthIn, bodyIn};

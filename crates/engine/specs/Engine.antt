@@ -30,7 +30,7 @@ pub record Starts (t : List ℕ) (s : State) : Type 0 where
   pub start : (hs : Handlers) → view s ≡ initialState (programIn t hs)
 
 -- a turn of node n: no more messages wait at a node than it has slots; outcome and state are what the turn of the program in the tables
--- comes to, whatever its handlers are, if this stands in the node's own at its position; and a stop leaves the whole state, free slots
+-- comes to, whatever its handlers are, if `fetched` stands in the node's own at its position; and a stop leaves the whole state, free slots
 -- included
 pub record Turns (t : List ℕ) (fetched : Fetched) (n : ℕ) (monitored : Bool) (before : State) (turned : Turned) : Type 0 where
   pub bounded : BoundedCounts (turned .state .waiting)

@@ -1,6 +1,10 @@
 // The engine: the state of a run, its start, and one turn.
+ghost use mathlib.Core.Path.{_≡_};
+ghost use mathlib.Core.Logic.{_⊎_};
+ghost use mathlib.Core.Option.{none};
 ghost use Prim.Native.Nat.{_<_};
 ghost use lib.ListN.{getD};
+ghost use Rattle.command.specs.Instructions.{fetchedOf};
 ghost use Rattle.memory.specs.Queues.{BoundedCounts};
 ghost use Rattle.engine.specs.Engine.{Starts, Turns};
 use command::instruction::Fetched;
@@ -54,7 +58,8 @@ impl State {
     // One turn of a node, by the tables and by what stands in its handler at its position: planned first, and then carried out.
     pub fn turn(mut self, tables: &[u32], fetched: Fetched, n: NodeNum, monitored: bool) -> Turned
         requires { ⌜ BoundedCounts (self .waiting) ⌝ }
-        requires { ⌜ (n .0 < 32) × (getD (self .position) (n .0) 0 < 256) ⌝ }
+        requires { ⌜ n .0 < 32 ⌝ }
+        requires { ⌜ (fetchedOf fetched ≡ none) ⊎ (getD (self .position) (n .0) 0 < 4294967295) ⌝ }
         ensures { λ r. ⌜ Turns (now (tables .entry)) fetched (n .0) monitored self r ⌝ }
     {
         let i = n.0 as usize;

@@ -11,7 +11,7 @@ ghost use lib.ListN.{length};
 ghost use Rattle.model.specs.Refusal.{sizes};
 ghost use Rattle.writing.specs.Writing.{Writes};
 ghost use Rattle.run.specs.Answers.{resultFor};
-ghost use Rattle.flowrun.specs.Reading.{Within};
+ghost use Rattle.flowrun.specs.Reading.{ReadWithin};
 ghost use Rattle.printing.specs.Printing.{resultLines, textSize};
 
 // The bytes that are read at most: one more than a job may have, so that a longer one is refused for its length.
@@ -61,7 +61,7 @@ fn asked() -> Order {
 
 // Reads once from standard input, to the front of a buffer.
 fn read_part(buffer: &mut [u8]) -> Input
-    ensures { λ r. ⌜ Within (length (now (buffer .entry))) r ⌝ }
+    ensures { λ r. ⌜ ReadWithin (length (now (buffer .entry))) r ⌝ }
 {
     let got = libc::read(STDIN_FILENO, buffer);
     if got < 0 {
@@ -72,7 +72,7 @@ fn read_part(buffer: &mut [u8]) -> Input
 
 // Reads from standard input to the front of a buffer, until the buffer is full, the input ends or a read fails.
 fn read_job(job: &mut [u8]) -> Input
-    ensures { λ r. ⌜ Within (length (now (job .entry))) r ⌝ }
+    ensures { λ r. ⌜ ReadWithin (length (now (job .entry))) r ⌝ }
 {
     let mut size: usize = 0;
     while size < job.len() {

@@ -21,26 +21,26 @@ use Rattle.command.specs.Instructions.{recognised, commandIn}
 use Rattle.command.proofs.Fetching.{command-inside, command-after}
 use Rattle.tables.specs.Tables.{lengthIn}
 use Rattle.command.proofs.Handled.{named-recognised}
-use Rattle.handlers.specs.Loading.{slotOf, loaded, fetchedIn, handlersIn}
+use Rattle.handlers.specs.Loading.{slotOf, loaded, slotIn, handlersIn}
 use Rattle.handlers.proofs.Slots.{length-loaded, handler-loaded}
 
 -- by the node, by the position, by the length, and from the slot
 module _ (w : List ℕ) (n i : ℕ) where
-  pub no-node : 32 ≤ n → instruction SKIP 0 ≡ fetchedIn w n i
+  pub no-node : 32 ≤ n → instruction SKIP 0 ≡ slotIn w n i
   no-node h = rw (le-ltb n 32 h)
 
-  pub no-position : n < 32 → 64 ≤ i → instruction SKIP 0 ≡ fetchedIn w n i
+  pub no-position : n < 32 → 64 ≤ i → instruction SKIP 0 ≡ slotIn w n i
   no-position h k = rw (lt-ltb n 32 h, le-ltb i 64 k)
 
-  pub no-room : n < 32 → i < 64 → length w < 16384 → instruction SKIP 0 ≡ fetchedIn w n i
+  pub no-room : n < 32 → i < 64 → length w < 16384 → instruction SKIP 0 ≡ slotIn w n i
   no-room h k l = rw (lt-ltb n 32 h, lt-ltb i 64 k, lt-leb 16384 (length w) l)
 
-  pub from-slot : n < 32 → i < 64 → 16384 ≤ length w → fetchedIn w n i ≡ recognised (getD w (slotOf n i) 0) (numberAt w (slotOf n i + 1) 4)
+  pub from-slot : n < 32 → i < 64 → 16384 ≤ length w → slotIn w n i ≡ recognised (getD w (slotOf n i) 0) (numberAt w (slotOf n i + 1) 4)
   from-slot h k l = rw (lt-ltb n 32 h, lt-ltb i 64 k, le-leb 16384 (length w) l)
 
   pub made :
       (at x : ℕ) (r : Instruction) → n < 32 → i < 64 → 16384 ≤ length w → at ≡ slotOf n i → x ≡ numberAt w (at + 1) 4
-      → r ≡ recognised (getD w at 0) x → r ≡ fetchedIn w n i
+      → r ≡ recognised (getD w at 0) x → r ≡ slotIn w n i
   made at x r h k l a e q = q ∙ rw (e, a) (sym (from-slot h k l))
 
 -- a handler is that of a node
@@ -54,7 +54,7 @@ handler-inside past v n i h = by-range (ltb n 32) refl
 -- what is fetched after loading
 pub fetched-loaded :
     (w : List ℕ) (past : List Command) → 16384 ≤ length w → Valid past → CommandsFit past
-    → (n i : ℕ) → i < length (handlerOf past n) → fetchedIn (loaded w past) n i ≡ getD (handlerOf past n) i (instruction 0 0)
+    → (n i : ℕ) → i < length (handlerOf past n) → slotIn (loaded w past) n i ≡ getD (handlerOf past n) i (instruction 0 0)
 fetched-loaded w past size v fit n i h =
     let short : i < 64 = omega (arith, length-handler past n, limits past v .handlers n) in
     let same = handler-loaded w past size v fit n i (omega (arith, length-handler past n)) in
@@ -63,11 +63,11 @@ fetched-loaded w past size v fit n i h =
 
 -- what stands at a position of the handlers in tables and work buffer
 module _ (t w : List ℕ) (n position : ℕ) where
-  pub handlers-inside : position < lengthIn t n → commandIn (handlersIn t w n) position ≡ some (fetchedIn w n position)
+  pub handlers-inside : position < lengthIn t n → commandIn (handlersIn t w n) position ≡ some (slotIn w n position)
   handlers-inside h =
-      let l = length-tabulate (lengthIn t n) (fetchedIn w n) in
+      let l = length-tabulate (lengthIn t n) (slotIn w n) in
       command-inside (handlersIn t w n) position (omega (arith, l))
-      ∙ ap some (getD-tabulate (lengthIn t n) position (fetchedIn w n) (instruction 0 0) h)
+      ∙ ap some (getD-tabulate (lengthIn t n) position (slotIn w n) (instruction 0 0) h)
 
   pub handlers-after : lengthIn t n ≤ position → commandIn (handlersIn t w n) position ≡ none
-  handlers-after h = let l = length-tabulate (lengthIn t n) (fetchedIn w n) in command-after (handlersIn t w n) position (omega (arith, l))
+  handlers-after h = let l = length-tabulate (lengthIn t n) (slotIn w n) in command-after (handlersIn t w n) position (omega (arith, l))

@@ -30,12 +30,12 @@ loaded w (c ∷ past) = cond (isHandler c) (stored (loaded w past) (slotOf (open
     (c .operands .first)) (loaded w past)
 
 -- the command of a node at a position, as it stands in the work buffer; SKIP where there is no slot
-abbrev pub fetchedIn : List ℕ → ℕ → ℕ → Instruction
-fetchedIn w n i =
+abbrev pub slotIn : List ℕ → ℕ → ℕ → Instruction
+slotIn w n i =
     cond (ltb n maxNodes && (ltb i maxHandler && leb workSize (length w)))
     (recognised (getD w (slotOf n i) 0) (numberAt w (slotOf n i + 1) 4))
     (instruction SKIP 0)
 
 -- the handlers in the work buffer `w`, as long as the tables `t` say
 abbrev pub handlersIn : List ℕ → List ℕ → Handlers
-handlersIn t w n = tabulate (lengthIn t n) (fetchedIn w n)
+handlersIn t w n = tabulate (lengthIn t n) (slotIn w n)

@@ -19,7 +19,7 @@ use Rattle.model.proofs.Valid.{job-accepted, job-valid}
 use Rattle.model.proofs.Words.{CommandsFit, job-fit}
 use Rattle.tables.specs.Tables.{countIn, lengthIn}
 use Rattle.tables.specs.Stands.{Stands}
-use Rattle.handlers.specs.Loading.{fetchedIn, handlersIn, loaded}
+use Rattle.handlers.specs.Loading.{slotIn, handlersIn, loaded}
 use Rattle.handlers.proofs.Slots.{length-loaded, beyond-loaded}
 use Rattle.handlers.proofs.Fetched.{fetched-loaded}
 use Rattle.tables.specs.Programs.{programIn}
@@ -28,13 +28,13 @@ use Rattle.job.proofs.Schedule.{turn-at}
 
 module _ (t w : List ℕ) (past : List Command) (s : Stands t past) (size : 16384 ≤ length w) (v : Valid past) (fit : CommandsFit past) where
   -- the handler of a node
-  same-handler : (n : ℕ) → tabulate (lengthIn t n) (fetchedIn (loaded w past) n) ≡ handlerOf past n
+  same-handler : (n : ℕ) → tabulate (lengthIn t n) (slotIn (loaded w past) n) ≡ handlerOf past n
   same-handler n =
       let e : lengthIn t n ≡ length (handlerOf past n) = s .lengths n ∙ sym (length-handler past n) in
-      ext-getD (instruction 0 0) _ (handlerOf past n) (length-tabulate (lengthIn t n) (fetchedIn (loaded w past) n) ∙ e)
+      ext-getD (instruction 0 0) _ (handlerOf past n) (length-tabulate (lengthIn t n) (slotIn (loaded w past) n) ∙ e)
       (λ i h.
-      let l : i < lengthIn t n = omega (arith, length-tabulate (lengthIn t n) (fetchedIn (loaded w past) n)) in
-      getD-tabulate (lengthIn t n) i (fetchedIn (loaded w past) n) (instruction 0 0) l ∙ fetched-loaded w past size v fit n i (omega arith))
+      let l : i < lengthIn t n = omega (arith, length-tabulate (lengthIn t n) (slotIn (loaded w past) n)) in
+      getD-tabulate (lengthIn t n) i (slotIn (loaded w past) n) (instruction 0 0) l ∙ fetched-loaded w past size v fit n i (omega arith))
 
   pub same-program : programIn t (handlersIn t (loaded w past)) ≡ programOf past
   unfolding programIn programOf
@@ -60,7 +60,7 @@ module _ (t w : List ℕ) (past : List Command) (s : Stands t past) (size : 1638
 
 same-fetched :
     (w : List ℕ) (past : List Command) → 16384 ≤ length w → Valid past → CommandsFit past
-    → (n i : ℕ) → i < length (programOf past .handler n) → fetchedIn (loaded w past) n i ≡ instructionAt (programOf past) n i
+    → (n i : ℕ) → i < length (programOf past .handler n) → slotIn (loaded w past) n i ≡ instructionAt (programOf past) n i
 unfolding programOf
 same-fetched w past size v fit = fetched-loaded w past size v fit
 

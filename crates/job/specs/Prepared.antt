@@ -13,7 +13,7 @@ use Rattle.model.specs.Valid.{Bytes}
 use Rattle.tables.specs.Tables.{countIn}
 use Rattle.tables.specs.Stands.{Stands}
 use Rattle.tables.specs.Programs.{programIn}
-use Rattle.handlers.specs.Loading.{fetchedIn, handlersIn, loaded}
+use Rattle.handlers.specs.Loading.{slotIn, handlersIn, loaded}
 
 -- turn k of a job, counted from 0: the turns are the last commands of a job, 2 bytes each
 abbrev pub turnIn : List ℕ → List ℕ → ℕ → ℕ
@@ -24,7 +24,7 @@ turnIn job t k = getD job (length job - 2 * countIn t TURN + 2 * k + 1) 0
 -- `before` is the work buffer before loading, `w` the one after it
 pub record Prepared (job t before w : List ℕ) (past : List Command) : Type 0 where
   pub program : programIn t (handlersIn t w) ≡ programOf past
-  pub fetched : (n i : ℕ) → i < length (programOf past .handler n) → fetchedIn w n i ≡ instructionAt (programOf past) n i
+  pub fetched : (n i : ℕ) → i < length (programOf past .handler n) → slotIn w n i ≡ instructionAt (programOf past) n i
   pub turns : countIn t TURN ≡ length (turnsOf past)
   pub turn : (k : ℕ) → k < length (turnsOf past) → turnIn job t k ≡ getD (turnsOf past) k 0
   pub size : length w ≡ length before

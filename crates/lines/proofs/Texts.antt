@@ -8,7 +8,7 @@ use Rattle.text.specs.Text.{decimal, field, fields, line, joined}
 use Rattle.text.proofs.Putting.{fields-append, fields-first, front-room, back-room, two-put, room-first, room-second, room-third, three-put}
 use Rattle.model.specs.Command.{numberAt}
 use Rattle.writing.specs.Writing.{Writes}
-use Rattle.lines.specs.Lines.{nodeWord, varWord, entryLine, messagesAt, waitingAt, nodeLine, variableLine}
+use Rattle.lines.specs.Lines.{nodeWord, varWord, entryLine, messagesAt, waitingIn, nodeLine, variableLine}
 
 -- an entry
 pub entry-same :
@@ -32,7 +32,7 @@ messages-each snapshot place count = sym (fields-first (λ i. numberAt snapshot 
 module _
     (snapshot : List ℕ) (place n position accumulator message waiting : ℕ)
     (e₁ : position ≡ numberAt snapshot place 1) (e₂ : accumulator ≡ numberAt snapshot (place + 1) 4)
-    (e₃ : message ≡ numberAt snapshot (place + 5) 4) (e₄ : waiting ≡ waitingAt snapshot place)
+    (e₃ : message ≡ numberAt snapshot (place + 5) 4) (e₄ : waiting ≡ waitingIn snapshot place)
     (before : List ℕ) (at : ℕ) (room : at + length (nodeLine snapshot place n) ≤ length before)
   where
     abbrev five : List ℕ

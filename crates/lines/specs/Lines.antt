@@ -35,11 +35,11 @@ unfoldable pub messagesAt : List ℕ → ℕ → ℕ → List ℕ
 messagesAt snapshot place count = joined (λ i. numberAt snapshot (place + 4 * i) 4 ∷ []) count
 
 -- how many messages wait at the node whose part begins at a place of the snapshot, and where the next part begins
-abbrev pub waitingAt : List ℕ → ℕ → ℕ
-waitingAt snapshot place = numberAt snapshot (place + 9) 1
+abbrev pub waitingIn : List ℕ → ℕ → ℕ
+waitingIn snapshot place = numberAt snapshot (place + 9) 1
 
 abbrev pub nextPart : List ℕ → ℕ → ℕ
-nextPart snapshot place = place + 10 + 4 * waitingAt snapshot place
+nextPart snapshot place = place + 10 + 4 * waitingIn snapshot place
 
 -- where the part of node n begins
 unfoldable pub partAt : List ℕ → ℕ → ℕ
@@ -50,8 +50,8 @@ partAt snapshot (suc n) = nextPart snapshot (partAt snapshot n)
 unfoldable pub nodeLine : List ℕ → ℕ → ℕ → List ℕ
 nodeLine snapshot place n =
     line nodeWord
-    (n ∷ numberAt snapshot place 1 ∷ numberAt snapshot (place + 1) 4 ∷ numberAt snapshot (place + 5) 4 ∷ waitingAt snapshot place
-    ∷ messagesAt snapshot (place + 10) (waitingAt snapshot place))
+    (n ∷ numberAt snapshot place 1 ∷ numberAt snapshot (place + 1) 4 ∷ numberAt snapshot (place + 5) 4 ∷ waitingIn snapshot place
+    ∷ messagesAt snapshot (place + 10) (waitingIn snapshot place))
 
 -- variable x of those from a place of the snapshot on: `var`, number, value
 unfoldable pub variableLine : List ℕ → ℕ → ℕ → List ℕ

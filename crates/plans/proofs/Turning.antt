@@ -2,6 +2,8 @@
 use Prim.Native.Nat.{ℕ, _≤_, _<_}
 use mathlib.Core.Path.{_≡_, refl, sym, _∙_, ap, subst}
 use mathlib.Core.Bool.{Bool, true, false, not, _&&_}
+use mathlib.Core.Logic.{_⊎_, inl, inr}
+use mathlib.Core.Option.{none, some}
 use native.Mathlib.Omega.{arith}
 use lib.ListN.{length}
 use Rattle.model.specs.Program.{Program}
@@ -10,6 +12,10 @@ use Rattle.model.specs.Declared.{Instruction}
 use Rattle.model.specs.Turn.{Turned, entry, turn, oldest, begun, finished, executed, instructionAt}
 use Rattle.model.proofs.Turns.{turn-unready, turn-begun, turn-executed, turn-finished}
 use Rattle.command.specs.declared.numbers.NodeNum.{NodeNum}
+use Rattle.command.specs.declared.instruction.Instruction.{Instruction as Code}
+use Rattle.command.specs.declared.instruction.Fetched.{Fetched}
+use Rattle.command.specs.declared.instruction.Fetched.the-variants as f
+use Rattle.command.specs.Instructions.{instructionOf, fetchedOf}
 use Rattle.entries.specs.declared.Event.the-variants as e
 use Rattle.entries.specs.declared.Outcome.the-variants as o
 use Rattle.entries.specs.declared.Stop.the-variants as st
@@ -36,21 +42,21 @@ module _ (P : Program) (s : State) (node : NodeNum) (monitored : Bool) (l : Regi
 
   pub unready-planned : l .position ≡ 255 → waitingAt s (node .0) ≡ 0
       → Plans P s (node .0) (ruleOf monitored P s (node .0)) (plan l c.Nothing (o.Stopped (st.Unready node)))
-  unready-planned p none =
+  unready-planned p empty =
       stop-planned P s node l own _ 2 (entry (node .0) 0 0 0)
-      (ruled _ (turn-unready P s (node .0) (at ∙ p) none) ∙ judged-stopped monitored P 2 (entry (node .0) 0 0 0))
+      (ruled _ (turn-unready P s (node .0) (at ∙ p) empty) ∙ judged-stopped monitored P 2 (entry (node .0) 0 0 0))
       (o.Stopped (st.Unready node)) (λ after. refl)
 
   pub begun-planned :
       l .position ≡ 255 → ¬ (waitingAt s (node .0) ≡ 0) → (first : ℕ) → oldest s (node .0) ≡ first
       → Plans P s (node .0) (ruleOf monitored P s (node .0)) (plan (registers 0 0 first) c.Take (o.Made (entryBy node (e.Begin first))))
-  begun-planned p some first h =
+  begun-planned p waits first h =
       subst (λ (v : ℕ). Plans P s (node .0) (ruleOf monitored P s (node .0))
       (plan (registers 0 0 v) c.Take (o.Made (entryBy node (e.Begin v))))) h
       (made-planned P s node (registers 0 0 (oldest s (node .0))) c.Take _ (entry (node .0) 1 0 (oldest s (node .0))) (begun s (node .0))
-      (ruled _ (turn-begun P s (node .0) (at ∙ p) some) ∙ judged-made monitored P (entry (node .0) 1 0 (oldest s (node .0)))
+      (ruled _ (turn-begun P s (node .0) (at ∙ p) waits) ∙ judged-made monitored P (entry (node .0) 1 0 (oldest s (node .0)))
       (begun s (node .0)) (never monitored))
-      (e.Begin (oldest s (node .0))) refl refl (omega (arith, some)))
+      (e.Begin (oldest s (node .0))) refl refl (omega (arith, waits)))
 
   pub finished-planned :
       ¬ (l .position ≡ 255) → length (P .handler (node .0)) ≤ l .position
@@ -69,3 +75,12 @@ module _ (P : Program) (s : State) (node : NodeNum) (monitored : Bool) (l : Regi
       subst (λ (x : Turned). Plans P s (node .0) x p)
       (sym (ruled _ (turn-executed P s (node .0) (λ r. q (sym at ∙ r)) (omega (arith, at)))
       ∙ ap (λ (j : Instruction). judged monitored P (executed P s (node .0) j)) (ap (instructionAt P (node .0)) at ∙ sym same))) plans
+
+-- where a command was fetched, the next position can be counted
+pub countable :
+    (fetched : Fetched) (i : Code) (position : ℕ) → (fetchedOf fetched ≡ none) ⊎ (position < 4294967295) → fetched ≡ f.Command i → position < 4294967295
+countable fetched i position (inl e) is =
+    let never : some (instructionOf i) ≡ none = sym (ap fetchedOf is) ∙ e in
+    let z : _≡_ {A = ℕ} 0 1 = cc in
+    absurd (omega arith)
+countable fetched i position (inr h) is = h

@@ -58,7 +58,7 @@ PlansCommand t n monitored i l ws variables p =
     → Plans (programIn t hs) s (n .0) (judged monitored (programIn t hs) (executed (programIn t hs) s (n .0) (instructionOf i))) p
 
 -- the plan is the node's turn, in every state with these registers, counts and variables and, if a message waits, this oldest one,
--- whatever the handlers are, if this stands in the node's own at its position
+-- whatever the handlers are, if `fetched` stands in the node's own at its position
 abbrev pub PlansTurn : List ℕ → Fetched → NodeNum → Bool → Registers → ℕ → List ℕ → List ℕ → Plan → Type 0
 PlansTurn t fetched n monitored l first ws variables p =
     (hs : Handlers) (s : State) → Shows s (n .0) l variables → Waits s ws → (1 ≤ waitingAt s (n .0) → oldest s (n .0) ≡ first)

@@ -1,9 +1,11 @@
 // What one turn of a node comes to, planned from numbers before anything is changed.
 ghost use mathlib.Core.Path.{_≡_};
+ghost use mathlib.Core.Logic.{_⊎_};
+ghost use mathlib.Core.Option.{none};
 ghost use mathlib.Core.Bool.{not, _&&_};
-ghost use mathlib.Core.List.{List};
 ghost use Prim.Native.Nat.{ℕ, _<_};
 ghost use Rattle.model.specs.Permission.{permitted};
+ghost use Rattle.command.specs.Instructions.{fetchedOf};
 ghost use Rattle.tables.specs.Programs.{Handlers, programIn};
 ghost use Rattle.entries.specs.Entries.{entryFor};
 ghost use Rattle.plans.specs.Plans.{plan, entryBy, Blocks, PlansCommand, PlansTurn};
@@ -117,7 +119,8 @@ pub fn plan_turn<'a>(
     waiting: &'a [u8; 32],
     variable: &'a [u32],
 ) -> Plan
-    requires { ⌜ (n .0 < 32) × (registers .position < 256) ⌝ }
+    requires { ⌜ n .0 < 32 ⌝ }
+    requires { ⌜ (fetchedOf fetched ≡ none) ⊎ (registers .position < 4294967295) ⌝ }
     ensures { λ r. ⌜ PlansTurn (now (tables .entry)) fetched n monitored registers oldest (now (waiting .entry))
         (now (variable .entry)) r ⌝ }
 {

@@ -10,7 +10,7 @@ use lib.ListN.{length, getD, length-append, length-map, List·getD-eq-default}
 use lib.Seq.{getD-append-seam, getD-append-add}
 use Rattle.text.specs.Text.{joined}
 use Rattle.text.proofs.Putting.{bytes-each}
-use Rattle.lines.specs.Lines.{entryLine, messagesAt, waitingAt as waitingIn, nodeLine, variableLine, nodeLines, snapshotLines, runLines}
+use Rattle.lines.specs.Lines.{entryLine, messagesAt, waitingIn, nodeLine, variableLine, nodeLines, snapshotLines, runLines}
 use Rattle.lines.proofs.Texts.{entry-same, variable-same}
 use Rattle.model.specs.Table.{GET, PUT, PLUS, SEND, CALL}
 use Rattle.model.specs.Command.{Command, numberAt}

@@ -6,7 +6,7 @@ use native.Mathlib.Nat.{mul-suc}
 use native.Mathlib.Omega.{arith}
 use lib.ListN.{length, length-append}
 use Rattle.text.specs.Text.{decimal, field, fields, line, joined}
-use Rattle.lines.specs.Lines.{endWord, nodeWord, varWord, refusedWord, entryLine, endLine, messagesAt, waitingAt, partAt, nodeLine}
+use Rattle.lines.specs.Lines.{endWord, nodeWord, varWord, refusedWord, entryLine, endLine, messagesAt, waitingIn, partAt, nodeLine}
 use Rattle.lines.specs.Lines.{variableLine, nodeLines, snapshotLines, runLines, refusedLine}
 use Rattle.text.proofs.Decimals.{decimal-short, decimal-20}
 use Rattle.lines.proofs.Parts.{partLine}
@@ -83,13 +83,13 @@ module _ (xs : List ℕ) (bytes : Bytes xs) where
   messages-short place count = rw (← messages-each xs place count)
       (first-short (messageField xs place) 11 (λ i. word-field (place + 4 * i)) count)
 
-  node-short : (place n : ℕ) → length (nodeLine xs place n) ≤ 56 + 11 * waitingAt xs place
+  node-short : (place n : ℕ) → length (nodeLine xs place n) ≤ 56 + 11 * waitingIn xs place
   unfolding nodeLine
   node-short place n =
       let position = numberAt xs place 1 in
       let accumulator = numberAt xs (place + 1) 4 in
       let message = numberAt xs (place + 5) 4 in
-      let waiting = waitingAt xs place in
+      let waiting = waitingIn xs place in
       let messages = messagesAt xs (place + 10) waiting in
       omega (
         arith,

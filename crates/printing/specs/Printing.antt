@@ -25,7 +25,7 @@ abbrev pub resultLines : List ℕ → Result → List ℕ
 resultLines job (refused r) = refusedLine (r .number) (r .place)
 resultLines job (ran x trace snapshot) = runLines x trace snapshot (nodesIn job) (variablesIn job)
 
--- the most bytes of text that a run prints
+-- bytes of text that are enough for the lines of every run
 abbrev pub textSize : ℕ
 textSize = 131072
 

@@ -21,7 +21,7 @@ use run::run;
 use tables::cells::CELLS;
 use turns::ending::Ending;
 
-// The most bytes of text that a run prints.
+// Bytes of text that are enough for the lines of every run.
 pub const TEXT: usize = 131072;
 
 // A run that is printed: the place after its lines, and its answer; or a text that has no room for what a run may print.

@@ -72,7 +72,7 @@ pub record Gives (result : Result) (c : Call) : Type 0 where
 abbrev pub Delivers : Result → Buffers → Buffers → Answer → Type 0
 Delivers result before after x = Gives result (call before after (toldBy x))
 
--- what the entry points promise: the monitored ("watched") and the unmonitored ("bare") run of a job
+-- the four clauses of an entry point as one record: the monitored ("watched") and the unmonitored ("bare") run of a job
 abbrev pub Monitored : List ℕ → Call → Type 0
 Monitored job c = Gives (monitored job (sizesOf (c .before))) c
 

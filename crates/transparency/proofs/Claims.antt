@@ -91,13 +91,12 @@ transparency job m u gm gu =
     }
 
 pub exports-transparency : ExportsTransparent
-exports-transparency job before after before′ after′ numbers numbers′ em eu =
+exports-transparency job before after before′ after′ numbers numbers′ tm lm tu lu =
     let m = toldIn (monitored job (sizesOf before)) in
     let u = toldIn (unmonitored job (sizesOf before′)) in (
       m,
       u,
-      em .told,
-      eu .told,
-      transparency job (call before after m) (call before′ after′ u) (record { told = refl; left = em .left })
-          (record { told = refl; left = eu .left }),
+      tm,
+      tu,
+      transparency job (call before after m) (call before′ after′ u) (record { told = refl; left = lm }) (record { told = refl; left = lu }),
     )

@@ -10,8 +10,8 @@ use Rattle.model.specs.Refusal.{Refusal}
 use Rattle.model.specs.Result.{refused, report, monitored, unmonitored, Buffers, sizesOf}
 use Rattle.model.specs.Conclusion.{Refuses, Accepts, unmonitoredOf}
 use Rattle.model.specs.Transparency.{AllPermitted, FirstForbidden, stoppedAt}
-use Rattle.run.specs.Answers.{Told, answer, Call, call, Gives, Monitored, Unmonitored}
-use Rattle.run.specs.Exported.{numbersIn, Exports}
+use Rattle.run.specs.Answers.{Told, answer, toldIn, BuffersAfter, Call, call, Gives, Monitored, Unmonitored}
+use Rattle.run.specs.Exported.{numbersIn}
 
 -- both calls of a job with these commands; `unmonitoredOf past` is the run that the turn rules make, permissions ignored
 pub record CallsRun (past : List Command) (m u : Call) : Type 0 where
@@ -41,10 +41,11 @@ pub record Transparent (job : List ℕ) (m u : Call) : Type 0 where
 abbrev pub TransparencyHolds : Type 0
 TransparencyHolds = (job : List ℕ) (m u : Call) → Monitored job m → Unmonitored job u → Transparent job m u
 
--- the same of the exported entry points: the eight numbers are those of two calls that compare so
+-- the same of the exported entry points, which write eight numbers and leave the three buffers as a result has them
 abbrev pub ExportsTransparent : Type 0
 ExportsTransparent =
     (job : List ℕ) (before after before′ after′ : Buffers) (numbers numbers′ : List ℕ)
-    → Exports (monitored job (sizesOf before)) before after numbers → Exports (unmonitored job (sizesOf before′)) before′ after′ numbers′
-    → (m : Told) × (u : Told) × (numbers ≡ numbersIn m) × (numbers′ ≡ numbersIn u) × Transparent job (call before after m)
-    (call before′ after′ u)
+    → numbers ≡ numbersIn (toldIn (monitored job (sizesOf before))) → BuffersAfter (monitored job (sizesOf before)) before after
+    → numbers′ ≡ numbersIn (toldIn (unmonitored job (sizesOf before′))) → BuffersAfter (unmonitored job (sizesOf before′)) before′ after′
+    → (m : Told) × (u : Told) × (numbers ≡ numbersIn m) × (numbers′ ≡ numbersIn u)
+    × Transparent job (call before after m) (call before′ after′ u)

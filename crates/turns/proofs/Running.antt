@@ -109,10 +109,6 @@ module _ (monitored : Bool) (job t w : List ℕ) (ready : Loaded job t w) where
   pub node-inside : (k : ℕ) → k < countIn t TURN → turnIn job t k < 32
   node-inside k h = meets .nodes k (omega (arith, prepares .turns))
 
-  pub position-narrow : {before : List ℕ} {s : State} {trace : List ℕ} {at k : ℕ} → Underway monitored past before s trace at k → (n : ℕ)
-      → positionAt (view s) n < 256
-  position-narrow {s = s} u n = placed-narrow past (valid .commands) (view s) (u .placed) n
-
   pub turns-few : countIn t TURN ≤ 4096
   turns-few = omega (arith, ready .stands .counts TURN (omega arith), limits past (valid .commands) .turns)
 

@@ -5,7 +5,7 @@ use denote.Ref.{now}
 use Rattle.command.specs.Instructions.{fetchedOf}
 use Rattle.command.proofs.Fetching.{inside-command, after-command}
 use Rattle.tables.specs.Programs.{programIn}
-use Rattle.plans.proofs.Turning.{unready-planned, begun-planned, finished-planned, executed-planned}
+use Rattle.plans.proofs.Turning.{unready-planned, begun-planned, finished-planned, executed-planned, countable}
 use borrow.Author.Needs.{needs}
 use Rattle.plans.proofs.plan_turn.Statement.{statement}
 use Rattle.plans.proofs.plan_turn.Tie as tie
@@ -45,7 +45,9 @@ enum-known-fetched : tie.Need-enum-known-fetched
 enum-known-fetched c = search needs
 
 decide-requires : tie.Need-decide-requires
-decide-requires c κs = search needs
+decide-requires c κs =
+    let z = c .before .before .before .before .before .before .before .before in
+    countable (z .args .fetched) _ (z .args .registers .position) (z .pre .1) (c .before .fetched .given .1)
 
 enum-told : tie.Need-enum-told
 enum-told c = search needs

@@ -10,7 +10,7 @@ use Rattle.model.specs.Command.{Command}
 use Rattle.tables.specs.Tables.{countIn}
 use Rattle.output.specs.Written.{entryWith, Narrow}
 use Rattle.turns.specs.Runs.{Loaded, runOf, RunsAs}
-use Rattle.turns.proofs.Running.{Reached, underway-none, node-inside, position-narrow, turns-few, made-narrow, underway-next}
+use Rattle.turns.proofs.Running.{Reached, underway-none, node-inside, turns-few, made-narrow, underway-next}
 use Rattle.turns.proofs.Running.{underway-stopped}
 use Rattle.turns.proofs.Running.{reached, halted}
 use Rattle.turns.proofs.run_turns.Statement.{statement}
@@ -71,16 +71,9 @@ turn-requires c κs =
     let ready = p12 .pre .0 in
     let l = c .before .before .before .before .before .loop in
     let h : l .k < l .last = omega (arith, c .before .before .before .before .loop-test .taken) in
-    let u = l .inv ready .going h in
     let inside = node-inside (a .monitored) (now (a .job)) (now (a .tables)) (now (a .work)) ready (l .k)
-    (omega (arith, h, l .inv ready .all h, p7 .count-of .ensures)) in (
-      u .bounded,
-      (
-        omega (arith, c .before .before .before .turn-at .ensures, inside),
-        position-narrow (a .monitored) (now (a .job))
-            (now (a .tables)) (now (a .work)) ready u _,
-      ),
-    )
+    (omega (arith, h, l .inv ready .all h, p7 .count-of .ensures)) in
+    (l .inv ready .going h .bounded, (omega (arith, c .before .before .before .turn-at .ensures, inside), c .fetch .ensures .1))
 
 enum-known-outcome : tie.Need-enum-known-outcome Inv-loop μ-loop
 enum-known-outcome c = search needs
@@ -107,7 +100,7 @@ put-entry-requires c κs =
       subst Narrow (sym (c .numbers-of .ensures))
           (made-narrow (a .monitored) (now (a .job)) (now (a .tables)) (now (a .work)) ready _ (l .s) (l .trace) (l .at) (l .k) u more _
           (p10 .turn-at .ensures)
-          (p7 .fetch .result) (p7 .fetch .ensures) (p6 .turn .result) (p6 .turn .ensures) _ (c .before .before .before .outcome .given .1)),
+          (p7 .fetch .result) (p7 .fetch .ensures .0) (p6 .turn .result) (p6 .turn .ensures) _ (c .before .before .before .outcome .given .1)),
     )
 
 add-k : tie.Need-add-k Inv-loop μ-loop
@@ -153,7 +146,7 @@ loop-again c =
     (omega (arith, h, r .all h))
     (underway-next (a .monitored) (now (a .job)) (now (a .tables)) (now (a .work)) ready _ (l .s) (l .trace) (l .at) (l .k)
     (r .going h) more _ (p13 .turn-at .ensures)
-    (p10 .fetch .result) (p10 .fetch .ensures) (p9 .turn .result) (p9 .turn .ensures) _ (p6 .outcome .given .1)
+    (p10 .fetch .result) (p10 .fetch .ensures .0) (p9 .turn .result) (p9 .turn .ensures) _ (p6 .outcome .given .1)
     (entryWith (c .before .before .before .numbers-of .result)) (c .before .before .before .numbers-of .ensures) _ _ (p22 .pre .1)
     (search needs) (c .before .before .put-entry .ensures)) _ (r .never h)
 
@@ -179,7 +172,7 @@ loop-again-2 c =
     halted (a .monitored) _ _ _ _ _ _ _ _ (r .size)
     (underway-stopped (a .monitored) (now (a .job)) (now (a .tables)) (now (a .work)) ready _ (l .s) (l .trace) (l .at) (l .k)
     (r .going h) more _ (p8 .turn-at .ensures)
-    (c .before .before .before .before .before .fetch .result) (c .before .before .before .before .before .fetch .ensures)
+    (c .before .before .before .before .before .fetch .result) (c .before .before .before .before .before .fetch .ensures .0)
     (c .before .before .before .before .turn .result) (c .before .before .before .before .turn .ensures) _
     (c .before .outcome2 .given .1))
 

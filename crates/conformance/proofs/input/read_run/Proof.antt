@@ -23,12 +23,20 @@ is-short-requires : tie.Need-is-short-requires
 is-short-requires c κs = search needs
 
 slice-relend-prefix-read-full : tie.Need-slice-relend-prefix-read-full
-slice-relend-prefix-read-full c = omega (arith, tested _ _ (c .before .is-short .ensures)
-    (c .if1 .taken) .job, c .before .before .before .before .before .before .before .pre)
+slice-relend-prefix-read-full c = omega (
+  arith,
+  tested _ _ (c .before .is-short .ensures)
+      (c .if1 .taken) .job,
+  c .before .before .before .before .before .before .before .pre,
+)
 
 slice-aggregate-read-full : tie.Need-slice-aggregate-read-full
-slice-aggregate-read-full c = sym (length-take-le _ _ (omega (arith, tested _ _ (c .before .before .is-short .ensures)
-    (c .before .if1 .taken) .job, c .before .before .before .before .before .before .before .before .pre)))
+slice-aggregate-read-full c = sym (length-take-le _ _ (omega (
+  arith,
+  tested _ _ (c .before .before .is-short .ensures)
+      (c .before .if1 .taken) .job,
+  c .before .before .before .before .before .before .before .before .pre,
+)))
 
 read-full-requires : tie.Need-read-full-requires
 read-full-requires c κs = search needs
