@@ -1,4 +1,4 @@
--- What the buffers hold before a run, and what a run has to keep.
+-- What the buffers hold before a run, what a run has to keep, and which byte is changed after it.
 use Prim.Native.Nat.{ℕ, zero, suc, _+_, _*_, _-_, _%_}
 use mathlib.Core.Bool.{Bool, true, false, cond, _&&_}
 use mathlib.Core.List.{List, [], _∷_, _++_}

@@ -1,4 +1,4 @@
-// What the buffers hold before a run, and whether a run kept what it has to keep.
+// What the buffers hold before a run, which byte is changed after it, and whether a run kept what it has to keep.
 use crate::input::wide;
 use command::bytes;
 use declared::count_of;
@@ -66,8 +66,8 @@ fn change_last(buffer: &mut [u8])
     }
 }
 
-// Changes one byte that a run has to keep or to clear: 1 the first of the work buffer, 2 its last, 3 the last of the trace buffer, 4 that
-// of the snapshot buffer; another number none.
+// Changes one byte: 1 the first of the work buffer, 2 its last, 3 the last of the trace buffer, 4 that of the snapshot buffer; another
+// number none. Where a buffer is longer than what a run writes to it, its last byte is one that the run has to keep.
 pub fn change_one(trace: &mut [u8], snapshot: &mut [u8], work: &mut [u8], which: u8)
     ensures trace { λ _. ⌜ now (trace .exit) ≡ changedTrace which (now (trace .entry)) ⌝ }
     ensures snapshot { λ _. ⌜ now (snapshot .exit) ≡ changedSnapshot which (now (snapshot .entry)) ⌝ }
