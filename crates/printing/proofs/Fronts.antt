@@ -6,12 +6,12 @@ use native.Mathlib.Omega.{arith}
 use lib.ListN.{length, getD, length-append, List·getD-append}
 use lib.Seq.{getD-append-add}
 use Rattle.text.specs.Text.{joined}
-use Rattle.lines.specs.Lines.{entryLine, messagesAt, waitingAt, nextPart, partAt}
+use Rattle.lines.specs.Lines.{entryLine, messagesAt, waitingIn, nextPart, partAt}
 use Rattle.lines.specs.Lines.{nodeLine, variableLine, nodeLines, snapshotLines, runLines}
 use Rattle.lines.proofs.Parts.{part-inside, partLine}
 use Rattle.model.specs.Command.{numberAt}
 use Rattle.model.specs.Output.{Answer, nodeBytes, nodesBytes}
-use Rattle.model.specs.State.{State, waitingAt as waitingIn}
+use Rattle.model.specs.State.{State, waitingAt}
 use Rattle.model.proofs.Reading.{number-one}
 use Rattle.model.proofs.Bounds.{length-node}
 
@@ -67,7 +67,7 @@ module _ (xs ys : List ℕ) where
         number-front (place + 1) 4 (omega arith),
         number-front (place + 5) 4 (omega arith),
         number-front (place + 9) 1 (omega arith),
-        messages-front (place + 10) (waitingAt xs place) (omega arith),
+        messages-front (place + 10) (waitingIn xs place) (omega arith),
       )
 
   variable-front : (place x : ℕ) → place + 4 * x + 4 ≤ length xs → variableLine (xs ++ ys) place x ≡ variableLine xs place x
@@ -110,7 +110,7 @@ parts-of s (suc k) rest =
     let nodes = nodesBytes s k in
     let all = nodes ++ (nodeBytes s k ++ rest) in
     let size = length nodes in
-    let waits : waitingAt all size ≡ waitingIn s k = number-one all (size + 9) ∙ getD-append-add nodes (nodeBytes s k ++ rest) 9 0 in
+    let waits : waitingIn all size ≡ waitingAt s k = number-one all (size + 9) ∙ getD-append-add nodes (nodeBytes s k ++ rest) 9 0 in
     ap (λ (l : List ℕ). partAt l (suc k)) (append-assoc nodes (nodeBytes s k) rest)
     ∙ ap (λ (p : ℕ). nextPart all p) (parts-of s k (nodeBytes s k ++ rest))
     ∙ ap (λ (w : ℕ). size + 10 + 4 * w) waits
