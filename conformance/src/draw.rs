@@ -1,6 +1,6 @@
 //! Fresh runs: a generated job in both modes, with seeds and buffer lengths of their own.
 
-use flow_reference::corpus::Run;
+use flow_reference::corpus::{Change, Run};
 use flow_reference::generate::buffers::{self, Lengths};
 use flow_reference::generate::{case, Kind, Random};
 use flow_reference::{decode, Mode};
@@ -18,7 +18,7 @@ pub fn runs(seed: u64, index: u64, kind: Kind) -> [Run; 2] {
     let turns = decode(&job).map_or_else(|_| random.below(40), |program| program.turns.len());
     [Mode::Monitored, Mode::Unmonitored].map(|mode| {
         let (lengths, seed) = (lengths(&mut random, turns), random.below(256) as u8);
-        Run { mode, seed, lengths, job: job.clone() }
+        Run { mode, change: Change::Nothing, seed, lengths, job: job.clone() }
     })
 }
 

@@ -9,7 +9,7 @@ mod tally;
 
 use std::process::ExitCode;
 
-use flow_reference::corpus::Run;
+use flow_reference::corpus::{Change, Run};
 use flow_reference::generate::Kind;
 use flow_reference::{hex, Mode};
 
@@ -53,7 +53,7 @@ fn one(words: &[&str]) -> Option<Run> {
         _ => return None,
     };
     let lengths = [trace.parse().ok()?, snapshot.parse().ok()?, work.parse().ok()?];
-    Some(Run { mode, seed: seed.parse().ok()?, lengths, job: hex::decode(job)? })
+    Some(Run { mode, change: Change::Nothing, seed: seed.parse().ok()?, lengths, job: hex::decode(job)? })
 }
 
 /// Does what the words ask for; none if they ask for nothing.
