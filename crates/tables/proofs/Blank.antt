@@ -1,5 +1,5 @@
 -- Cells of which none is noted stand for no command.
-use Prim.Native.Nat.{ℕ, _+_, _*_, _≤_, zero-le}
+use Prim.Native.Nat.{ℕ, _+_, _*_, _%_, _≤_, zero-le}
 use mathlib.Core.Path.{_≡_, refl, sym, _∙_}
 use mathlib.Core.Bool.{Bool, true, false, _&&_, and-false}
 use mathlib.Core.List.{[]}
@@ -11,27 +11,28 @@ use Rattle.model.specs.Table.{ARG, groupOf}
 use Rattle.model.specs.Declared.{countOf, occurs, declared, openBody, bodyLength, startsOf, startedIn}
 use Rattle.model.specs.Refusal.{groupFalls}
 use Rattle.tables.specs.declared.cells.Section.{Section}
-use Rattle.tables.specs.Cells.{entryIn, markIn, gridIn, blank}
+use Rattle.tables.specs.Cells.{cellCount, entryIn, flagIn, isMark, markCell, markIn, blank}
 use Rattle.tables.specs.Tables.{countCells, progressCells, firstCells, wireCells, countIn, listedIn}
 use Rattle.tables.specs.Stands.{Stands}
+use Rattle.tables.proofs.Setting.{bit-zero}
 use Rattle.tables.proofs.Writing.{entry-inside, entry-outside}
 
 -- every cell is 0
-entry-blank : (s : Section) (i : ℕ) → s .0 + s .1 ≤ 15936 → entryIn blank s i ≡ 0
+entry-blank : (s : Section) (i : ℕ) → s .0 + s .1 ≤ cellCount → entryIn blank s i ≡ 0
 unfolding blank
 entry-blank s i h = by-range (ltb i (s .1)) refl
   where
     by-range : (t : Bool) → ltb i (s .1) ≡ t → entryIn blank s i ≡ 0
-    by-range true e = let l = ltb-true i (s .1) e in entry-inside blank s i l ∙ getD-replicate {A = ℕ} 15936 (s .0 + i) 0 0 (omega arith)
+    by-range true e = let l = ltb-true i (s .1) e in entry-inside blank s i l ∙ getD-replicate {A = ℕ} cellCount (s .0 + i) 0 0 (omega arith)
     by-range false e = entry-outside blank s i (ltb-false i (s .1) e)
 
-mark-blank : (s : Section) (i : ℕ) → s .0 + s .1 ≤ 15936 → markIn blank s i ≡ false
-unfolding markIn
-mark-blank s i h = rw (entry-blank s i h)
+flag-blank : (s : Section) (i : ℕ) → s .0 + s .1 ≤ cellCount → flagIn blank s i ≡ false
+unfolding flagIn
+flag-blank s i h = rw (entry-blank s i h)
 
-grid-blank : (s : Section) (r x : ℕ) → s .0 + s .1 ≤ 15936 → gridIn blank s r x ≡ false
-unfolding gridIn
-grid-blank s r x h = rw (mark-blank s (r * 64 + x) h) (and-false (ltb r 128 && ltb x 64))
+mark-blank : (s : Section) (r x : ℕ) → s .0 + s .1 ≤ cellCount → markIn blank s r x ≡ false
+unfolding markIn
+mark-blank s r x h = rw (entry-blank s (markCell r x) h, bit-zero (x % 32)) (and-false (isMark r x))
 
 listed-blank : (k n f v : ℕ) → k ≡ 0 → listedIn blank k n f v ≡ false
 unfolding listedIn
@@ -41,7 +42,7 @@ pub stands-blank : Stands blank []
 unfolding groupFalls countOf occurs declared openBody bodyLength startsOf startedIn blank
 stands-blank =
     record {
-      size = length-replicate {A = ℕ} 15936 0;
+      size = length-replicate {A = ℕ} cellCount 0;
       counts = λ b h. entry-blank countCells b (omega arith);
       group = λ c. rw (entry-blank progressCells 0 (omega arith)) (sym (le-ltb (groupOf (c .byte)) 0 zero-le));
       opened = entry-blank progressCells 1 (omega arith);
@@ -51,12 +52,12 @@ stands-blank =
       startValue = λ x. entry-blank _ x (omega arith);
       answer = λ f. entry-blank _ f (omega arith);
       lengths = λ n. entry-blank _ n (omega arith);
-      bodies = λ n. mark-blank _ n (omega arith);
-      started = λ f. mark-blank _ f (omega arith);
-      firsts = λ n. rw (mark-blank firstCells n (omega arith));
-      wires = λ n p m. rw (grid-blank wireCells (n * 4 + p) m (omega arith)) (and-false (ltb p 4));
-      reads = λ n x. grid-blank _ n x (omega arith);
-      writes = λ n x. grid-blank _ n x (omega arith);
-      anys = λ n f. grid-blank _ n f (omega arith);
+      bodies = λ n. flag-blank _ n (omega arith);
+      started = λ f. flag-blank _ f (omega arith);
+      firsts = λ n. rw (flag-blank firstCells n (omega arith));
+      wires = λ n p m. rw (mark-blank wireCells (n * 4 + p) m (omega arith)) (and-false (ltb p 4));
+      reads = λ n x. mark-blank _ n x (omega arith);
+      writes = λ n x. mark-blank _ n x (omega arith);
+      anys = λ n f. mark-blank _ n f (omega arith);
       arguments = λ n f v. listed-blank (countIn blank ARG) n f v (entry-blank countCells ARG (omega arith));
     }

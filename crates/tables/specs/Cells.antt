@@ -1,14 +1,15 @@
 -- Cells and sections: what is read in a section and what a write changes.
-use Prim.Native.Nat.{ℕ, _+_, _*_}
+use Prim.Native.Nat.{ℕ, _+_, _*_, _/_, _%_}
 use mathlib.Core.Bool.{Bool, cond, not, _&&_}
 use mathlib.Core.List.{List}
 use lib.Dec.{ltb, eqb}
 use lib.ListN.{getD, set, replicate}
 use Rattle.tables.specs.declared.cells.Section.{Section}
+use Rattle.tables.specs.Bits.{bitOf, withBit}
 
 -- how many cells there are
 abbrev pub cellCount : ℕ
-cellCount = 15936
+cellCount = 2048
 
 -- the section with this first cell and this many cells
 abbrev pub section : ℕ → ℕ → Section
@@ -18,21 +19,33 @@ section base size = record { 0 = base; 1 = size }
 unfoldable pub entryIn : List ℕ → Section → ℕ → ℕ
 entryIn t s i = cond (ltb i (s .1)) (getD t (s .0 + i) 0) 0
 
--- the cells with x at cell i of a section, if on and inside it
-unfoldable pub putIn : List ℕ → Bool → Section → ℕ → ℕ → List ℕ
-putIn t on s i x = cond (on && ltb i (s .1)) (set t (s .0 + i) x) t
+-- the cells with x at cell i of a section; as they were where there is no such cell
+unfoldable pub putIn : List ℕ → Section → ℕ → ℕ → List ℕ
+putIn t s i x = cond (ltb i (s .1)) (set t (s .0 + i) x) t
 
--- cell i of a section is marked
-unfoldable pub markIn : List ℕ → Section → ℕ → Bool
-markIn t s i = not (eqb (entryIn t s i) 0)
+-- cell i of a section is not 0
+unfoldable pub flagIn : List ℕ → Section → ℕ → Bool
+flagIn t s i = not (eqb (entryIn t s i) 0)
 
--- the cell at a row and a column of a section with 64 cells a row is marked; there are at most 128 rows
-unfoldable pub gridIn : List ℕ → Section → ℕ → ℕ → Bool
-gridIn t s r x = (ltb r 128 && ltb x 64) && markIn t s (r * 64 + x)
+-- a section may hold marks, as bits: 64 a row, 32 a cell, in at most 128 rows
+abbrev pub isMark : ℕ → ℕ → Bool
+isMark r x = ltb r 128 && ltb x 64
 
--- the cells with a mark at a row and a column of such a section, if on and inside it
-unfoldable pub markAt : List ℕ → Bool → Section → ℕ → ℕ → List ℕ
-markAt t on s r x = putIn t (on && (ltb r 128 && ltb x 64)) s (r * 64 + x) 1
+-- the cell of the mark at a row and a column
+abbrev pub markCell : ℕ → ℕ → ℕ
+markCell r x = r * 2 + x / 32
+
+-- the marks in that cell with this one
+abbrev pub marksWith : List ℕ → Section → ℕ → ℕ → ℕ
+marksWith t s r x = withBit (entryIn t s (markCell r x)) (x % 32)
+
+-- there is a mark at a row and a column of such a section
+unfoldable pub markIn : List ℕ → Section → ℕ → ℕ → Bool
+markIn t s r x = isMark r x && bitOf (entryIn t s (markCell r x)) (x % 32)
+
+-- the cells with a mark there; as they were where there is no such mark
+unfoldable pub markAt : List ℕ → Section → ℕ → ℕ → List ℕ
+markAt t s r x = cond (isMark r x) (putIn t s (markCell r x) (marksWith t s r x)) t
 
 -- cells of which none is noted
 unfoldable pub blank : List ℕ

@@ -6,7 +6,7 @@ use lib.Dec.{ltb, eqb}
 use Rattle.model.specs.Table.{ARG}
 use Rattle.model.specs.Declared.{only, isShared, isSeen}
 use Rattle.tables.specs.declared.cells.Section.{Section}
-use Rattle.tables.specs.Cells.{section, entryIn, markIn, gridIn}
+use Rattle.tables.specs.Cells.{section, entryIn, flagIn, markIn}
 
 -- the sections, in the code's order
 abbrev pub countCells : Section
@@ -55,16 +55,16 @@ abbrev pub argValueCells : Section
 argValueCells = section 1344 256
 
 abbrev pub readCells : Section
-readCells = section 1600 2048
+readCells = section 1600 64
 
 abbrev pub writeCells : Section
-writeCells = section 3648 2048
+writeCells = section 1664 64
 
 abbrev pub anyCells : Section
-anyCells = section 5696 2048
+anyCells = section 1728 64
 
 abbrev pub wireCells : Section
-wireCells = section 7744 8192
+wireCells = section 1792 256
 
 -- how many commands have this byte
 abbrev pub countIn : List ℕ → ℕ → ℕ
@@ -110,29 +110,29 @@ lengthIn t n = entryIn t lengthCells n
 
 -- the node has a BODY
 abbrev pub bodyIn : List ℕ → ℕ → Bool
-bodyIn t n = markIn t bodyCells n
+bodyIn t n = flagIn t bodyCells n
 
 -- some node of the flow has a START
 abbrev pub startedAt : List ℕ → ℕ → Bool
-startedAt t f = markIn t startedCells f
+startedAt t f = flagIn t startedCells f
 
 -- the first messages of a node
 abbrev pub firstsIn : List ℕ → ℕ → List ℕ
-firstsIn t n = only (markIn t firstCells n) (entryIn t messageCells n)
+firstsIn t n = only (flagIn t firstCells n) (entryIn t messageCells n)
 
 -- the port is wired to the target
 abbrev pub wiredIn : List ℕ → ℕ → ℕ → ℕ → Bool
-wiredIn t n p m = ltb p 4 && gridIn t wireCells (n * 4 + p) m
+wiredIn t n p m = ltb p 4 && markIn t wireCells (n * 4 + p) m
 
 -- reading is permitted, writing is, the call with all arguments is
 abbrev pub readIn : List ℕ → ℕ → ℕ → Bool
-readIn t n x = gridIn t readCells n x
+readIn t n x = markIn t readCells n x
 
 abbrev pub writeIn : List ℕ → ℕ → ℕ → Bool
-writeIn t n x = gridIn t writeCells n x
+writeIn t n x = markIn t writeCells n x
 
 abbrev pub anyIn : List ℕ → ℕ → ℕ → Bool
-anyIn t n f = gridIn t anyCells n f
+anyIn t n f = markIn t anyCells n f
 
 -- one of the first ARG commands, up to this count, permits the call with this argument
 unfoldable pub listedIn : List ℕ → ℕ → ℕ → ℕ → ℕ → Bool

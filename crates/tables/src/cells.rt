@@ -2,9 +2,11 @@
 ghost use mathlib.Core.Path.{_≡_};
 ghost use Prim.Native.Nat.{_+_, _≤_};
 ghost use lib.ListN.{length};
-ghost use Rattle.tables.specs.Cells.{cellCount, entryIn, putIn, markIn, gridIn, markAt, blank};
+ghost use Rattle.tables.specs.Cells.{cellCount, entryIn, putIn, flagIn, markIn, markAt, blank};
+use crate::bits::is_set;
+use crate::bits::with_bit;
 
-pub const CELLS: usize = 15936;
+pub const CELLS: usize = 2048;
 
 // A section: its first cell, and how many cells it has.
 pub struct Section(pub usize, pub usize);
@@ -39,14 +41,14 @@ pub const ARG_NODE: Section = Section(832, 256);
 pub const ARG_FUNCTION: Section = Section(1088, 256);
 
 pub const ARG_VALUE: Section = Section(1344, 256);
-// 64 cells a node, by variable or function: 1 if there is a READ, a WRITE, an ANY.
-pub const READS: Section = Section(1600, 2048);
+// 64 bits a node, 32 a cell, by variable or function: 1 if there is a READ, a WRITE, an ANY.
+pub const READS: Section = Section(1600, 64);
 
-pub const WRITES: Section = Section(3648, 2048);
+pub const WRITES: Section = Section(1664, 64);
 
-pub const CALLS: Section = Section(5696, 2048);
-// 64 cells a port, 4 ports a node, by target: 1 if there is a WIRE.
-pub const WIRES: Section = Section(7744, 8192);
+pub const CALLS: Section = Section(1728, 64);
+// 64 bits a port, 4 ports a node, by target: 1 if there is a WIRE.
+pub const WIRES: Section = Section(1792, 256);
 
 // Cell i of a section.
 pub fn entry(tables: &[u32], s: Section, i: usize) -> u32
@@ -64,53 +66,54 @@ pub fn entry(tables: &[u32], s: Section, i: usize) -> u32
     0
 }
 
-// Sets cell i of a section, if on.
-pub fn put(tables: &mut [u32], on: bool, s: Section, i: usize, x: u32)
+// Sets cell i of a section.
+pub fn put(tables: &mut [u32], s: Section, i: usize, x: u32)
     requires { ⌜ s .0 + s .1 ≤ cellCount ⌝ }
-    ensures { λ _. ⌜ now (tables .exit) ≡ putIn (now (tables .entry)) on s i x ⌝ }
+    ensures { λ _. ⌜ now (tables .exit) ≡ putIn (now (tables .entry)) s i x ⌝ }
 {
     let base = s.0;
     let size = s.1;
-    if on {
-        if i < size {
-            let at = base + i;
-            if at < tables.len() {
-                tables[at] = x;
-            }
+    if i < size {
+        let at = base + i;
+        if at < tables.len() {
+            tables[at] = x;
         }
     }
 }
 
-// Whether cell i of a section is marked.
+// Whether cell i of a section is not 0.
 pub fn flagged(tables: &[u32], s: Section, i: usize) -> bool
     requires { ⌜ s .0 + s .1 ≤ cellCount ⌝ }
-    ensures { λ r. ⌜ r ≡ markIn (now (tables .entry)) s i ⌝ }
+    ensures { λ r. ⌜ r ≡ flagIn (now (tables .entry)) s i ⌝ }
 {
     let x = entry(tables, s, i);
     x != 0
 }
 
-// Whether a cell of a section with 64 cells a row is marked.
+// Whether there is a mark at a row and a column of a section with 64 marks a row, 32 a cell.
 pub fn marked(tables: &[u32], s: Section, row: usize, column: usize) -> bool
     requires { ⌜ s .0 + s .1 ≤ cellCount ⌝ }
-    ensures { λ r. ⌜ r ≡ gridIn (now (tables .entry)) s row column ⌝ }
+    ensures { λ r. ⌜ r ≡ markIn (now (tables .entry)) s row column ⌝ }
 {
     if row < 128 {
         if column < 64 {
-            return flagged(tables, s, row * 64 + column);
+            let marks = entry(tables, s, row * 2 + column / 32);
+            return is_set(marks, (column % 32) as u32);
         }
     }
     false
 }
 
-// Marks a cell of such a section, if on.
-pub fn mark(tables: &mut [u32], on: bool, s: Section, row: usize, column: usize)
+// Makes a mark at a row and a column of such a section.
+pub fn mark(tables: &mut [u32], s: Section, row: usize, column: usize)
     requires { ⌜ s .0 + s .1 ≤ cellCount ⌝ }
-    ensures { λ _. ⌜ now (tables .exit) ≡ markAt (now (tables .entry)) on s row column ⌝ }
+    ensures { λ _. ⌜ now (tables .exit) ≡ markAt (now (tables .entry)) s row column ⌝ }
 {
     if row < 128 {
         if column < 64 {
-            put(tables, on, s, row * 64 + column, 1);
+            let i = row * 2 + column / 32;
+            let marks = entry(tables, s, i);
+            put(tables, s, i, with_bit(marks, (column % 32) as u32));
         }
     }
 }

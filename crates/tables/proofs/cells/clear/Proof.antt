@@ -11,10 +11,10 @@ use Rattle.tables.proofs.cells.clear.Statement.{statement}
 use Rattle.tables.proofs.cells.clear.Tie as tie
 
 abbrev Inv-loop : tie.InvT-loop
-Inv-loop t₀ i₀ t i = (i ≤ length t) × (length t ≡ 15936) × ((k : ℕ) → k < i → getD t k 0 ≡ 0)
+Inv-loop t₀ i₀ t i = (i ≤ length t) × (length t ≡ 2048) × ((k : ℕ) → k < i → getD t k 0 ≡ 0)
 
 abbrev μ-loop : tie.MeasureT-loop
-μ-loop t₀ i₀ t i = 15936 - i
+μ-loop t₀ i₀ t i = 2048 - i
 
 loop-holds : tie.Need-loop-holds Inv-loop μ-loop
 loop-holds c = (omega arith, c .pre, λ k h. absurd (omega arith))
