@@ -1,10 +1,13 @@
--- A write in a column, a mark and a mark at a row and a column: what is read there by one write, in the model's words.
-use Prim.Native.Nat.{ℕ, _+_, _*_, _≤_, _<_}
-use mathlib.Core.Path.{_≡_, refl, _∙_}
+-- A write in a column, a flag and a mark: what is read there after one write, in the model's words.
+use Prim.Native.Nat.{ℕ, _+_, _*_, _%_, _≤_, _<_}
+use mathlib.Core.Path.{_≡_, refl, sym}
 use mathlib.Core.Bool.{Bool, true, false, cond, not, _&&_, _||_}
 use native.Mathlib.Omega.{arith}
 use lib.Dec.{ltb, eqb}
 use borrow.Author.Tests.{ltb-true, ltb-false, lt-ltb, eqb-true, eqb-false, eq-eqb, ne-eqb}
+use Rattle.tables.specs.Bits.{bitOf, withBit}
+use Rattle.tables.specs.Cells.{isMark, markCell}
+use Rattle.tables.proofs.Setting.{bit-set}
 
 -- a column: the new value at the cell, the old one elsewhere
 pub column :
@@ -17,7 +20,7 @@ column true j i k x old y older h p q = by-cell (eqb j i) refl
     by-cell true e = let g : j ≡ i = eqb-true j i e in let m = h refl in rw (lt-ltb i k (omega arith)) (p refl g)
     by-cell false e = q
 
--- a mark: the cell, or what was marked
+-- a flag: the cell, or what was flagged
 pub flag : (on : Bool) (j i k old : ℕ) (older : Bool) → (on ≡ true → j < k) → not (eqb old 0) ≡ older
     → not (eqb (cond (on && (eqb j i && ltb i k)) 1 old) 0) ≡ ((on && eqb j i) || older)
 flag false j i k old older h q = q
@@ -27,39 +30,59 @@ flag true j i k old older h q = by-cell (eqb j i) refl
     by-cell true e = let g : j ≡ i = eqb-true j i e in let m = h refl in rw (lt-ltb i k (omega arith))
     by-cell false e = q
 
--- a mark at a row and a column
-module _ (a b r x k old : ℕ) where
-  inside : (on : Bool) (older : Bool) → (on ≡ true → a * 64 + b < k) → not (eqb old 0) ≡ older
-      → (eqb (a * 64 + b) (r * 64 + x) ≡ (eqb a r && eqb b x))
-      → not (eqb (cond (on && (eqb (a * 64 + b) (r * 64 + x) && ltb (r * 64 + x) k)) 1 old) 0) ≡ ((on && (eqb a r && eqb b x)) || older)
-  inside on older h q e = flag on (a * 64 + b) (r * 64 + x) k old older h q ∙ rw e
-
-  same-cell : b < 64 → x < 64 → eqb (a * 64 + b) (r * 64 + x) ≡ (eqb a r && eqb b x)
-  same-cell h l = by-row (eqb a r) refl (eqb b x) refl
+-- a mark at a row and a column, by the cells of its section before: the new mark, or what was marked
+module _ (cells : ℕ → ℕ) (a b r x k : ℕ) where
+  -- two marks in one cell are the same if their bits are, and marks in two cells differ
+  same-mark : b < 64 → x < 64 → markCell a b ≡ markCell r x → eqb (b % 32) (x % 32) ≡ (eqb a r && eqb b x)
+  same-mark h l m = by-bit (eqb (b % 32) (x % 32)) refl
     where
-      by-row : (p : Bool) → eqb a r ≡ p → (q : Bool) → eqb b x ≡ q → eqb (a * 64 + b) (r * 64 + x) ≡ (p && q)
-      by-row true e true f = eq-eqb (a * 64 + b) (r * 64 + x) (omega (arith, eqb-true a r e, eqb-true b x f))
-      by-row true e false f = ne-eqb (a * 64 + b) (r * 64 + x) (λ z. eqb-false b x f (omega (arith, eqb-true a r e)))
-      by-row false e q f = ne-eqb (a * 64 + b) (r * 64 + x) (λ z. eqb-false a r e (omega arith))
+      by-row : (p : Bool) → eqb a r ≡ p → eqb (b % 32) (x % 32) ≡ false → false ≡ (p && eqb b x)
+      by-row true e f = sym (ne-eqb b x (λ z. eqb-false (b % 32) (x % 32) f (rw z)))
+      by-row false e f = refl
 
-  pub grid :
-      (on : Bool) (older : Bool) → (on ≡ true → a < 128) → (on ≡ true → b < 64) → (on ≡ true → a * 64 + b < k)
-      → ((ltb r 128 && ltb x 64) && not (eqb old 0)) ≡ older
-      → ((ltb r 128 && ltb x 64) && not (eqb (cond ((on && (ltb a 128 && ltb b 64)) &&
-      (eqb (a * 64 + b) (r * 64 + x) && ltb (r * 64 + x) k)) 1 old) 0)) ≡ ((on && (eqb a r && eqb b x)) || older)
-  grid false older h₁ h₂ h₃ q = q
-  grid true older h₁ h₂ h₃ q = rw (lt-ltb a 128 (h₁ refl), lt-ltb b 64 (h₂ refl)) (by-range (ltb r 128) refl (ltb x 64) refl q)
+      by-bit : (p : Bool) → eqb (b % 32) (x % 32) ≡ p → p ≡ (eqb a r && eqb b x)
+      by-bit true e =
+          let q : b % 32 ≡ x % 32 = eqb-true (b % 32) (x % 32) e in
+          let c : a ≡ r = omega arith in
+          let d : b ≡ x = omega arith in
+          rw (eq-eqb a r c, eq-eqb b x d)
+      by-bit false e = by-row (eqb a r) refl e
+
+  other-mark : ¬ (markCell a b ≡ markCell r x) → (eqb a r && eqb b x) ≡ false
+  other-mark n = by-row (eqb a r) refl
+    where
+      by-row : (p : Bool) → eqb a r ≡ p → (p && eqb b x) ≡ false
+      by-row true e = ne-eqb b x (λ z. n (rw (eqb-true a r e, z)))
+      by-row false e = refl
+
+  inside : (older : Bool) → b < 64 → x < 64 → markCell a b < k → bitOf (cells (markCell r x)) (x % 32) ≡ older
+      → bitOf (cond (eqb (markCell a b) (markCell r x) && ltb (markCell r x) k) (withBit (cells (markCell a b)) (b % 32))
+      (cells (markCell r x))) (x % 32) ≡ ((eqb a r && eqb b x) || older)
+  inside older h l m q = by-cell (eqb (markCell a b) (markCell r x)) refl
+    where
+      by-cell : (p : Bool) → eqb (markCell a b) (markCell r x) ≡ p
+          → bitOf (cond (p && ltb (markCell r x) k) (withBit (cells (markCell a b)) (b % 32)) (cells (markCell r x))) (x % 32)
+          ≡ ((eqb a r && eqb b x) || older)
+      by-cell true e =
+          let g : markCell a b ≡ markCell r x = eqb-true (markCell a b) (markCell r x) e in
+          rw (← same-mark h l g, ← q, ← g, lt-ltb (markCell a b) k m) (bit-set (b % 32) (x % 32) (cells (markCell a b)))
+      by-cell false e = rw (other-mark (eqb-false (markCell a b) (markCell r x) e)) q
+
+  pub marking :
+      (on : Bool) (older : Bool) → (on ≡ true → a < 128) → (on ≡ true → b < 64) → (on ≡ true → markCell a b < k)
+      → (isMark r x && bitOf (cells (markCell r x)) (x % 32)) ≡ older
+      → (isMark r x && bitOf (cond ((on && isMark a b) && (eqb (markCell a b) (markCell r x) && ltb (markCell r x) k))
+      (withBit (cells (markCell a b)) (b % 32)) (cells (markCell r x))) (x % 32)) ≡ ((on && (eqb a r && eqb b x)) || older)
+  marking false older h₁ h₂ h₃ q = q
+  marking true older h₁ h₂ h₃ q = rw (lt-ltb a 128 (h₁ refl), lt-ltb b 64 (h₂ refl)) (by-range (ltb r 128) refl (ltb x 64) refl q)
     where
       by-range :
-          (c : Bool) → ltb r 128 ≡ c → (d : Bool) → ltb x 64 ≡ d → ((c && d) && not (eqb old 0)) ≡ older
-          → ((c && d) && not (eqb (cond (eqb (a * 64 + b) (r * 64 + x) && ltb (r * 64 + x) k) 1 old) 0)) ≡ ((eqb a r && eqb b x) || older)
-      by-range true e true f q = inside true older (λ z. h₃ refl) q (same-cell (h₂ refl) (ltb-true x 64 f))
-      by-range false e d f q =
-          let m = h₁ refl in
-          rw (ne-eqb a r (λ z. omega (arith, ltb-false r 128 e))) q
-      by-range true e false f q =
-          let m = h₂ refl in
-          by-row (eqb a r)
+          (c : Bool) → ltb r 128 ≡ c → (d : Bool) → ltb x 64 ≡ d → ((c && d) && bitOf (cells (markCell r x)) (x % 32)) ≡ older
+          → ((c && d) && bitOf (cond (eqb (markCell a b) (markCell r x) && ltb (markCell r x) k) (withBit (cells (markCell a b)) (b % 32))
+          (cells (markCell r x))) (x % 32)) ≡ ((eqb a r && eqb b x) || older)
+      by-range true e true f q = inside older (h₂ refl) (ltb-true x 64 f) (h₃ refl) q
+      by-range false e d f q = let m = h₁ refl in rw (ne-eqb a r (λ z. omega (arith, ltb-false r 128 e))) q
+      by-range true e false f q = by-row (eqb a r)
         where
           by-row : (p : Bool) → false ≡ ((p && eqb b x) || older)
           by-row true = rw (ne-eqb b x (λ z. omega (arith, h₂ refl, ltb-false x 64 f))) q

@@ -1,3 +1,4 @@
+pub mod Arms
 pub mod Sections
 pub mod Cases
 pub mod Noting

@@ -1,12 +1,12 @@
 -- One more command in the tables: every section then says what the model says of one command more.
-use Prim.Native.Nat.{ℕ, zero, suc, _+_, _-_, _*_, _≤_, _<_, zero-le}
+use Prim.Native.Nat.{ℕ, zero, suc, _+_, _-_, _*_, _%_, _≤_, _<_, zero-le}
 use mathlib.Core.Path.{_≡_, refl, sym, ap, _∙_}
 use mathlib.Core.Bool.{Bool, true, false, cond, not, _&&_, _||_, and-true, and-false}
 use mathlib.Core.List.{List, [], _∷_, _++_, append-nil}
 use mathlib.Core.Logic.{_⊎_, inl, inr}
 use native.Mathlib.Omega.{arith}
 use native.Mathlib.Numerals.{add-one}
-use lib.Dec.{ltb, leb, eqb}
+use lib.Dec.{ltb, eqb}
 use lib.ListN.{length, length-append}
 use borrow.Author.Tests.{ltb-false, lt-ltb, le-ltb, eqb-true, eq-eqb, ne-eqb}
 use Rattle.model.specs.Table.{FLOW, NODE, VAR, FUN, WIRE, ANY, ARG, READ, WRITE, BODY, START, operandsIn, operandsOf, groupOf}
@@ -21,43 +21,26 @@ use Rattle.model.proofs.Valid.{passes, limits, named}
 use Rattle.command.specs.declared.read.Command.{Command as Code}
 use Rattle.command.specs.Reading.{commandOf}
 use Rattle.tables.specs.declared.cells.Section.{Section}
-use Rattle.tables.specs.Cells.{entryIn, putIn, markIn, gridIn, markAt}
+use Rattle.tables.specs.Bits.{bitOf}
+use Rattle.tables.specs.Cells.{cellCount, entryIn, putIn, flagIn, isMark, markCell, marksWith, markIn}
 use Rattle.tables.specs.Tables.{countCells, progressCells, flowCells, scopeCells, ownerCells, startCells, answerCells, lengthCells}
 use Rattle.tables.specs.Tables.{bodyCells, startedCells, firstCells, messageCells, argNodeCells, argFunctionCells, argValueCells, readCells}
 use Rattle.tables.specs.Tables.{writeCells, anyCells, wireCells, countIn, groupIn, openIn, flowIn, lengthIn, listedIn, wiredIn}
 use Rattle.tables.specs.Stands.{Stands}
-use Rattle.notes.proofs.Sections.{Write, write, written, sorted, left, length-written, entry-written}
+use Rattle.notes.specs.Notes.{Notes, oneMore, Write, write, made, written, commandWrites}
+use Rattle.notes.proofs.Sections.{sorted, left, length-written, entry-written}
 use Rattle.command.proofs.Known.{byte-low}
-use Rattle.notes.proofs.Cases.{column, flag, grid, wire}
+use Rattle.notes.proofs.Cases.{column, flag, marking, wire}
 
 -- the writes for a command, by the cells before
-abbrev pub noteWrites : List ℕ → Command → List Write
+abbrev noteWrites : List ℕ → Command → List Write
 noteWrites t c =
-    write true countCells (c .byte) (countIn t (c .byte) + 1)
-    ∷ write true progressCells 0 (groupOf (c .byte))
-    ∷ write (is BODY c) progressCells 1 (c .operands .first)
-    ∷ write (is NODE c) flowCells (countIn t NODE) (countIn t FLOW - 1)
-    ∷ write (is VAR c) scopeCells (countIn t VAR) (c .operands .first)
-    ∷ write (is VAR c) ownerCells (countIn t VAR) (c .operands .second)
-    ∷ write (is VAR c) startCells (countIn t VAR) (c .operands .third)
-    ∷ write (is FUN c) answerCells (countIn t FUN) (c .operands .first)
-    ∷ write (isHandler c) lengthCells (openIn t) (lengthIn t (openIn t) + 1)
-    ∷ write (is BODY c) bodyCells (c .operands .first) 1
-    ∷ write (is START c) startedCells (flowIn t (c .operands .first)) 1
-    ∷ write (is START c) firstCells (c .operands .first) 1
-    ∷ write (is START c) messageCells (c .operands .first) (c .operands .second)
-    ∷ write (is ARG c) argNodeCells (countIn t ARG) (c .operands .first)
-    ∷ write (is ARG c) argFunctionCells (countIn t ARG) (c .operands .second)
-    ∷ write (is ARG c) argValueCells (countIn t ARG) (c .operands .third)
-    ∷ write (is READ c && (ltb (c .operands .first) 128 && ltb (c .operands .second) 64)) readCells
-    (c .operands .first * 64 + c .operands .second) 1
-    ∷ write (is WRITE c && (ltb (c .operands .first) 128 && ltb (c .operands .second) 64)) writeCells
-    (c .operands .first * 64 + c .operands .second) 1
-    ∷ write (is ANY c && (ltb (c .operands .first) 128 && ltb (c .operands .second) 64)) anyCells
-    (c .operands .first * 64 + c .operands .second) 1
-    ∷ write (is WIRE c && (ltb (c .operands .first * 4 + c .operands .second) 128 && ltb (c .operands .third) 64)) wireCells
-    ((c .operands .first * 4 + c .operands .second) * 64 + c .operands .third) 1
-    ∷ []
+    commandWrites t c ++ (write true countCells (c .byte) (oneMore (countIn t (c .byte))) ∷ write true progressCells 0 (groupOf (c .byte)) ∷ [])
+
+-- one more, where that is counted
+more : (n : ℕ) → n < 65536 → oneMore n ≡ n + 1
+unfolding oneMore
+more n h = rw (lt-ltb n 65536 h)
 
 -- the flow of a node is one of those counted
 pub flow-counted : (past : List Command) (n : ℕ) → flowOf past n ≤ countOf FLOW past
@@ -69,11 +52,7 @@ flow-counted (c ∷ past) n = by-node (is NODE c && eqb (countOf NODE past) n) (
     by-node true h = omega (arith, count-grows FLOW c past)
     by-node false h = omega (arith, count-grows FLOW c past)
 
--- a write to another cell, and one to this cell
-other-cell : (b : Bool) (x y : ℕ) → cond (b && false) x y ≡ y
-other-cell true x y = refl
-other-cell false x y = refl
-
+-- a write to this cell
 this-cell : (b : Bool) (x y : ℕ) → cond (b && true) x y ≡ cond b x y
 this-cell true x y = refl
 this-cell false x y = refl
@@ -121,12 +100,13 @@ first-message true j i k old message x older h q z = by-cell (eqb j i) refl
     by-cell true e = let g : j ≡ i = eqb-true j i e in let m = h refl in rw (lt-ltb i k (omega arith), z refl e)
     by-cell false e = q ∙ sym (append-nil older)
 
-module _ (t : List ℕ) (past : List Command) (c : Command) (s : Stands t past) (v : Valid (c ∷ past)) where
+module _ (t : List ℕ) (past : List Command) (c : Command) (s : Stands t past) (v : Valid (c ∷ past))
+    (few : length past < 65536) where
   after : List ℕ
   after = written t (noteWrites t c)
 
   -- a section after the writes
-  in-section : (r : Section) → r .0 + r .1 ≤ 15936 → sorted r (noteWrites t c) ≡ true → (i : ℕ)
+  in-section : (r : Section) → r .0 + r .1 ≤ cellCount → sorted r (noteWrites t c) ≡ true → (i : ℕ)
       → entryIn after r i ≡ left r (noteWrites t c) i (entryIn t r i)
   unfolding after
   in-section r h o i = entry-written t (noteWrites t c) r (rw (s .size) h) o i
@@ -155,15 +135,14 @@ module _ (t : List ℕ) (past : List Command) (c : Command) (s : Stands t past) 
   unfolding countOf
   counts-next b h =
       in-section countCells (omega arith) refl b
-      ∙ column true (c .byte) b 128 (countIn t (c .byte) + 1) (countIn t b) (countOf b past + 1) (countOf b past)
+      ∙ column true (c .byte) b 128 (oneMore (countIn t (c .byte))) (countIn t b) (countOf b past + 1) (countOf b past)
       (λ e. byte-low (c .byte) (v .1 .known))
-      (λ e q. rw (q, s .counts b h)) (s .counts b h)
+      (λ e q. rw (q, s .counts b h) (more (countOf b past) (omega (arith, count-below b past)))) (s .counts b h)
 
   group-next : (d : Command) → groupFalls (c ∷ past) d ≡ ltb (groupOf (d .byte)) (groupIn after)
   unfolding groupFalls
   group-next d =
-      let g : groupIn after ≡ groupOf (c .byte) = in-section progressCells (omega arith) refl 0
-      ∙ other-cell (is BODY c) (c .operands .first) (groupOf (c .byte)) in
+      let g : groupIn after ≡ groupOf (c .byte) = in-section progressCells (omega arith) refl 0 in
       let l = ltb-false (groupOf (c .byte)) (groupIn t) (sym (s .group c) ∙ passes past c (v .2) .ordered) in
       rw (g, s .group d) (highest (groupOf (d .byte)) (groupOf (c .byte)) (groupIn t) l)
 
@@ -210,8 +189,9 @@ module _ (t : List ℕ) (past : List Command) (c : Command) (s : Stands t past) 
   lengths-next : (n : ℕ) → lengthIn after n ≡ bodyLength (c ∷ past) n
   lengths-next n =
       in-section lengthCells (omega arith) refl n
-      ∙ column (isHandler c) (openIn t) n 64 (lengthIn t (openIn t) + 1) (lengthIn t n) (bodyLength past n + 1) (bodyLength past n)
-      (λ e. omega (arith, s .opened, open-inside past (v .0))) (λ e q. rw (q, s .lengths n)) (s .lengths n)
+      ∙ column (isHandler c) (openIn t) n 64 (oneMore (lengthIn t (openIn t))) (lengthIn t n) (bodyLength past n + 1) (bodyLength past n)
+      (λ e. omega (arith, s .opened, open-inside past (v .0)))
+      (λ e q. rw (q, s .lengths n) (more (bodyLength past n) (omega (arith, limits past (v .0) .handlers n)))) (s .lengths n)
       ∙ rw (s .opened, body-next c past n)
 
   -- an operand of a command with this byte
@@ -248,32 +228,34 @@ module _ (t : List ℕ) (past : List Command) (c : Command) (s : Stands t past) 
       by-byte true h = rw (h refl .0, h refl .1) (and-true (eqb (c .operands .first) n))
       by-byte false h = refl
 
-  bodies-next : (n : ℕ) → markIn after bodyCells n ≡ occurs BODY (binary n 0) (c ∷ past)
-  unfolding markIn
+  bodies-next : (n : ℕ) → flagIn after bodyCells n ≡ occurs BODY (binary n 0) (c ∷ past)
+  unfolding flagIn
   bodies-next n =
       rw (in-section bodyCells (omega arith) refl n)
       (flag (is BODY c) (c .operands .first) n 64 (entryIn t bodyCells n) (occurs BODY (binary n 0) past)
       (λ e. omega (arith, body-range e .0)) (s .bodies n)
       ∙ rw (occurs-next c past BODY (binary n 0), same-one BODY n (λ e. (body-range e .1, body-range e .2))))
 
-  started-after : (f : ℕ) → markIn after startedCells f ≡ startedIn (c ∷ past) f
-  unfolding markIn
+  started-after : (f : ℕ) → flagIn after startedCells f ≡ startedIn (c ∷ past) f
+  unfolding flagIn
   started-after f =
       rw (in-section startedCells (omega arith) refl f)
       (flag (is START c) (flowIn t (c .operands .first)) f 64 (entryIn t startedCells f) (startedIn past f)
       (λ e. omega (arith, s .flow (c .operands .first), flow-counted past (c .operands .first), limits past (v .0) .flows)) (s .started f)
       ∙ rw (started-next c past f, s .flow (c .operands .first)))
 
-  grid-next :
-      (r : Section) (b : ℕ) → r .1 ≡ 2048 → (row x : ℕ)
-      → entryIn after r (row * 64 + x) ≡ cond ((is b c && (ltb (c .operands .first) 128 && ltb (c .operands .second) 64)) &&
-      (eqb (c .operands .first * 64 + c .operands .second) (row * 64 + x) && ltb (row * 64 + x) 2048)) 1 (entryIn t r (row * 64 + x))
+  -- the marks of a section after a command with this byte: those before, and the one of its first two operands
+  mark-next :
+      (r : Section) (b : ℕ) → r .1 ≡ 64 → (row x : ℕ)
+      → entryIn after r (markCell row x) ≡ cond ((is b c && isMark (c .operands .first) (c .operands .second)) &&
+      (eqb (markCell (c .operands .first) (c .operands .second)) (markCell row x) && ltb (markCell row x) 64))
+      (marksWith t r (c .operands .first) (c .operands .second)) (entryIn t r (markCell row x))
       → (is b c ≡ true → (c .operands .first < 32) × (c .operands .second < 64) × (c .operands .third ≡ 0))
-      → gridIn t r row x ≡ occurs b (binary row x) past → gridIn after r row x ≡ occurs b (binary row x) (c ∷ past)
-  unfolding gridIn markIn
-  grid-next r b size row x e h q =
+      → markIn t r row x ≡ occurs b (binary row x) past → markIn after r row x ≡ occurs b (binary row x) (c ∷ past)
+  unfolding markIn
+  mark-next r b size row x e h q =
       rw e
-      (grid (c .operands .first) (c .operands .second) row x 2048 (entryIn t r (row * 64 + x)) (is b c) (occurs b (binary row x) past)
+      (marking (entryIn t r) (c .operands .first) (c .operands .second) row x 64 (is b c) (occurs b (binary row x) past)
       (λ p. omega (arith, h p .0)) (λ p. h p .1) (λ p. omega (arith, h p .0, h p .1)) q
       ∙ rw (occurs-next c past b (binary row x), same-two))
     where
@@ -287,45 +269,38 @@ module _ (t : List ℕ) (past : List Command) (c : Command) (s : Stands t past) 
           by-byte true h = rw (h refl .2) (ap (λ (y : Bool). eqb (c .operands .first) row && y)
               (sym (and-true (eqb (c .operands .second) x))))
 
-  reads-next : (n x : ℕ) → gridIn after readCells n x ≡ occurs READ (binary n x) (c ∷ past)
-  reads-next n x = grid-next readCells READ refl n x (in-section readCells (omega arith) refl (n * 64 + x)) (access-range READ (inl refl))
+  reads-next : (n x : ℕ) → markIn after readCells n x ≡ occurs READ (binary n x) (c ∷ past)
+  reads-next n x = mark-next readCells READ refl n x (in-section readCells (omega arith) refl (markCell n x)) (access-range READ (inl refl))
       (s .reads n x)
 
-  writes-next : (n x : ℕ) → gridIn after writeCells n x ≡ occurs WRITE (binary n x) (c ∷ past)
-  writes-next n x = grid-next writeCells WRITE refl n x (in-section writeCells (omega arith) refl (n * 64 + x))
+  writes-next : (n x : ℕ) → markIn after writeCells n x ≡ occurs WRITE (binary n x) (c ∷ past)
+  writes-next n x = mark-next writeCells WRITE refl n x (in-section writeCells (omega arith) refl (markCell n x))
       (access-range WRITE (inr refl)) (s .writes n x)
 
-  anys-next : (n f : ℕ) → gridIn after anyCells n f ≡ occurs ANY (binary n f) (c ∷ past)
+  anys-next : (n f : ℕ) → markIn after anyCells n f ≡ occurs ANY (binary n f) (c ∷ past)
   anys-next n f =
-      grid-next anyCells ANY refl n f (in-section anyCells (omega arith) refl (n * 64 + f)) (λ e. let r = any-range e in
+      mark-next anyCells ANY refl n f (in-section anyCells (omega arith) refl (markCell n f)) (λ e. let r = any-range e in
       (r .0, omega (arith, r .1), r .2)) (s .anys n f)
 
-  wire-grid : (row m : ℕ) → gridIn after wireCells row m ≡ ((is WIRE c &&
-      (eqb (c .operands .first * 4 + c .operands .second) row && eqb (c .operands .third) m)) || gridIn t wireCells row m)
-  unfolding gridIn markIn
-  wire-grid row m =
-      rw (in-section wireCells (omega arith) refl (row * 64 + m))
-      (grid (c .operands .first * 4 + c .operands .second) (c .operands .third) row m 8192 (entryIn t wireCells (row * 64 + m)) (is WIRE c)
-      ((ltb row 128 && ltb m 64) && not (eqb (entryIn t wireCells (row * 64 + m)) 0))
+  wire-mark : (row m : ℕ) → markIn after wireCells row m ≡ ((is WIRE c &&
+      (eqb (c .operands .first * 4 + c .operands .second) row && eqb (c .operands .third) m)) || markIn t wireCells row m)
+  unfolding markIn
+  wire-mark row m =
+      rw (in-section wireCells (omega arith) refl (markCell row m))
+      (marking (entryIn t wireCells) (c .operands .first * 4 + c .operands .second) (c .operands .third) row m 256 (is WIRE c)
+      (isMark row m && bitOf (entryIn t wireCells (markCell row m)) (m % 32))
       (λ p. omega (arith, wire-range p .0, wire-range p .1)) (λ p. omega (arith, wire-range p .2))
       (λ p. omega (arith, wire-range p .0, wire-range p .1, wire-range p .2)) refl)
 
   wires-next : (n p m : ℕ) → wiredIn after n p m ≡ occurs WIRE (ternary n p m) (c ∷ past)
   wires-next n p m =
-      let e : gridIn after wireCells (n * 4 + p) m ≡ ((is WIRE c &&
-      (eqb (c .operands .first * 4 + c .operands .second) (n * 4 + p) && eqb (c .operands .third) m)) || gridIn t wireCells
-      (n * 4 + p) m) = in-grid in
+      let e = wire-mark (n * 4 + p) m in
       rw (e, occurs-next c past WIRE (ternary n p m))
-      (wire (is WIRE c) (c .operands .first) (c .operands .second) (c .operands .third) n p m (gridIn t wireCells (n * 4 + p) m)
+      (wire (is WIRE c) (c .operands .first) (c .operands .second) (c .operands .third) n p m (markIn t wireCells (n * 4 + p) m)
       (occurs WIRE (ternary n p m) past) (λ q. wire-range q .1) (s .wires n p m))
-    where
-      in-grid : gridIn after wireCells (n * 4 + p) m ≡ ((is WIRE c &&
-          (eqb (c .operands .first * 4 + c .operands .second) (n * 4 + p) && eqb (c .operands .third) m)) || gridIn t wireCells
-          (n * 4 + p) m)
-      in-grid = wire-grid (n * 4 + p) m
 
-  firsts-next : (n : ℕ) → only (markIn after firstCells n) (entryIn after messageCells n) ≡ startsOf (c ∷ past) n
-  unfolding markIn
+  firsts-next : (n : ℕ) → only (flagIn after firstCells n) (entryIn after messageCells n) ≡ startsOf (c ∷ past) n
+  unfolding flagIn
   firsts-next n =
       rw (in-section firstCells (omega arith) refl n, in-section messageCells (omega arith) refl n, starts-next c past n)
       (first-message (is START c) (c .operands .first) n 64 (entryIn t firstCells n) (entryIn t messageCells n) (c .operands .second)
@@ -416,78 +391,8 @@ module _ (t : List ℕ) (past : List Command) (c : Command) (s : Stands t past) 
 
 -- the tables after the writes as the code makes them, one after the other
 pub stands-noted :
-    (t : List ℕ) (c : Code) (have flows nodes variables functions arguments opened len flow more longer less : ℕ) (body : Bool)
-    (u₁ u₂ u₃ u₄ u₅ u₆ u₇ u₈ u₉ u₁₀ u₁₁ u₁₂ u₁₃ u₁₄ u₁₅ u₁₆ u₁₇ u₁₈ u₁₉ u₂₀ : List ℕ) (past : List Command)
-    → c .group ≡ groupOf (c .byte) → Stands t past → Valid (commandOf c ∷ past) → length past < 65536
-    → have ≡ countIn t (c .byte) → flows ≡ countIn t FLOW → nodes ≡ countIn t NODE → variables ≡ countIn t VAR → functions ≡ countIn t FUN
-    → arguments ≡ countIn t ARG
-    → opened ≡ openIn t → len ≡ lengthIn t opened → flow ≡ flowIn t (c .first) → body ≡ (leb 0x41 (c .byte) && leb (c .byte) 0x4B)
-    → (have < 65536 → more ≡ have + 1) → (len < 65536 → longer ≡ len + 1) → less ≡ flows - 1
-    → u₁ ≡ putIn t true countCells (c .byte) more
-    → u₂ ≡ putIn u₁ true progressCells 0 (c .group)
-    → u₃ ≡ putIn u₂ (eqb (c .byte) BODY) progressCells 1 (c .first)
-    → u₄ ≡ putIn u₃ (eqb (c .byte) NODE) flowCells nodes less
-    → u₅ ≡ putIn u₄ (eqb (c .byte) VAR) scopeCells variables (c .first)
-    → u₆ ≡ putIn u₅ (eqb (c .byte) VAR) ownerCells variables (c .second)
-    → u₇ ≡ putIn u₆ (eqb (c .byte) VAR) startCells variables (c .third)
-    → u₈ ≡ putIn u₇ (eqb (c .byte) FUN) answerCells functions (c .first)
-    → u₉ ≡ putIn u₈ body lengthCells opened longer
-    → u₁₀ ≡ putIn u₉ (eqb (c .byte) BODY) bodyCells (c .first) 1
-    → u₁₁ ≡ putIn u₁₀ (eqb (c .byte) START) startedCells flow 1
-    → u₁₂ ≡ putIn u₁₁ (eqb (c .byte) START) firstCells (c .first) 1
-    → u₁₃ ≡ putIn u₁₂ (eqb (c .byte) START) messageCells (c .first) (c .second)
-    → u₁₄ ≡ putIn u₁₃ (eqb (c .byte) ARG) argNodeCells arguments (c .first)
-    → u₁₅ ≡ putIn u₁₄ (eqb (c .byte) ARG) argFunctionCells arguments (c .second)
-    → u₁₆ ≡ putIn u₁₅ (eqb (c .byte) ARG) argValueCells arguments (c .third)
-    → u₁₇ ≡ markAt u₁₆ (eqb (c .byte) READ) readCells (c .first) (c .second)
-    → u₁₈ ≡ markAt u₁₇ (eqb (c .byte) WRITE) writeCells (c .first) (c .second)
-    → u₁₉ ≡ markAt u₁₈ (eqb (c .byte) ANY) anyCells (c .first) (c .second)
-    → u₂₀ ≡ markAt u₁₉ (eqb (c .byte) WIRE) wireCells (c .first * 4 + c .second) (c .third)
-    → Stands u₂₀ (commandOf c ∷ past)
-unfolding markAt
-stands-noted t c have flows nodes variables functions arguments opened len flow more longer less body u₁ u₂ u₃ u₄ u₅ u₆ u₇ u₈ u₉ u₁₀ u₁₁ u₁₂
-    u₁₃ u₁₄ u₁₅ u₁₆ u₁₇ u₁₈ u₁₉ u₂₀ past g s v l a₁ a₂ a₃ a₄ a₅ a₆ a₇ a₈ a₉ b₁ b₂ b₃ b₄ e₁ e₂ e₃ e₄ e₅ e₆ e₇ e₈ e₉ e₁₀ e₁₁ e₁₂ e₁₃ e₁₄ e₁₅
-    e₁₆ e₁₇ e₁₈ e₁₉ e₂₀ =
-    let p : more ≡ countIn t (c .byte) + 1 = b₂ (omega (
-      arith,
-      s .counts (c .byte) (byte-low (c .byte) (v .1 .known)),
-      count-below
-          (c .byte) past,
-    )) ∙ rw a₁ in
-    let q : longer ≡ lengthIn t (openIn t) + 1 = b₃ (omega (arith, s .lengths opened, limits past (v .0) .handlers opened)) ∙ rw (a₈, a₇) in
-    let same : u₂₀ ≡ written t (noteWrites t (commandOf c)) =
-    rw (
-      e₂₀,
-      e₁₉,
-      e₁₈,
-      e₁₇,
-      e₁₆,
-      e₁₅,
-      e₁₄,
-      e₁₃,
-      e₁₂,
-      e₁₁,
-      e₁₀,
-      e₉,
-      e₈,
-      e₇,
-      e₆,
-      e₅,
-      e₄,
-      e₃,
-      e₂,
-      e₁,
-      g,
-      p,
-      q,
-      b₄,
-      b₁,
-      a₂,
-      a₃,
-      a₄,
-      a₅,
-      a₆,
-      a₇,
-      a₉,
-    ) in
-    rw same (stands-next t past (commandOf c) s v)
+    (t : List ℕ) (c : Code) (have : ℕ) (u₁ u₂ u₃ : List ℕ) → have ≡ countIn t (c .byte)
+    → u₁ ≡ written t (commandWrites t (commandOf c)) → u₂ ≡ putIn u₁ countCells (c .byte) (oneMore have)
+    → u₃ ≡ putIn u₂ progressCells 0 (c .group) → Notes t c u₃
+unfolding made
+stands-noted t c have u₁ u₂ u₃ h e₁ e₂ e₃ past g s v few = rw (e₃, e₂, e₁, h, g) (stands-next t past (commandOf c) s v few)

@@ -1,21 +1,26 @@
-// Noting one more command: every write is made for every command, and changes something only for the commands that it belongs to.
+// Noting one more command: what it declares, by its kind, then its count and its group.
+mod kinds;
+
 ghost use mathlib.Core.Path.{_≡_};
-ghost use Prim.Native.Nat.{_+_, _-_, _<_};
-ghost use Rattle.notes.specs.Notes.{Notes};
+ghost use Rattle.command.specs.Reading.{commandOf};
+ghost use Rattle.notes.specs.Notes.{Notes, commandWrites, oneMore, written};
 use command::bytes;
 use command::numbers::NodeNum;
 use command::read::Command;
 use declared::count_of;
-use declared::flow_of;
-use declared::length_of;
-use declared::open_node;
+use kinds::note_body;
+use kinds::note_function;
+use kinds::note_handler;
+use kinds::note_node;
+use kinds::note_operands;
+use kinds::note_start;
 use tables::cells;
 use tables::cells::mark;
 use tables::cells::put;
 
 // One more, for a number below 65,536.
-fn bumped(n: u32) -> u32
-    ensures { λ r. ⌜ (n < 65536 → r ≡ n + 1) ⌝ }
+pub(crate) fn one_more(n: u32) -> u32
+    ensures { λ r. ⌜ r ≡ oneMore n ⌝ }
 {
     if n < 65536 {
         return n + 1;
@@ -23,83 +28,40 @@ fn bumped(n: u32) -> u32
     n
 }
 
-// One less, and 0 for 0.
-fn lowered(n: u32) -> u32
-    ensures { λ r. ⌜ r ≡ n - 1 ⌝ }
+// Notes what a command says besides its byte and group: nothing, for FLOW and TURN.
+fn note_content(tables: &mut [u32], c: Command)
+    ensures { λ _. ⌜ now (tables .exit) ≡ written (now (tables .entry)) (commandWrites (now (tables .entry)) (commandOf c)) ⌝ }
 {
-    if 0 < n {
-        return n - 1;
+    let first = c.first as usize;
+    let second = c.second as usize;
+    let byte = c.byte;
+    match byte {
+        bytes::NODE => note_node(tables),
+        bytes::VAR => note_operands(tables, c, cells::SCOPE, cells::OWNER, cells::INITIAL),
+        bytes::FUN => note_function(tables, c),
+        bytes::WIRE => mark(tables, cells::WIRES, first * 4 + second, c.third as usize),
+        bytes::ANY => mark(tables, cells::CALLS, first, second),
+        bytes::ARG => note_operands(
+            tables,
+            c,
+            cells::ARG_NODE,
+            cells::ARG_FUNCTION,
+            cells::ARG_VALUE,
+        ),
+        bytes::READ => mark(tables, cells::READS, first, second),
+        bytes::WRITE => mark(tables, cells::WRITES, first, second),
+        bytes::BODY => note_body(tables, NodeNum(c.first)),
+        bytes::START => note_start(tables, NodeNum(c.first), c.second),
+        _ => note_handler(tables, byte),
     }
-    0
 }
 
 // Notes a command that passed the tests: the tables then stand for one command more.
 pub fn note(tables: &mut [u32], c: Command)
     ensures { λ _. ⌜ Notes (now (tables .entry)) c (now (tables .exit)) ⌝ }
 {
-    let b = c.byte;
-    let first = c.first as usize;
-    let second = c.second as usize;
-    let wires = first * 4 + second;
-    let group = c.group as u32;
-    let have = count_of(tables, b);
-    let flows = count_of(tables, bytes::FLOW);
-    let nodes = count_of(tables, bytes::NODE) as usize;
-    let variables = count_of(tables, bytes::VAR) as usize;
-    let functions = count_of(tables, bytes::FUN) as usize;
-    let arguments = count_of(tables, bytes::ARG) as usize;
-    let opened = open_node(tables);
-    let len = length_of(tables, opened);
-    let flow = flow_of(tables, NodeNum(c.first));
-    let handler = bytes::is_handler(b);
-    put(tables, true, cells::COUNTS, b as usize, bumped(have));
-    put(tables, true, cells::PROGRESS, 0, group);
-    put(tables, b == bytes::BODY, cells::PROGRESS, 1, c.first);
-    put(tables, b == bytes::NODE, cells::FLOW, nodes, lowered(flows));
-    put(tables, b == bytes::VAR, cells::SCOPE, variables, c.first);
-    put(tables, b == bytes::VAR, cells::OWNER, variables, c.second);
-    put(tables, b == bytes::VAR, cells::INITIAL, variables, c.third);
-    put(tables, b == bytes::FUN, cells::ANSWER, functions, c.first);
-    put(
-        tables,
-        handler,
-        cells::LENGTH,
-        opened.0 as usize,
-        bumped(len),
-    );
-    put(tables, b == bytes::BODY, cells::BODY, first, 1);
-    put(
-        tables,
-        b == bytes::START,
-        cells::STARTED,
-        flow.0 as usize,
-        1,
-    );
-    put(tables, b == bytes::START, cells::FIRST, first, 1);
-    put(tables, b == bytes::START, cells::MESSAGE, first, c.second);
-    put(tables, b == bytes::ARG, cells::ARG_NODE, arguments, c.first);
-    put(
-        tables,
-        b == bytes::ARG,
-        cells::ARG_FUNCTION,
-        arguments,
-        c.second,
-    );
-    put(
-        tables,
-        b == bytes::ARG,
-        cells::ARG_VALUE,
-        arguments,
-        c.third,
-    );
-    mark(tables, b == bytes::READ, cells::READS, first, second);
-    mark(tables, b == bytes::WRITE, cells::WRITES, first, second);
-    mark(tables, b == bytes::ANY, cells::CALLS, first, second);
-    mark(
-        tables,
-        b == bytes::WIRE,
-        cells::WIRES,
-        wires,
-        c.third as usize,
-    );
+    let have = count_of(tables, c.byte);
+    note_content(tables, c);
+    put(tables, cells::COUNTS, c.byte as usize, one_more(have));
+    put(tables, cells::PROGRESS, 0, c.group as u32);
 }

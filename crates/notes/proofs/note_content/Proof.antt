@@ -1,0 +1,167 @@
+-- `notes::note_content` meets its contract.
+use mathlib.Core.Path.{_∙_}
+use borrow.Author.Needs.{needs}
+use Rattle.command.specs.Reading.{commandOf}
+use Rattle.notes.proofs.Arms.{node-arm, variable-arm, function-arm, wire-arm, any-arm, argument-arm, read-arm, write-arm}
+use Rattle.notes.proofs.Arms.{body-arm, start-arm, rest-arm}
+use Rattle.notes.proofs.note_content.Statement.{statement}
+use Rattle.notes.proofs.note_content.Tie as tie
+
+cast-first : tie.Need-cast-first
+cast-first c = search needs
+
+cast-second : tie.Need-cast-second
+cast-second c = search needs
+
+note-node-requires : tie.Need-note-node-requires
+note-node-requires c κs = search needs
+
+note-operands-requires : tie.Need-note-operands-requires
+note-operands-requires c κs = search needs
+
+note-function-requires : tie.Need-note-function-requires
+note-function-requires c κs = search needs
+
+mul-mark : tie.Need-mul-mark
+mul-mark c = search needs
+
+add-mark : tie.Need-add-mark
+add-mark c = search needs
+
+cast-mark : tie.Need-cast-mark
+cast-mark c = search needs
+
+mark-requires : tie.Need-mark-requires
+mark-requires c κs = search needs
+
+mark-requires-2 : tie.Need-mark-requires-2
+mark-requires-2 c κs = search needs
+
+note-operands-requires-2 : tie.Need-note-operands-requires-2
+note-operands-requires-2 c κs = search needs
+
+mark-requires-3 : tie.Need-mark-requires-3
+mark-requires-3 c κs = search needs
+
+mark-requires-4 : tie.Need-mark-requires-4
+mark-requires-4 c κs = search needs
+
+note-body-requires : tie.Need-note-body-requires
+note-body-requires c κs = search needs
+
+note-start-requires : tie.Need-note-start-requires
+note-start-requires c κs = search needs
+
+note-handler-requires : tie.Need-note-handler-requires
+note-handler-requires c κs = search needs
+
+same-length : tie.Need-same-length
+same-length c = search needs
+
+returns : tie.Need-returns
+returns c = c .before .before .note-node .ensures ∙ node-arm _ (commandOf (c .before .before .before .before .before .before .before .before .args .c)) (c .before .before .before .before .match .keys1)
+
+same-length-2 : tie.Need-same-length-2
+same-length-2 c = search needs
+
+returns-2 : tie.Need-returns-2
+returns-2 c = c .before .before .note-operands .ensures ∙ variable-arm _ (commandOf (c .before .before .before .before .before .before .before .before .args .c)) (c .before .before .before .before .match .keys2)
+
+same-length-3 : tie.Need-same-length-3
+same-length-3 c = search needs
+
+returns-3 : tie.Need-returns-3
+returns-3 c = c .before .before .note-function .ensures ∙ function-arm _ (commandOf (c .before .before .before .before .before .before .before .before .args .c)) (c .before .before .before .before .match .keys3)
+
+same-length-4 : tie.Need-same-length-4
+same-length-4 c = search needs
+
+returns-4 : tie.Need-returns-4
+returns-4 c = c .before .before .mark .ensures ∙ wire-arm _ (commandOf (c .before .before .before .before .before .before .before .before .before .args .c)) (c .before .before .before .before .before .match .keys4)
+
+same-length-5 : tie.Need-same-length-5
+same-length-5 c = search needs
+
+returns-5 : tie.Need-returns-5
+returns-5 c = c .before .before .mark2 .ensures ∙ any-arm _ (commandOf (c .before .before .before .before .before .before .before .before .args .c)) (c .before .before .before .before .match .keys5)
+
+same-length-6 : tie.Need-same-length-6
+same-length-6 c = search needs
+
+returns-6 : tie.Need-returns-6
+returns-6 c = c .before .before .note-operands2 .ensures ∙ argument-arm _ (commandOf (c .before .before .before .before .before .before .before .before .args .c)) (c .before .before .before .before .match .keys6)
+
+same-length-7 : tie.Need-same-length-7
+same-length-7 c = search needs
+
+returns-7 : tie.Need-returns-7
+returns-7 c = c .before .before .mark3 .ensures ∙ read-arm _ (commandOf (c .before .before .before .before .before .before .before .before .args .c)) (c .before .before .before .before .match .keys7)
+
+same-length-8 : tie.Need-same-length-8
+same-length-8 c = search needs
+
+returns-8 : tie.Need-returns-8
+returns-8 c = c .before .before .mark4 .ensures ∙ write-arm _ (commandOf (c .before .before .before .before .before .before .before .before .args .c)) (c .before .before .before .before .match .keys8)
+
+same-length-9 : tie.Need-same-length-9
+same-length-9 c = search needs
+
+returns-9 : tie.Need-returns-9
+returns-9 c = c .before .before .note-body .ensures ∙ body-arm _ (commandOf (c .before .before .before .before .before .before .before .before .args .c)) (c .before .before .before .before .match .keys9)
+
+same-length-10 : tie.Need-same-length-10
+same-length-10 c = search needs
+
+returns-10 : tie.Need-returns-10
+returns-10 c = c .before .before .note-start .ensures ∙ start-arm _ (commandOf (c .before .before .before .before .before .before .before .before .args .c)) (c .before .before .before .before .match .keys10)
+
+same-length-11 : tie.Need-same-length-11
+same-length-11 c = search needs
+
+returns-11 : tie.Need-returns-11
+returns-11 c =
+    let n = c .before .before .before .before .match .rest in
+    c .before .before .note-handler .ensures ∙ rest-arm _ (commandOf (c .before .before .before .before .before .before .before .before .args .c)) (n .0 .0 .0 .0 .0 .0 .0 .0 .0 .1) (n .0 .0 .0 .0 .0 .0 .0 .0 .1) (n .0 .0 .0 .0 .0 .0 .0 .1) (n .0 .0 .0 .0 .0 .0 .1) (n .0 .0 .0 .0 .0 .1) (n .0 .0 .0 .0 .1) (n .0 .0 .0 .1) (n .0 .0 .1) (n .0 .1) (n .1)
+
+pub note-content-spec : {M : Type 1} → statement M
+note-content-spec =
+    tie.close
+    (tie.spec
+    cast-first
+    cast-second
+    note-node-requires
+    note-operands-requires
+    note-function-requires
+    mul-mark
+    add-mark
+    cast-mark
+    mark-requires
+    mark-requires-2
+    note-operands-requires-2
+    mark-requires-3
+    mark-requires-4
+    note-body-requires
+    note-start-requires
+    note-handler-requires
+    same-length
+    returns
+    same-length-2
+    returns-2
+    same-length-3
+    returns-3
+    same-length-4
+    returns-4
+    same-length-5
+    returns-5
+    same-length-6
+    returns-6
+    same-length-7
+    returns-7
+    same-length-8
+    returns-8
+    same-length-9
+    returns-9
+    same-length-10
+    returns-10
+    same-length-11
+    returns-11)
