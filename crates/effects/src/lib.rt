@@ -3,7 +3,6 @@ ghost use mathlib.Core.Path.{_≡_};
 ghost use Prim.Native.Nat.{_<_};
 ghost use Rattle.effects.specs.Effects.{Performs, effect};
 use command::instruction::Instruction;
-use command::numbers::VarNum;
 use declared::answer_of;
 use memory::Change;
 use memory::Registers;

@@ -17,7 +17,7 @@ use Rattle.entries.specs.Entries.{Comes, ruleOf}
 use Rattle.memory.specs.Queues.{countAt, BoundedCounts}
 use Rattle.memory.proofs.Waiting.{count-at, oldest-is}
 use Rattle.memory.specs.declared.Registers.{Registers}
-use Rattle.memory.specs.Changes.{registersAt, variablesAfter, carried, Possible, isNothing}
+use Rattle.memory.specs.Changes.{registersAt, variablesAfter, Possible, isNothing}
 use Rattle.plans.specs.declared.Plan.{Plan}
 use Rattle.plans.specs.Plans.{Plans, PlansTurn}
 use Rattle.memory.specs.Changes.{Changes}

@@ -4,7 +4,7 @@ use mathlib.Core.Path.{_≡_, refl, sym, ap, subst, _∙_}
 use mathlib.Core.List.{List}
 use mathlib.Core.Logic.{_↔_, _⊎_, inl, inr, Iff·symm, Iff·trans}
 use native.Mathlib.Omega.{arith}
-use Rattle.run.specs.Answers.{Told, refusal, answer, toldIn, Call, call, Gives, Monitored, Unmonitored}
+use Rattle.run.specs.Answers.{Told, refusal, answer, toldIn, Call, call, Gives}
 use Rattle.model.specs.Command.{Command}
 use Rattle.model.specs.Program.{Program, programOf}
 use Rattle.model.specs.Turn.{Entry}
