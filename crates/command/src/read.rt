@@ -5,19 +5,19 @@ ghost use Prim.Native.Nat.{_+_, _<_, _≤_};
 ghost use lib.Dec.{eqb};
 ghost use lib.ListN.{length};
 ghost use Rattle.model.specs.Table.{BODY};
-ghost use Rattle.model.specs.Command.{numberAt};
-ghost use Rattle.command.specs.Reading.{ParsesAs, IsWidth};
+ghost use Rattle.model.specs.Command.{numberAt, readCommand};
+ghost use Rattle.command.specs.Reading.{ParsesAs, Extends, headOf, headIn, IsWidth};
 use crate::bytes;
 use crate::numbers::NodeNum;
 use crate::refusal::Refusal;
 use crate::table::Lookup;
 use crate::table::look_up;
-use crate::table::row_at;
+use crate::table::unpack;
 
-// A command that was read: its place in the job, its row of the table, its byte and group, and its operands, 0 where it has none.
+// A command that was read: its place in the job, its packed row of the table, its byte and group, and its operands, 0 where it has none.
 pub struct Command {
     pub place: usize,
-    pub row: usize,
+    pub row: u64,
     pub byte: u8,
     pub group: u8,
     pub first: u32,
@@ -28,6 +28,26 @@ pub struct Command {
 // What reading at a place gives: a command with the place after it, or refusal 2 or 3.
 pub enum Parsed {
     Whole(Command, usize),
+    Refused(Refusal),
+}
+
+// What a further pass over a job needs of a command: its byte and group, its first operand, and the place after it.
+pub struct Head {
+    pub byte: u8,
+    pub group: u8,
+    pub first: u32,
+    pub next: usize,
+}
+
+// What reading a head at a place gives: a head, or nothing where a command is refused by 2 or 3.
+pub enum HeadParsed {
+    Whole(Head),
+    Refused,
+}
+
+// What is known of the command at a place before its operands are read: its row and the place after it, or refusal 2 or 3.
+enum Extent {
+    Known(u64, usize),
     Refused(Refusal),
 }
 
@@ -56,47 +76,84 @@ pub fn operand(job: &[u8], at: usize, width: u8) -> u32
     0
 }
 
-// The command at a place: 2 if the byte there is none, 3 if its operands run past the end.
-pub fn read_command(job: &[u8], at: usize) -> Parsed
+// The row of the command at a place and the place after it: 2 if the byte there is none, 3 if its operands run past the end.
+fn extent_of(job: &[u8], at: usize) -> Extent
     requires { ⌜ at < length (now job) ⌝ }
-    ensures { λ r. ⌜ ParsesAs (now (job .entry)) at r ⌝ }
+    ensures { λ r. ⌜ Extends (now (job .entry)) at r ⌝ }
 {
-    let byte = job[at];
-    let found = look_up(byte);
+    let found = look_up(job[at]);
     let Lookup::Found(row) = found else {
-        return Parsed::Refused(Refusal {
+        return Extent::Refused(Refusal {
             number: 2,
             place: at,
         });
     };
-    let shape = row_at(row);
-    let first_at = at + 1;
-    let second_at = first_at + (shape.2 as usize);
-    let third_at = second_at + (shape.3 as usize);
-    let end = third_at + (shape.4 as usize);
-    if job.len() < end {
-        return Parsed::Refused(Refusal {
+    let shape = unpack(row);
+    let second_at = at + 1 + (shape.first_width as usize);
+    let third_at = second_at + (shape.second_width as usize);
+    let next = third_at + (shape.third_width as usize);
+    if job.len() < next {
+        return Extent::Refused(Refusal {
             number: 3,
             place: at,
         });
     }
-    let first = operand(job, first_at, shape.2);
-    let second = operand(job, second_at, shape.3);
-    let third = operand(job, third_at, shape.4);
-    let command = Command {
-        place: at,
-        row,
-        byte,
-        group: shape.1,
-        first,
-        second,
-        third,
+    Extent::Known(row, next)
+}
+
+// The command at a place, or its refusal.
+pub fn read_command(job: &[u8], at: usize) -> Parsed
+    requires { ⌜ at < length (now job) ⌝ }
+    ensures { λ r. ⌜ ParsesAs (now (job .entry)) at r ⌝ }
+{
+    let extent = extent_of(job, at);
+    match extent {
+        Extent::Refused(r) => Parsed::Refused(r),
+        Extent::Known(row, next) => {
+            let byte = job[at];
+            let shape = unpack(row);
+            let first_at = at + 1;
+            let second_at = first_at + (shape.first_width as usize);
+            let third_at = second_at + (shape.second_width as usize);
+            let first = operand(job, first_at, shape.first_width);
+            let second = operand(job, second_at, shape.second_width);
+            let third = operand(job, third_at, shape.third_width);
+            let command = Command {
+                place: at,
+                row,
+                byte,
+                group: shape.group,
+                first,
+                second,
+                third,
+            };
+            Parsed::Whole(command, next)
+        }
+    }
+}
+
+// The head of the command at a place, or nothing.
+pub fn read_head(job: &[u8], at: usize) -> HeadParsed
+    requires { ⌜ at < length (now job) ⌝ }
+    ensures { λ r. ⌜ headOf r ≡ headIn (readCommand (now (job .entry)) at) ⌝ }
+{
+    let extent = extent_of(job, at);
+    let Extent::Known(row, next) = extent else {
+        return HeadParsed::Refused;
     };
-    Parsed::Whole(command, end)
+    let byte = job[at];
+    let shape = unpack(row);
+    let first = operand(job, at + 1, shape.first_width);
+    HeadParsed::Whole(Head {
+        byte,
+        group: shape.group,
+        first,
+        next,
+    })
 }
 
 // The node of the open handler, after a command.
-pub fn open_after(c: Command, opened: NodeNum) -> NodeNum
+pub fn open_after(c: Head, opened: NodeNum) -> NodeNum
     ensures { λ r. ⌜ r .0 ≡ cond (eqb (c .byte) BODY) (c .first) (opened .0) ⌝ }
 {
     if c.byte == bytes::BODY {

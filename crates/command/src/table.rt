@@ -1,82 +1,96 @@
 // The command table: each command byte with its group, the widths and kinds of its operands, and its largest count.
-ghost use Prim.Native.Nat.{_<_};
-ghost use Rattle.command.specs.Rows.{rowAt, Says, Finds};
+ghost use mathlib.Core.Path.{_≡_};
+ghost use Rattle.command.specs.Rows.{unpacked, Finds};
 
-// What an operand is, by the name in its column of the paper's table; NONE where the command has no operand.
-pub const SCOPE: u8 = 0;
+// What an operand is, by the name in its column of the paper's table; NO_OPERAND where the command has none.
+pub const NO_OPERAND: u8 = 0;
 
-pub const OWNER: u8 = 1;
+pub const SCOPE_OPERAND: u8 = 1;
 
-pub const NODE: u8 = 2;
+pub const OWNER_OPERAND: u8 = 2;
 
-pub const PORT: u8 = 3;
+pub const NODE_OPERAND: u8 = 3;
 
-pub const TARGET: u8 = 4;
+pub const PORT_OPERAND: u8 = 4;
 
-pub const FUNCTION: u8 = 5;
+pub const TARGET_OPERAND: u8 = 5;
 
-pub const VARIABLE: u8 = 6;
+pub const FUNCTION_OPERAND: u8 = 6;
 
-pub const START: u8 = 7;
+pub const VARIABLE_OPERAND: u8 = 7;
 
-pub const ANSWER: u8 = 8;
+pub const START_OPERAND: u8 = 8;
 
-pub const VALUE: u8 = 9;
+pub const ANSWER_OPERAND: u8 = 9;
 
-pub const JUMP: u8 = 10;
+pub const VALUE_OPERAND: u8 = 10;
 
-pub const NONE: u8 = 11;
+pub const JUMP_OPERAND: u8 = 11;
 
-// A row: byte, group; widths of the three operands; kinds of the three operands; largest count over the whole job, 0 for none.
-pub struct Row(
-    pub u8,
-    pub u8,
-    pub u8,
-    pub u8,
-    pub u8,
-    pub u8,
-    pub u8,
-    pub u8,
-    pub u16,
-);
+// How many commands there are.
+const ROW_COUNT: usize = 23;
 
-const ROWS: [Row; 23] = [
-    Row(0x01, 0, 0, 0, 0, NONE, NONE, NONE, 8), // FLOW
-    Row(0x02, 0, 0, 0, 0, NONE, NONE, NONE, 32), // NODE
-    Row(0x10, 1, 1, 1, 4, SCOPE, OWNER, START, 64), // VAR
-    Row(0x11, 1, 4, 0, 0, ANSWER, NONE, NONE, 32), // FUN
-    Row(0x20, 2, 1, 1, 1, NODE, PORT, TARGET, 0), // WIRE
-    Row(0x30, 3, 1, 1, 0, NODE, FUNCTION, NONE, 0), // ANY
-    Row(0x31, 3, 1, 1, 4, NODE, FUNCTION, VALUE, 256), // ARG
-    Row(0x32, 3, 1, 1, 0, NODE, VARIABLE, NONE, 0), // READ
-    Row(0x33, 3, 1, 1, 0, NODE, VARIABLE, NONE, 0), // WRITE
-    Row(0x40, 4, 1, 0, 0, NODE, NONE, NONE, 0), // BODY
-    Row(0x41, 4, 4, 0, 0, VALUE, NONE, NONE, 0), // SET
-    Row(0x42, 4, 0, 0, 0, NONE, NONE, NONE, 0), // TAKE
-    Row(0x43, 4, 1, 0, 0, VARIABLE, NONE, NONE, 0), // GET
-    Row(0x44, 4, 1, 0, 0, VARIABLE, NONE, NONE, 0), // PUT
-    Row(0x45, 4, 4, 0, 0, VALUE, NONE, NONE, 0), // ADD
-    Row(0x46, 4, 1, 0, 0, VARIABLE, NONE, NONE, 0), // PLUS
-    Row(0x47, 4, 1, 0, 0, JUMP, NONE, NONE, 0), // JUMPZ
-    Row(0x48, 4, 1, 0, 0, JUMP, NONE, NONE, 0), // JUMP
-    Row(0x49, 4, 1, 0, 0, PORT, NONE, NONE, 0), // SEND
-    Row(0x4A, 4, 1, 0, 0, FUNCTION, NONE, NONE, 0), // CALL
-    Row(0x4B, 4, 0, 0, 0, NONE, NONE, NONE, 0), // SKIP
-    Row(0x50, 5, 1, 4, 0, NODE, VALUE, NONE, 0), // START
-    Row(0x60, 6, 1, 0, 0, NODE, NONE, NONE, 4096), // TURN
+// The rows, one number each. Its columns, in hexadecimal digits: the largest count over the whole job, 0 for none (4); the kinds of the
+// operands, the first one first, with room for a fourth (4); their widths (4); the group (2); the byte (2).
+const ROWS: [u64; ROW_COUNT] = [
+    0x0008_0000_0000_00_01, // FLOW
+    0x0020_0000_0000_00_02, // NODE
+    0x0040_1280_1140_01_10, // VAR
+    0x0020_9000_4000_01_11, // FUN
+    0x0000_3450_1110_02_20, // WIRE
+    0x0000_3600_1100_03_30, // ANY
+    0x0100_36A0_1140_03_31, // ARG
+    0x0000_3700_1100_03_32, // READ
+    0x0000_3700_1100_03_33, // WRITE
+    0x0000_3000_1000_04_40, // BODY
+    0x0000_A000_4000_04_41, // SET
+    0x0000_0000_0000_04_42, // TAKE
+    0x0000_7000_1000_04_43, // GET
+    0x0000_7000_1000_04_44, // PUT
+    0x0000_A000_4000_04_45, // ADD
+    0x0000_7000_1000_04_46, // PLUS
+    0x0000_B000_1000_04_47, // JUMPZ
+    0x0000_B000_1000_04_48, // JUMP
+    0x0000_4000_1000_04_49, // SEND
+    0x0000_6000_1000_04_4A, // CALL
+    0x0000_0000_0000_04_4B, // SKIP
+    0x0000_3A00_1400_05_50, // START
+    0x1000_3000_1000_06_60, // TURN
 ];
 
-// Row i of the table.
-pub fn row_at(i: usize) -> Row
-    requires { ⌜ i < 23 ⌝ }
-    ensures { λ r. ⌜ Says (rowAt i) r ⌝ }
-{
-    ROWS[i]
+// The columns of a row.
+pub struct Row {
+    pub byte: u8,
+    pub group: u8,
+    pub first_width: u8,
+    pub second_width: u8,
+    pub third_width: u8,
+    pub first_kind: u8,
+    pub second_kind: u8,
+    pub third_kind: u8,
+    pub most: u32,
 }
 
-// What looking a byte up finds: the number of its row, or that it is no command.
+// The columns of a packed row.
+pub fn unpack(row: u64) -> Row
+    ensures { λ r. ⌜ r ≡ unpacked row ⌝ }
+{
+    Row {
+        byte: (row % 0x100) as u8,
+        group: (row / 0x100 % 0x100) as u8,
+        first_width: (row / 0x1000_0000 % 0x10) as u8,
+        second_width: (row / 0x100_0000 % 0x10) as u8,
+        third_width: (row / 0x10_0000 % 0x10) as u8,
+        first_kind: (row / 0x1000_0000_0000 % 0x10) as u8,
+        second_kind: (row / 0x100_0000_0000 % 0x10) as u8,
+        third_kind: (row / 0x10_0000_0000 % 0x10) as u8,
+        most: (row / 0x1_0000_0000_0000 % 0x1_0000) as u32,
+    }
+}
+
+// What looking a byte up finds: its packed row, or that it is no command.
 pub enum Lookup {
-    Found(usize),
+    Found(u64),
     Missing,
 }
 
@@ -86,10 +100,10 @@ pub fn look_up(byte: u8) -> Lookup
 {
     let rows = ROWS;
     let mut i = 0;
-    while i < 23 {
-        let r = rows[i];
-        if r.0 == byte {
-            return Lookup::Found(i);
+    while i < ROW_COUNT {
+        let row = rows[i];
+        if (row % 0x100) as u8 == byte {
+            return Lookup::Found(row);
         }
         i += 1;
     }

@@ -6,11 +6,11 @@ use mathlib.Core.List.{List, []}
 use mathlib.Core.Option.{Option, none, some}
 use native.Mathlib.Omega.{arith}
 use native.Mathlib.Numerals.{add-one}
-use lib.Dec.{leb, eqb}
+use lib.Dec.{leb}
 use lib.ListN.{length, getD, drop, drop-of-length-le}
 use lib.Seq.{drop-cons}
-use borrow.Author.Tests.{eq-eqb, ne-eqb, le-leb, lt-leb, leb-true}
-use Rattle.model.specs.Table.{OperandKind, absent, width, Row, row, table, operandsIn, operandsOf, operandAt, kindAt}
+use borrow.Author.Tests.{ne-eqb, le-leb, lt-leb, leb-true}
+use Rattle.model.specs.Table.{OperandKind, absent, width, Row, row, table, operandsIn, operandsOf}
 use Rattle.model.specs.Command.{Command, numberAt, whole, unknown, cutShort, endAt, firstAt, secondAt, thirdAt, commandAt, readAs}
 use Rattle.model.specs.Command.{readCommand}
 use Rattle.model.specs.Valid.{Plain}
@@ -24,27 +24,14 @@ pub search-start : (b : ℕ) → operandsOf b ≡ operandsIn (drop 0 table) b
 unfolding operandsOf
 search-start b = refl
 
-search-row : (b i : ℕ) → i < 23 → operandsIn (drop i table) b ≡ cond (eqb (rowAt i .byte) b) (some (rowAt i .operands))
-    (operandsIn (drop (i + 1) table) b)
-unfolding operandsIn
-search-row b i h = rw (drop-cons table i (row 0 []) h, add-one)
-
 module _ (b i : ℕ) (e : operandsOf b ≡ operandsIn (drop i table) b) where
-  pub search-hit : i < 23 → rowAt i .byte ≡ b → operandsOf b ≡ some (rowAt i .operands)
-  search-hit h t = e ∙ search-row b i h ∙ ap (λ (y : Bool). cond y (some (rowAt i .operands)) (operandsIn (drop (i + 1) table) b))
-      (eq-eqb (rowAt i .byte) b t)
+  pub search-miss : i < length table → ¬ (rowAt i .byte ≡ b) → operandsOf b ≡ operandsIn (drop (i + 1) table) b
+  unfolding operandsIn
+  search-miss h t = e ∙ rw (drop-cons table i (row 0 []) h, add-one, ne-eqb (rowAt i .byte) b t)
 
-  pub search-miss : i < 23 → ¬ (rowAt i .byte ≡ b) → operandsOf b ≡ operandsIn (drop (i + 1) table) b
-  search-miss h t = e ∙ search-row b i h ∙ ap (λ (y : Bool). cond y (some (rowAt i .operands)) (operandsIn (drop (i + 1) table) b))
-      (ne-eqb (rowAt i .byte) b t)
-
-  pub search-end : 23 ≤ i → operandsOf b ≡ none
+  pub search-end : length table ≤ i → operandsOf b ≡ none
   unfolding operandsIn
   search-end h = e ∙ ap (λ (l : List Row). operandsIn l b) (drop-of-length-le table h)
-
--- what the operands of a known byte are
-pub kind-known : (b i : ℕ) (kinds : List OperandKind) → operandsOf b ≡ some kinds → kindAt b i ≡ operandAt kinds i
-kind-known b i kinds e = rw e
 
 -- an operand of 4 bytes, of 1 byte, and of none
 pub number-four : (job : List ℕ) (at : ℕ) → numberAt job at 4 ≡ getD job at 0 + getD job (at + 1) 0 * 256 + getD job

@@ -1,28 +1,23 @@
 -- `command::read::read_command` meets its contract.
-use mathlib.Core.Path.{ap, _∙_}
 use borrow.Author.Needs.{needs}
-use Rattle.model.specs.Table.{groupOf}
-use Rattle.command.proofs.Taken.{finds-row, read-missing, read-cut, read-all, is-width₁, is-width₂, is-width₃}
+use Rattle.command.proofs.Taken.{extends-known, extends-refused, first-fits, second-fits, third-fits, read-all, read-known}
 use Rattle.command.proofs.read.read_command.Statement.{statement}
 use Rattle.command.proofs.read.read_command.Tie as tie
+
+extent-of-requires : tie.Need-extent-of-requires
+extent-of-requires c κs = search needs
+
+enum-known-extent : tie.Need-enum-known-extent
+enum-known-extent c = search needs
+
+enum-known-extent-2 : tie.Need-enum-known-extent-2
+enum-known-extent-2 c = search needs
 
 shared-slice-read-byte : tie.Need-shared-slice-read-byte
 shared-slice-read-byte c = search needs
 
-look-up-requires : tie.Need-look-up-requires
-look-up-requires c κs = search needs
-
-enum-known-found : tie.Need-enum-known-found
-enum-known-found c = search needs
-
-enum-told : tie.Need-enum-told
-enum-told c = search needs
-
-returns : tie.Need-returns
-returns c = read-missing _ _ _ (c .before .before .look-up .ensures) (c .enum-told .given .1)
-
-row-at-requires : tie.Need-row-at-requires
-row-at-requires c κs = finds-row _ _ _ (c .before .before .before .look-up .ensures) (c .before .found .given .1) .inside
+unpack-requires : tie.Need-unpack-requires
+unpack-requires c κs = search needs
 
 add-first-at : tie.Need-add-first-at
 add-first-at c = search needs
@@ -39,56 +34,52 @@ cast-third-at c = search needs
 add-third-at : tie.Need-add-third-at
 add-third-at c = search needs
 
-cast-end : tie.Need-cast-end
-cast-end c = search needs
-
-add-end : tie.Need-add-end
-add-end c = search needs
-
-returns-2 : tie.Need-returns-2
-returns-2 c = read-cut _ _ _ _ (finds-row _ _ _ (c .before .before .before .before .before .before .before .before .look-up .ensures)
-    (c .before .before .before .before .before .before .found .given .1)) (c .before .before .before .before .row-at .ensures)
-    (c .if1 .taken)
-
 operand-requires : tie.Need-operand-requires
-operand-requires c κs = (search needs, is-width₁ (c .before .before .before .before .row-at .ensures))
+operand-requires c κs =
+    let p5 = c .before .before .before .before .before in
+    let reach = extends-known _ _ _ _ _ (p5 .before .before .extent-of .ensures) (p5 .extent2 .given .1) in
+    first-fits _ _ _ _ reach _ (c .before .before .unpack .ensures)
 
 operand-requires-2 : tie.Need-operand-requires-2
-operand-requires-2 c κs = (search needs, is-width₂ (c .before .before .before .before .before .row-at .ensures))
+operand-requires-2 c κs =
+    let p6 = c .before .before .before .before .before .before in
+    let reach = extends-known _ _ _ _ _ (p6 .before .before .extent-of .ensures) (p6 .extent2 .given .1) in
+    second-fits _ _ _ _ reach _ (c .before .before .before .unpack .ensures)
 
 operand-requires-3 : tie.Need-operand-requires-3
-operand-requires-3 c κs = (search needs, is-width₃ (c .before .before .before .before .before .before .row-at .ensures))
-
-returns-3 : tie.Need-returns-3
-returns-3 c =
+operand-requires-3 c κs =
     let p7 = c .before .before .before .before .before .before .before in
-    let p9 = p7 .before .before in
-    let p11 = p9 .before .before in
-    let known = finds-row _ _ _ (p11 .look-up .ensures) (p9 .found .given .1) in (
-      read-all _ _ _ _ known (p7 .row-at .ensures) _ _ _ (c .before .before .before .if1 .left) (c .before .before .operand .ensures)
-          (c .before .operand2 .ensures) (c .operand3 .ensures),
-      record { row = known; group = p7 .row-at .ensures .group ∙ ap groupOf (known .same) },
+    let reach = extends-known _ _ _ _ _ (p7 .before .before .extent-of .ensures) (p7 .extent2 .given .1) in
+    third-fits _ _ _ _ reach _ (c .before .before .before .before .unpack .ensures)
+
+returns : tie.Need-returns
+returns c = extends-refused _ _ _ _ (c .before .before .before .extent-of .ensures) (c .before .extent .given .1)
+
+returns-2 : tie.Need-returns-2
+returns-2 c =
+    let p8 = c .before .before .before .before .before .before .before .before in
+    let reach = extends-known _ _ _ _ _ (p8 .before .before .extent-of .ensures) (p8 .extent2 .given .1) in
+    let shape = c .before .before .before .before .before .unpack .ensures in (
+      read-all _ _ _ _ reach _ shape _ _ _ (c .before .before .operand .ensures) (c .before .operand2 .ensures) (c .operand3 .ensures),
+      read-known _ _ _ _ reach _ shape _ _ _,
     )
 
 pub read-command-spec : {M : Type 1} → statement M
 read-command-spec =
     tie.close
     (tie.spec
+    extent-of-requires
+    enum-known-extent
+    enum-known-extent-2
     shared-slice-read-byte
-    look-up-requires
-    enum-known-found
-    enum-told
-    returns
-    row-at-requires
+    unpack-requires
     add-first-at
     cast-second-at
     add-second-at
     cast-third-at
     add-third-at
-    cast-end
-    add-end
-    returns-2
     operand-requires
     operand-requires-2
     operand-requires-3
-    returns-3)
+    returns
+    returns-2)

@@ -1,35 +1,37 @@
 -- `command::table::look_up` meets its contract.
 use Prim.Native.Nat.{_≤_, _-_}
-use mathlib.Core.Path.{_≡_, sym, _∙_}
+use mathlib.Core.Path.{_≡_, refl}
 use native.Mathlib.Omega.{arith}
-use lib.ListN.{drop}
+use lib.ListN.{length, drop}
 use borrow.Author.Needs.{needs}
-use Rattle.model.specs.Table.{table, operandsIn, operandsOf}
-use Rattle.model.proofs.Reading.{search-start, search-hit, search-miss, search-end}
-use Rattle.command.proofs.Shaped.{says}
+use Rattle.model.specs.Table.{table, operandsIn, operandsOf, isAmong, largestIn, largestOf}
+use Rattle.model.proofs.Reading.{search-start, search-end}
+use Rattle.command.proofs.Shaped.{Agree, row-found, row-passed}
 use Rattle.command.proofs.table.look_up.Statement.{statement}
 use Rattle.command.proofs.table.look_up.Tie as tie
 
 abbrev Inv-loop : tie.InvT-loop
-Inv-loop byte rows i₀ i = (i ≤ 23) × (operandsOf byte ≡ operandsIn (drop i table) byte)
+Inv-loop byte rows i₀ i = (i ≤ length table) × Agree rows × (operandsOf byte ≡ operandsIn (drop i table) byte)
 
 abbrev μ-loop : tie.MeasureT-loop
-μ-loop byte rows i₀ i = 23 - i
+μ-loop byte rows i₀ i = length table - i
 
+-- the code's rows and the model's agree: computed
 loop-holds : tie.Need-loop-holds Inv-loop μ-loop
-loop-holds c = (omega arith, search-start _)
+unfolding operandsOf operandsIn isAmong largestIn largestOf
+loop-holds c = (omega arith, record { same = refl }, search-start (c .args .byte))
 
-mul-r : tie.Need-mul-r Inv-loop μ-loop
-mul-r c = search needs
+mul-row : tie.Need-mul-row Inv-loop μ-loop
+mul-row c = search needs
 
-array-copy-out-r : tie.Need-array-copy-out-r Inv-loop μ-loop
-array-copy-out-r c = search needs
+array-read-row : tie.Need-array-read-row Inv-loop μ-loop
+array-read-row c = search needs
+
+cast-if1 : tie.Need-cast-if1 Inv-loop μ-loop
+cast-if1 c = search needs
 
 returns : tie.Need-returns Inv-loop μ-loop
-returns c =
-    let h = c .before .before .before .loop-test .taken in
-    let e = sym (says (c .before .before .before .before .loop .i) h .byte) ∙ c .if1 .taken in
-    record { inside = h; same = e; operands = search-hit _ _ (c .before .before .before .before .loop .inv .1) h e }
+returns c = row-found (c .before .before .loop .inv .1) _ (c .before .loop-test .taken) _ (c .if1 .taken)
 
 add-i : tie.Need-add-i Inv-loop μ-loop
 add-i c = omega arith
@@ -39,14 +41,14 @@ loop-less c = omega arith
 
 loop-again : tie.Need-loop-again Inv-loop μ-loop
 loop-again c =
-    let h = c .before .before .before .loop-test .taken in (
+    let kept = c .before .before .loop .inv in (
       omega arith,
-      search-miss _ _ (c .before .before .before .before .loop .inv .1) h
-          (λ e. c .if1 .left (says (c .before .before .before .before .loop .i) h .byte ∙ e)),
+      kept .1,
+      row-passed (kept .1) _ (c .before .loop-test .taken) _ (kept .2) (c .if1 .left),
     )
 
 returns-2 : tie.Need-returns-2 Inv-loop μ-loop
-returns-2 c = search-end _ _ (c .before .loop .inv .1) (c .loop-test .left)
+returns-2 c = search-end _ _ (c .before .loop .inv .2) (c .loop-test .left)
 
 pub look-up-spec : {M : Type 1} → statement M
 look-up-spec =
@@ -55,8 +57,9 @@ look-up-spec =
     Inv-loop
     μ-loop
     loop-holds
-    mul-r
-    array-copy-out-r
+    mul-row
+    array-read-row
+    cast-if1
     returns
     add-i
     loop-less

@@ -1,0 +1,77 @@
+-- `command::read::extent_of` meets its contract.
+use mathlib.Core.Path.{refl}
+use borrow.Author.Needs.{needs}
+use Rattle.command.proofs.Taken.{read-missing, read-cut, read-reaches, finds-row}
+use Rattle.command.proofs.read.extent_of.Statement.{statement}
+use Rattle.command.proofs.read.extent_of.Tie as tie
+
+shared-slice-read-look-up : tie.Need-shared-slice-read-look-up
+shared-slice-read-look-up c = search needs
+
+look-up-requires : tie.Need-look-up-requires
+look-up-requires c κs = search needs
+
+enum-known-found : tie.Need-enum-known-found
+enum-known-found c = search needs
+
+enum-told : tie.Need-enum-told
+enum-told c = search needs
+
+returns : tie.Need-returns
+returns c = read-missing _ _ _ (c .before .before .look-up .ensures) (c .enum-told .given .1)
+
+unpack-requires : tie.Need-unpack-requires
+unpack-requires c κs = search needs
+
+add-second-at : tie.Need-add-second-at
+add-second-at c = search needs
+
+cast-second-at : tie.Need-cast-second-at
+cast-second-at c = search needs
+
+add-second-at-2 : tie.Need-add-second-at-2
+add-second-at-2 c = search needs
+
+cast-third-at : tie.Need-cast-third-at
+cast-third-at c = search needs
+
+add-third-at : tie.Need-add-third-at
+add-third-at c = search needs
+
+cast-next : tie.Need-cast-next
+cast-next c = search needs
+
+add-next : tie.Need-add-next
+add-next c = search needs
+
+returns-2 : tie.Need-returns-2
+returns-2 c =
+    let p6 = c .before .before .before .before .before .before in
+    let says = finds-row _ _ _ (p6 .before .before .look-up .ensures) (p6 .found .given .1) in
+    read-cut _ _ _ _ says (c .before .before .before .before .unpack .ensures) (c .if1 .taken)
+
+returns-3 : tie.Need-returns-3
+returns-3 c =
+    let p6 = c .before .before .before .before .before .before in
+    let says = finds-row _ _ _ (p6 .before .before .look-up .ensures) (p6 .found .given .1) in
+    read-reaches _ _ _ _ says (c .before .before .before .before .unpack .ensures) _ refl (c .if1 .left)
+
+pub extent-of-spec : {M : Type 1} → statement M
+extent-of-spec =
+    tie.close
+    (tie.spec
+    shared-slice-read-look-up
+    look-up-requires
+    enum-known-found
+    enum-told
+    returns
+    unpack-requires
+    add-second-at
+    cast-second-at
+    add-second-at-2
+    cast-third-at
+    add-third-at
+    cast-next
+    add-next
+    returns-2
+    returns-3)
