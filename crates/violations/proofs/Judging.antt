@@ -9,25 +9,27 @@ use lib.Dec.{ltb, leb, eqb}
 use lib.ListN.{getD}
 use borrow.Author.Tests.{eqb-true, ne-eqb}
 use Rattle.model.specs.Table.{FLOW, NODE, VAR, FUN, WIRE, ANY, ARG, READ, WRITE, BODY, GET, PUT, PLUS, START, operandsIn, operandsOf}
-use Rattle.model.specs.Table.{kindAt, start, answer, value, jump, absent, groupOf, largestOf}
+use Rattle.model.specs.Table.{kindAt, start, answer, value, jump, absent, groupOf}
 use Rattle.model.specs.Command.{Command, Operands, ternary, binary}
 use Rattle.model.specs.Declared.{countOf, occurs, openBody, flowOf, sees}
-use Rattle.model.specs.Refusal.{isReached, exceedsCount, Counts, namesNothing, undeclared, outOfReach, mustDiffer, repeated, violation}
+use Rattle.model.specs.Refusal.{anyOf, isReached, exceedsCount, Counts, namesNothing, undeclared, outOfReach, mustDiffer, repeated}
+use Rattle.model.specs.Refusal.{violation}
 use Rattle.model.specs.Valid.{Plain}
-use Rattle.model.proofs.Logic.{true-false, any-next, any-last}
+use Rattle.model.proofs.Logic.{true-false, or-first, or-second, any-next, any-last}
 use Rattle.model.proofs.Growth.{among-one}
 use Rattle.command.specs.declared.table.Row.{Row as Shape}
 use Rattle.command.specs.declared.read.Command.{Command as Code}
-use Rattle.command.specs.Rows.{rowAt, kindOf, limitOf, Says, RowOf}
+use Rattle.command.specs.Rows.{unpacked, kindOf, limitOf, Says, isHandlerByte}
 use Rattle.command.specs.Reading.{commandOf, Known}
 use Rattle.command.proofs.Known.{byte-low, permission-byte}
 use Rattle.tables.specs.Tables.{countIn, groupIn, openIn, flowIn, lengthIn, seesIn, sharedIn, wiredIn, anyIn, listedIn, readIn, writeIn}
 use Rattle.tables.specs.Tables.{bodyIn, startedAt}
 use Rattle.tables.specs.Stands.{Stands}
+use Rattle.violations.specs.Tests.{countsIn}
 
 -- a known byte is in the table
-row-known : (b i : ℕ) → RowOf b i → ¬ (operandsOf b ≡ none)
-row-known b i r e = let o = r .operands in let w : _≡_ {A = ℕ} 0 1 = cc in omega arith
+is-known : (b : ℕ) (row : Shape) → Says b row → ¬ (operandsOf b ≡ none)
+is-known b row says e = let o = says .known in let w : _≡_ {A = ℕ} 0 1 = cc in omega arith
 
 -- a handler command is no permission
 uses-apart : (b : ℕ) → ((eqb b GET || eqb b PUT) || eqb b PLUS) ≡ true → (eqb b READ || eqb b WRITE) ≡ false
@@ -43,17 +45,18 @@ reached : (b k have : ℕ) (past : List Command) → have ≡ countOf b past →
 reached b zero have past e = refl
 reached b (suc k) have past e = rw (ne-eqb (suc k) 0 (λ z. omega arith), among-one b past, e)
 
--- the kinds from 7 on name nothing
-pub names-none : (d : Counts) (s k x : ℕ) → ¬ (k ≡ 0) → ¬ (k ≡ 1) → ¬ (k ≡ 2) → ¬ (k ≡ 3) → ¬ (k ≡ 4) → ¬ (k ≡ 5) → ¬ (k ≡ 6)
+-- 0 and the kinds from 8 on name nothing
+pub names-none : (d : Counts) (s k x : ℕ) → ¬ (k ≡ 1) → ¬ (k ≡ 2) → ¬ (k ≡ 3) → ¬ (k ≡ 4) → ¬ (k ≡ 5) → ¬ (k ≡ 6) → ¬ (k ≡ 7)
     → namesNothing d s (kindOf k) x ≡ false
-names-none d s zero x n₀ n₁ n₂ n₃ n₄ n₅ n₆ = absurd (n₀ refl)
-names-none d s (suc zero) x n₀ n₁ n₂ n₃ n₄ n₅ n₆ = absurd (n₁ refl)
-names-none d s (suc (suc zero)) x n₀ n₁ n₂ n₃ n₄ n₅ n₆ = absurd (n₂ refl)
-names-none d s (suc (suc (suc zero))) x n₀ n₁ n₂ n₃ n₄ n₅ n₆ = absurd (n₃ refl)
-names-none d s (suc (suc (suc (suc zero)))) x n₀ n₁ n₂ n₃ n₄ n₅ n₆ = absurd (n₄ refl)
-names-none d s (suc (suc (suc (suc (suc zero))))) x n₀ n₁ n₂ n₃ n₄ n₅ n₆ = absurd (n₅ refl)
-names-none d s (suc (suc (suc (suc (suc (suc zero)))))) x n₀ n₁ n₂ n₃ n₄ n₅ n₆ = absurd (n₆ refl)
-names-none d s (suc (suc (suc (suc (suc (suc (suc k))))))) x n₀ n₁ n₂ n₃ n₄ n₅ n₆ = later k
+names-none d s zero x n₁ n₂ n₃ n₄ n₅ n₆ n₇ = refl
+names-none d s (suc zero) x n₁ n₂ n₃ n₄ n₅ n₆ n₇ = absurd (n₁ refl)
+names-none d s (suc (suc zero)) x n₁ n₂ n₃ n₄ n₅ n₆ n₇ = absurd (n₂ refl)
+names-none d s (suc (suc (suc zero))) x n₁ n₂ n₃ n₄ n₅ n₆ n₇ = absurd (n₃ refl)
+names-none d s (suc (suc (suc (suc zero)))) x n₁ n₂ n₃ n₄ n₅ n₆ n₇ = absurd (n₄ refl)
+names-none d s (suc (suc (suc (suc (suc zero))))) x n₁ n₂ n₃ n₄ n₅ n₆ n₇ = absurd (n₅ refl)
+names-none d s (suc (suc (suc (suc (suc (suc zero)))))) x n₁ n₂ n₃ n₄ n₅ n₆ n₇ = absurd (n₆ refl)
+names-none d s (suc (suc (suc (suc (suc (suc (suc zero))))))) x n₁ n₂ n₃ n₄ n₅ n₆ n₇ = absurd (n₇ refl)
+names-none d s (suc (suc (suc (suc (suc (suc (suc (suc k)))))))) x n₁ n₂ n₃ n₄ n₅ n₆ n₇ = later k
   where
     later : (k : ℕ) → namesNothing d s (getD (start ∷ answer ∷ value ∷ jump ∷ []) k absent) x ≡ false
     later zero = refl
@@ -62,55 +65,61 @@ names-none d s (suc (suc (suc (suc (suc (suc (suc k))))))) x n₀ n₁ n₂ n₃
     later (suc (suc (suc zero))) = refl
     later (suc (suc (suc (suc k)))) = refl
 
+-- one of the tests is true
+any-found : (i : ℕ) (tests : List Bool) → getD tests i false ≡ true → anyOf tests ≡ true
+unfolding anyOf
+any-found i [] e = e
+any-found zero (b ∷ tests) e = or-first b (anyOf tests) e
+any-found (suc i) (b ∷ tests) e = or-second b (anyOf tests) (any-found i tests e)
+
 module _ (t : List ℕ) (c : Code) (past : List Command) (s : Stands t past) where
   -- 5
   pub exceeds-same :
-      (row : Shape) (have opened inside : ℕ) (body : Bool) → Known c → Says (rowAt (c .row)) row
-      → have ≡ countIn t (c .byte) → opened ≡ openIn t → inside ≡ lengthIn t opened → body ≡ (leb 0x41 (c .byte) && leb (c .byte) 0x4B)
-      → ((not (eqb (row .8) 0) && leb (row .8) have) || (body && leb 64 inside)) ≡ exceedsCount past (commandOf c)
-  exceeds-same row have opened inside body r says h o i b =
-      let n : have ≡ countOf (c .byte) past = h ∙ s .counts (c .byte) (byte-low (c .byte) (row-known (c .byte) (c .row) (r .row))) in
-      let m : limitOf (c .byte) (row .8) ≡ largestOf (c .byte) = rw (r .row .same) at (says .most) in
-      rw (any-next, any-last, reached (c .byte) (row .8) have past n, m, b, i, o, s .lengths (openIn t), s .opened)
+      (row : Shape) (have opened inside : ℕ) (body : Bool) → Known c → row ≡ unpacked (c .row)
+      → have ≡ countIn t (c .byte) → opened ≡ openIn t → inside ≡ lengthIn t opened → body ≡ isHandlerByte (c .byte)
+      → ((not (eqb (row .most) 0) && leb (row .most) have) || (body && leb 64 inside)) ≡ exceedsCount past (commandOf c)
+  exceeds-same row have opened inside body k is h o i b =
+      let n : have ≡ countOf (c .byte) past = h ∙ s .counts (c .byte) (byte-low (c .byte) (is-known (c .byte) _ (k .row))) in
+      rw (any-next, any-last, is, reached (c .byte) _ have past n, k .row .most, b, i, o, s .lengths (openIn t), s .opened)
 
-  -- 6
-  pub undeclared-same :
-      (row : Shape) (flows nodes variables functions bodies : ℕ) (body x y z : Bool) → Known c → Says (rowAt (c .row)) row
-      → flows ≡ countIn t FLOW → nodes ≡ countIn t NODE → variables ≡ countIn t VAR → functions ≡ countIn t FUN → bodies ≡ countIn t BODY
-      → body ≡ (leb 0x41 (c .byte) && leb (c .byte) 0x4B)
-      → x ≡ namesNothing (record { flows = flows; nodes = nodes; variables = variables; functions = functions }) (c .first)
-      (kindOf (row .5)) (c .first)
-      → y ≡ namesNothing (record { flows = flows; nodes = nodes; variables = variables; functions = functions }) (c .first)
-      (kindOf (row .6)) (c .second)
-      → z ≡ namesNothing (record { flows = flows; nodes = nodes; variables = variables; functions = functions }) (c .first)
-      (kindOf (row .7)) (c .third)
-      → ((eqb (c .byte) NODE && eqb flows 0) || ((body && eqb bodies 0) || (x || (y || z)))) ≡ undeclared past (commandOf c)
-  undeclared-same row flows nodes variables functions bodies body x y z r says f n v k d b p q u =
-      rw (
-        any-next,
-        any-next,
-        any-next,
-        any-next,
-        any-last,
-        r .row .operands,
-        ← says .kind₁,
-        ← says .kind₂,
-        ← says .kind₃,
-        p,
-        q,
-        u,
-        b,
-        f,
-        n,
-        v,
-        k,
-        d,
-        s .counts FLOW (omega arith),
-        s .counts NODE (omega arith),
-        s .counts VAR (omega arith),
-        s .counts FUN (omega arith),
-        s .counts BODY (omega arith),
-      )
+  -- 6, by the row of the command and what the tables count
+  module _ (row : Shape) (d : Counts) (bodies : ℕ) (k : Known c) (is : row ≡ unpacked (c .row)) (counted : d ≡ countsIn t)
+      (opened : bodies ≡ countIn t BODY) where
+    -- the code's tests in their order
+    abbrev tests : List Bool
+    tests =
+        (eqb (c .byte) NODE && eqb (d .flows) 0)
+        ∷ (isHandlerByte (c .byte) && eqb bodies 0)
+        ∷ namesNothing d (c .first) (kindOf (row .«first_kind»)) (c .first)
+        ∷ namesNothing d (c .first) (kindOf (row .«second_kind»)) (c .second)
+        ∷ namesNothing d (c .first) (kindOf (row .«third_kind»)) (c .third)
+        ∷ []
+
+    undeclared-as : undeclared past (commandOf c) ≡ anyOf tests
+    undeclared-as =
+        rw (
+          is,
+          k .row .kind₁,
+          k .row .kind₂,
+          k .row .kind₃,
+          counted,
+          opened,
+          s .counts FLOW (omega arith),
+          s .counts NODE (omega arith),
+          s .counts VAR (omega arith),
+          s .counts FUN (omega arith),
+          s .counts BODY (omega arith),
+        )
+
+    -- one of them is true
+    pub undeclared-found : (i : ℕ) → getD tests i false ≡ true → true ≡ undeclared past (commandOf c)
+    undeclared-found i e = sym (undeclared-as ∙ any-found i tests e)
+
+    -- all but the last are false
+    pub undeclared-last :
+        getD tests 0 false ≡ false → getD tests 1 false ≡ false → getD tests 2 false ≡ false → getD tests 3 false ≡ false
+        → (r : Bool) → r ≡ getD tests 4 false → r ≡ undeclared past (commandOf c)
+    undeclared-last e f g h r q = q ∙ sym (undeclared-as ∙ rw (any-next, any-next, any-next, any-next, any-last, e, f, g, h))
 
   sees-same : (n x : ℕ) → seesIn t n x ≡ sees past n x
   sees-same n x = rw (s .scope x, s .owner x, s .flow n)

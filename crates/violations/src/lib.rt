@@ -1,6 +1,6 @@
 // The tests 4 to 8 of a command, by the tables of those before it.
 ghost use mathlib.Core.Path.{_≡_};
-ghost use mathlib.Core.Bool.{cond, _||_};
+ghost use mathlib.Core.Bool.{_||_};
 ghost use mathlib.Core.List.{List};
 ghost use lib.Dec.{eqb};
 ghost use Rattle.model.specs.Table.{READ, WRITE, GET, PUT, PLUS};
@@ -10,7 +10,7 @@ ghost use Rattle.model.specs.Valid.{Plain};
 ghost use Rattle.command.specs.Rows.{kindOf};
 ghost use Rattle.command.specs.Reading.{commandOf, Known};
 ghost use Rattle.tables.specs.Stands.{Stands};
-ghost use Rattle.violations.specs.Tests.{countsAs};
+ghost use Rattle.violations.specs.Tests.{countsAs, countsIn};
 use command::bytes;
 use command::numbers::FunNum;
 use command::numbers::NodeNum;
@@ -26,13 +26,29 @@ struct Counts {
     functions: u32,
 }
 
+// What the tables count.
+fn counts_of(tables: &[u32]) -> Counts
+    ensures { λ r. ⌜ countsAs r ≡ countsIn (now (tables .entry)) ⌝ }
+{
+    let flows = declared::count_of(tables, bytes::FLOW);
+    let nodes = declared::count_of(tables, bytes::NODE);
+    let variables = declared::count_of(tables, bytes::VAR);
+    let functions = declared::count_of(tables, bytes::FUN);
+    Counts {
+        flows,
+        nodes,
+        variables,
+        functions,
+    }
+}
+
 // 5: a largest count would be passed.
 fn exceeds_count(tables: &[u32], c: Command) -> bool
     requires { ⌜ Known c ⌝ }
     ensures { λ r. ⌜ ((past : List Past) → Stands (now (tables .entry)) past → r ≡ exceedsCount past (commandOf c)) ⌝ }
 {
-    let row = table::row_at(c.row);
-    let most = row.8 as u32;
+    let row = table::unpack(c.row);
+    let most = row.most;
     let have = declared::count_of(tables, c.byte);
     let opened = declared::open_node(tables);
     let inside = declared::length_of(tables, opened);
@@ -56,13 +72,13 @@ fn names_nothing(d: Counts, scope: u32, kind: u8, x: u32) -> bool
     ensures { λ r. ⌜ r ≡ namesNothing (countsAs d) scope (kindOf kind) x ⌝ }
 {
     match kind {
-        table::SCOPE => 2 < x,
-        table::OWNER => has_no_owner(d, scope, x),
-        table::NODE => d.nodes <= x,
-        table::PORT => 3 < x,
-        table::TARGET => d.nodes <= x,
-        table::FUNCTION => d.functions <= x,
-        table::VARIABLE => d.variables <= x,
+        table::SCOPE_OPERAND => 2 < x,
+        table::OWNER_OPERAND => has_no_owner(d, scope, x),
+        table::NODE_OPERAND => d.nodes <= x,
+        table::PORT_OPERAND => 3 < x,
+        table::TARGET_OPERAND => d.nodes <= x,
+        table::FUNCTION_OPERAND => d.functions <= x,
+        table::VARIABLE_OPERAND => d.variables <= x,
         _ => false,
     }
 }
@@ -72,24 +88,22 @@ fn is_undeclared(tables: &[u32], c: Command) -> bool
     requires { ⌜ Known c ⌝ }
     ensures { λ r. ⌜ ((past : List Past) → Stands (now (tables .entry)) past → r ≡ undeclared past (commandOf c)) ⌝ }
 {
-    let row = table::row_at(c.row);
-    let flows = declared::count_of(tables, bytes::FLOW);
-    let nodes = declared::count_of(tables, bytes::NODE);
-    let variables = declared::count_of(tables, bytes::VAR);
-    let functions = declared::count_of(tables, bytes::FUN);
+    let row = table::unpack(c.row);
+    let d = counts_of(tables);
     let bodies = declared::count_of(tables, bytes::BODY);
-    let d = Counts {
-        flows,
-        nodes,
-        variables,
-        functions,
-    };
-    let handler = bytes::is_handler(c.byte);
-    let first = names_nothing(d, c.first, row.5, c.first);
-    let second = names_nothing(d, c.first, row.6, c.second);
-    let third = names_nothing(d, c.first, row.7, c.third);
-    ((c.byte == bytes::NODE) & (flows == 0))
-        | ((handler & (bodies == 0)) | (first | (second | third)))
+    if (c.byte == bytes::NODE) & (d.flows == 0) {
+        return true;
+    }
+    if bytes::is_handler(c.byte) & (bodies == 0) {
+        return true;
+    }
+    if names_nothing(d, c.first, row.first_kind, c.first) {
+        return true;
+    }
+    if names_nothing(d, c.first, row.second_kind, c.second) {
+        return true;
+    }
+    names_nothing(d, c.first, row.third_kind, c.third)
 }
 
 // The handler commands that name a variable.
@@ -150,38 +164,26 @@ fn is_repeated(tables: &[u32], c: Command) -> bool
     }
 }
 
-// The number of the first of the tests 4 to 8 that refuses, or 0.
-fn first_violation(falls: bool, exceeds: bool, undeclared: bool, outside: bool, again: bool) -> u8
-    ensures { λ r. ⌜ r ≡ cond falls 4 (cond exceeds 5 (cond undeclared 6 (cond outside 7 (cond again 8 0)))) ⌝ }
-{
-    if falls {
-        return 4;
-    }
-    if exceeds {
-        return 5;
-    }
-    if undeclared {
-        return 6;
-    }
-    if outside {
-        return 7;
-    }
-    if again {
-        return 8;
-    }
-    0
-}
-
 // The number of the first of the tests 4 to 8 that refuses a command, or 0.
 pub fn violation_of(tables: &[u32], c: Command) -> u8
     requires { ⌜ Known c ⌝ }
     ensures { λ r. ⌜ ((past : List Past) → Stands (now (tables .entry)) past → Plain (commandOf c) → r ≡ violation past (commandOf c)) ⌝ }
 {
     let group = c.group as u32;
-    let highest = declared::group(tables);
-    let exceeds = exceeds_count(tables, c);
-    let undeclared = is_undeclared(tables, c);
-    let outside = is_out_of_reach(tables, c);
-    let again = is_repeated(tables, c);
-    first_violation(group < highest, exceeds, undeclared, outside, again)
+    if group < declared::group(tables) {
+        return 4;
+    }
+    if exceeds_count(tables, c) {
+        return 5;
+    }
+    if is_undeclared(tables, c) {
+        return 6;
+    }
+    if is_out_of_reach(tables, c) {
+        return 7;
+    }
+    if is_repeated(tables, c) {
+        return 8;
+    }
+    0
 }

@@ -1,65 +1,93 @@
 -- `violations::is_undeclared` meets its contract.
 use borrow.Author.Needs.{needs}
-use Rattle.violations.proofs.Judging.{undeclared-same}
+use Rattle.violations.proofs.Judging.{undeclared-found, undeclared-last}
 use Rattle.violations.proofs.is_undeclared.Statement.{statement}
 use Rattle.violations.proofs.is_undeclared.Tie as tie
 
-row-at-requires : tie.Need-row-at-requires
-row-at-requires c κs = search needs
+unpack-requires : tie.Need-unpack-requires
+unpack-requires c κs = search needs
+
+counts-of-requires : tie.Need-counts-of-requires
+counts-of-requires c κs = search needs
 
 count-of-requires : tie.Need-count-of-requires
 count-of-requires c κs = search needs
 
-count-of-requires-2 : tie.Need-count-of-requires-2
-count-of-requires-2 c κs = search needs
-
-count-of-requires-3 : tie.Need-count-of-requires-3
-count-of-requires-3 c κs = search needs
-
-count-of-requires-4 : tie.Need-count-of-requires-4
-count-of-requires-4 c κs = search needs
-
-count-of-requires-5 : tie.Need-count-of-requires-5
-count-of-requires-5 c κs = search needs
+returns : tie.Need-returns
+returns c =
+    let p3 = c .before .before .before in
+    let start = p3 .before .before .before .before in
+    λ past s.
+    undeclared-found _ (start .args .c) past s _ _ _ (start .pre) (p3 .before .before .unpack .ensures)
+    (p3 .before .counts-of .ensures) (p3 .count-of .ensures)
+    0 (c .if1 .taken)
 
 is-handler-requires : tie.Need-is-handler-requires
 is-handler-requires c κs = search needs
 
+returns-2 : tie.Need-returns-2
+returns-2 c =
+    let p5 = c .before .before .before .before .before in
+    let start = p5 .before .before .before .before in
+    λ past s.
+    undeclared-found _ (start .args .c) past s _ _ _ (start .pre) (p5 .before .before .unpack .ensures)
+    (p5 .before .counts-of .ensures) (p5 .count-of .ensures)
+    1 (rw (c .before .is-handler .ensures) at (c .if2 .taken))
+
 names-nothing-requires : tie.Need-names-nothing-requires
 names-nothing-requires c κs = search needs
+
+returns-3 : tie.Need-returns-3
+returns-3 c =
+    let p7 = c .before .before .before .before .before .before .before in
+    let start = p7 .before .before .before .before in
+    λ past s.
+    undeclared-found _ (start .args .c) past s _ _ _ (start .pre) (p7 .before .before .unpack .ensures)
+    (p7 .before .counts-of .ensures) (p7 .count-of .ensures)
+    2 (rw (c .before .names-nothing .ensures) at (c .if3 .taken))
 
 names-nothing-requires-2 : tie.Need-names-nothing-requires-2
 names-nothing-requires-2 c κs = search needs
 
+returns-4 : tie.Need-returns-4
+returns-4 c =
+    let p9 = c .before .before .before .before .before .before .before .before .before in
+    let start = p9 .before .before .before .before in
+    λ past s.
+    undeclared-found _ (start .args .c) past s _ _ _ (start .pre) (p9 .before .before .unpack .ensures)
+    (p9 .before .counts-of .ensures) (p9 .count-of .ensures)
+    3 (rw (c .before .names-nothing2 .ensures) at (c .if4 .taken))
+
 names-nothing-requires-3 : tie.Need-names-nothing-requires-3
 names-nothing-requires-3 c κs = search needs
 
-returns : tie.Need-returns
-returns c =
-    let p6 = c .before .before .before .before .before .before in
-    let p7 = p6 .before in
-    let p8 = p7 .before in
-    let p9 = p8 .before in
-    let p10 = p9 .before in
-    let p12 = p10 .before .before in
+returns-5 : tie.Need-returns-5
+returns-5 c =
+    let p3 = c .before .before .before in
+    let p5 = p3 .before .before in
+    let p7 = p5 .before .before in
+    let p10 = p7 .before .before .before in
+    let start = p10 .before .before .before .before in
     λ past s.
-    undeclared-same _ (p12 .args .c) past s _ _ _ _ _ _ _ _ _ _ (p12 .pre) (p10 .row-at .ensures)
-    (p9 .count-of .ensures) (p8 .count-of2 .ensures) (p7 .count-of3 .ensures) (p6 .count-of4 .ensures)
-    (c .before .before .before .before .before .count-of5 .ensures) (c .before .before .before .before .is-handler .ensures)
-    (c .before .before .before .names-nothing .ensures) (c .before .before .names-nothing2 .ensures) (c .before .names-nothing3 .ensures)
+    undeclared-last _ (start .args .c) past s _ _ _ (start .pre) (p10 .before .before .unpack .ensures) (p10 .before .counts-of .ensures)
+    (p10 .count-of .ensures) (p7 .if1 .left) (rw (p5 .before .is-handler .ensures) at (p5 .if2 .left))
+    (rw (p3 .before .names-nothing .ensures) at (p3 .if3 .left))
+    (rw (c .before .before .names-nothing2 .ensures) at (c .before .if4 .left)) _
+    (c .names-nothing3 .ensures)
 
 pub is-undeclared-spec : {M : Type 1} → statement M
 is-undeclared-spec =
     tie.close
     (tie.spec
-    row-at-requires
+    unpack-requires
+    counts-of-requires
     count-of-requires
-    count-of-requires-2
-    count-of-requires-3
-    count-of-requires-4
-    count-of-requires-5
+    returns
     is-handler-requires
+    returns-2
     names-nothing-requires
+    returns-3
     names-nothing-requires-2
+    returns-4
     names-nothing-requires-3
-    returns)
+    returns-5)

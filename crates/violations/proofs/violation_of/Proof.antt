@@ -1,6 +1,8 @@
 -- `violations::violation_of` meets its contract.
-use Rattle.violations.proofs.Judging.{violation-as}
+use mathlib.Core.Path.{sym, _∙_}
+use borrow.Author.Tests.{lt-ltb, le-ltb}
 use borrow.Author.Needs.{needs}
+use Rattle.violations.proofs.Judging.{violation-as}
 use Rattle.violations.proofs.violation_of.Statement.{statement}
 use Rattle.violations.proofs.violation_of.Tie as tie
 
@@ -10,32 +12,98 @@ cast-group c = search needs
 group-requires : tie.Need-group-requires
 group-requires c κs = search needs
 
+returns : tie.Need-returns
+returns c =
+    let start = c .before .before .before .before in
+    λ past s plain.
+    rw (
+      violation-as _ (start .args .c) past s _ (start .pre) (c .before .group .ensures),
+      lt-ltb _ _ (c .if1 .taken),
+    )
+
 exceeds-count-requires : tie.Need-exceeds-count-requires
 exceeds-count-requires c κs = search needs
+
+returns-2 : tie.Need-returns-2
+returns-2 c =
+    let p2 = c .before .before in
+    let start = p2 .before .before .before .before in
+    λ past s plain.
+    rw (
+      violation-as _ (start .args .c) past s _ (start .pre) (p2 .before .group .ensures),
+      le-ltb _ _ (p2 .if1 .left),
+      sym (c .before .exceeds-count .ensures past s) ∙ c .if2 .taken,
+    )
 
 is-undeclared-requires : tie.Need-is-undeclared-requires
 is-undeclared-requires c κs = search needs
 
+returns-3 : tie.Need-returns-3
+returns-3 c =
+    let p2 = c .before .before in
+    let p4 = p2 .before .before in
+    let start = p4 .before .before .before .before in
+    λ past s plain.
+    rw (
+      violation-as _ (start .args .c) past s _ (start .pre) (p4 .before .group .ensures),
+      le-ltb _ _ (p4 .if1 .left),
+      sym (p2 .before .exceeds-count .ensures past s) ∙ p2 .if2 .left,
+      sym (c .before .is-undeclared .ensures past s) ∙ c .if3 .taken,
+    )
+
 is-out-of-reach-requires : tie.Need-is-out-of-reach-requires
 is-out-of-reach-requires c κs = search needs
+
+returns-4 : tie.Need-returns-4
+returns-4 c =
+    let p2 = c .before .before in
+    let p4 = p2 .before .before in
+    let p6 = p4 .before .before in
+    let start = p6 .before .before .before .before in
+    λ past s plain.
+    rw (
+      violation-as _ (start .args .c) past s _ (start .pre) (p6 .before .group .ensures),
+      le-ltb _ _ (p6 .if1 .left),
+      sym (p4 .before .exceeds-count .ensures past s) ∙ p4 .if2 .left,
+      sym (p2 .before .is-undeclared .ensures past s) ∙ p2 .if3 .left,
+      sym (c .before .is-out-of-reach .ensures past s) ∙ c .if4 .taken,
+    )
 
 is-repeated-requires : tie.Need-is-repeated-requires
 is-repeated-requires c κs = search needs
 
-first-violation-requires : tie.Need-first-violation-requires
-first-violation-requires c κs = search needs
-
-returns : tie.Need-returns
-returns c =
-    let p8 = c .before .before .before .before .before .before .before .before in
+returns-5 : tie.Need-returns-5
+returns-5 c =
+    let p2 = c .before .before in
+    let p4 = p2 .before .before in
+    let p6 = p4 .before .before in
+    let p8 = p6 .before .before in
+    let start = p8 .before .before .before .before in
     λ past s plain.
     rw (
-      c .first-violation .ensures,
-      violation-as _ (p8 .args .c) past s _ (p8 .pre) (c .before .before .before .before .before .group .ensures),
-      c .before .before .before .before .exceeds-count .ensures past s,
-      c .before .before .before .is-undeclared .ensures past s,
-      c .before .before .is-out-of-reach .ensures past s,
-      c .before .is-repeated .ensures past s plain,
+      violation-as _ (start .args .c) past s _ (start .pre) (p8 .before .group .ensures),
+      le-ltb _ _ (p8 .if1 .left),
+      sym (p6 .before .exceeds-count .ensures past s) ∙ p6 .if2 .left,
+      sym (p4 .before .is-undeclared .ensures past s) ∙ p4 .if3 .left,
+      sym (p2 .before .is-out-of-reach .ensures past s) ∙ p2 .if4 .left,
+      sym (c .before .is-repeated .ensures past s plain) ∙ c .if5 .taken,
+    )
+
+returns-6 : tie.Need-returns-6
+returns-6 c =
+    let p2 = c .before .before in
+    let p4 = p2 .before .before in
+    let p6 = p4 .before .before in
+    let p8 = p6 .before .before in
+    let start = p8 .before .before .before .before in
+    λ past s plain.
+    rw (
+      violation-as _ (start .args .c) past s _ (start .pre) (p8 .before .group .ensures),
+      le-ltb _ _ (p8 .if1 .left),
+      sym (p6 .before .exceeds-count .ensures past s) ∙ p6 .if2 .left,
+      sym (p4 .before .is-undeclared .ensures past s) ∙ p4 .if3 .left,
+      sym (p2 .before .is-out-of-reach .ensures past s) ∙ p2 .if4 .left,
+      sym (c .before .is-repeated .ensures past s plain) ∙ c .if5 .left,
     )
 
 pub violation-of-spec : {M : Type 1} → statement M
@@ -44,9 +112,13 @@ violation-of-spec =
     (tie.spec
     cast-group
     group-requires
+    returns
     exceeds-count-requires
+    returns-2
     is-undeclared-requires
+    returns-3
     is-out-of-reach-requires
+    returns-4
     is-repeated-requires
-    first-violation-requires
-    returns)
+    returns-5
+    returns-6)
