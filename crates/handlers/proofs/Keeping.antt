@@ -1,36 +1,42 @@
 -- Loading by a loop over the commands of an accepted job: what the loop keeps.
 use Prim.Native.Nat.{ℕ, suc, _+_, _≤_, _<_}
-use mathlib.Core.Path.{_≡_, refl, sym, _∙_}
+use mathlib.Core.Path.{_≡_, refl, sym, ap, _∙_}
 use mathlib.Core.Bool.{Bool, true, false, cond, _&&_}
 use mathlib.Core.List.{List, [], _∷_}
-use mathlib.Core.Option.{some}
 use native.Mathlib.Omega.{arith}
 use lib.Dec.{eqb}
 use lib.ListN.{length}
-use borrow.Author.Tests.{eqb-true, eq-eqb}
-use Rattle.model.specs.Table.{BODY}
+use borrow.Author.Tests.{eqb-true, eq-eqb, le-leb, lt-leb}
+use Rattle.model.specs.Table.{BODY, SET, SKIP, groupOf}
 use Rattle.model.specs.Command.{Command, is, whole, readCommand}
 use Rattle.model.specs.Declared.{isHandler, openBody, bodyLength}
 use Rattle.model.specs.Refusal.{Decoded, accepted, rejected, decodeFrom, decodeJob}
 use Rattle.model.specs.Valid.{Valid}
 use Rattle.model.proofs.Reading.{read-at}
 use Rattle.model.proofs.Decoding.{decode-end, fuel-left}
-use Rattle.model.proofs.Scanning.{accepted-from, Passing, passing}
+use Rattle.model.proofs.Scanning.{accepted-from, Passing, passing, stays-from}
 use Rattle.model.proofs.Retracing.{read-accepted}
 use Rattle.model.proofs.Growth.{open-next, body-next}
 use Rattle.model.proofs.Ranges.{open-inside, body-fresh}
 use Rattle.model.proofs.Valid.{job-accepted, limits}
-use Rattle.command.specs.declared.read.Command.{Command as Code}
-use Rattle.command.specs.declared.refusal.Refusal.{Refusal}
+use Rattle.command.specs.declared.read.HeadParsed.{HeadParsed}
+use Rattle.command.specs.declared.read.HeadParsed.the-variants as heads
 use Rattle.command.specs.Rows.{isHandlerByte}
-use Rattle.command.specs.Reading.{commandOf, refusalOf, refusalAt}
+use Rattle.command.specs.Reading.{headOf, headIn}
+use Rattle.command.proofs.Taken.{head-there}
 use Rattle.handlers.specs.Loading.{slotOf, stored, loaded}
 use Rattle.model.specs.Refusal.{IsAccepted, commandsOf}
+use Rattle.handlers.proofs.Slots.{length-loaded}
 
 -- an accepted job has its commands
 pub accepted-is : (d : Decoded) → IsAccepted d → d ≡ accepted (commandsOf d)
 accepted-is (accepted past) i = refl
 accepted-is (rejected r) i = absurd i
+
+-- a command of a group above 4 is no handler command
+loaded-above : (w : List ℕ) (past : List Command) (c : Command) → 4 < groupOf (c .byte) → loaded w (c ∷ past) ≡ loaded w past
+unfolding loaded
+loaded-above w past c above = rw (le-leb SET (c .byte) (omega arith), lt-leb (c .byte) SKIP (omega arith))
 
 -- the commands before a place are loaded: `w` are the bytes at the start, `u` those now
 pub record Keeping (job : List ℕ) (all : List Command) (w u : List ℕ) (place opened index : ℕ) : Type 0 where
@@ -57,12 +63,16 @@ keeping-start job all w e =
       same = refl;
     }
 
-module _ (job : List ℕ) (all : List Command) (w u : List ℕ) (place opened index : ℕ) (k : Keeping job all w u place opened index) where
+module _ {job : List ℕ} {all : List Command} {w u : List ℕ} {place opened index : ℕ} (k : Keeping job all w u place opened index) where
   pub keeping-end : length job ≤ place → u ≡ loaded w all
   keeping-end h =
       let z = sym (decode-end (k .fuel) job place (k .past) h) ∙ k .goesOn in
       let q : k .past ≡ all = cc in
       k .same ∙ rw q
+
+  -- the length stays
+  pub keeping-length : length u ≡ length w
+  keeping-length = ap length (k .same) ∙ length-loaded w (k .past)
 
   -- the node and the position have a slot
   pub keeping-open : opened < 32
@@ -77,41 +87,36 @@ module _ (job : List ℕ) (all : List Command) (w u : List ℕ) (place opened in
         (f .0, passing (f .0) job place (k .past) all h (rw (f .1) at (k .goesOn)), f .1)
 
     -- a whole command is read
-    pub keeping-reads : {A : Type 0} (q : Refusal) → refusalAt place (readCommand job place) ≡ some (refusalOf q) → A
-    keeping-reads q e =
-        let p = left .1 .isRead in
-        let f = rw p at e in
-        let z : _≡_ {A = ℕ} 0 1 = cc in
-        absurd (omega arith)
+    pub keeping-reads : {A : Type 0} (p : HeadParsed) → headOf p ≡ headIn (readCommand job place) → p ≡ heads.Refused → A
+    keeping-reads p same e = head-there job place p same (left .1 .command) (left .1 .next) (left .1 .isRead) e
 
-    module _ (c : Code) (next : ℕ) (read : readCommand job place ≡ whole (commandOf c) next) where
-      again : left .1 .command ≡ commandOf c
+    module _ (c : Command) (next : ℕ) (read : readCommand job place ≡ whole c next) where
+      again : left .1 .command ≡ c
       again = let e = sym (left .1 .isRead) ∙ read in cc
 
       behind : left .1 .next ≡ next
       behind = let e = sym (left .1 .isRead) ∙ read in cc
 
-      more : Valid (commandOf c ∷ k .past)
-      more = (k .valid, read-at job place (commandOf c) next read .plain, rw again at (left .1 .passes))
+      more : Valid (c ∷ k .past)
+      more = (k .valid, read-at job place c next read .plain, rw again at (left .1 .passes))
 
       -- the position in the handler that is open after the command
       next-position :
-          cond (is BODY (commandOf c)) 0 (cond (isHandler (commandOf c)) (bodyLength (k .past) (openBody (k .past)) + 1)
-          (bodyLength (k .past) (openBody (k .past))))
-          ≡ bodyLength (commandOf c ∷ k .past) (openBody (commandOf c ∷ k .past))
-      next-position = rw (open-next (commandOf c) (k .past)) (by-body (is BODY (commandOf c)) refl)
+          cond (is BODY c) 0
+          (cond (isHandler c) (bodyLength (k .past) (openBody (k .past)) + 1) (bodyLength (k .past) (openBody (k .past))))
+          ≡ bodyLength (c ∷ k .past) (openBody (c ∷ k .past))
+      next-position = rw (open-next c (k .past)) (by-body (is BODY c) refl)
         where
           by-body :
-              (t : Bool) → is BODY (commandOf c) ≡ t
-              → cond t 0 (cond (isHandler (commandOf c)) (bodyLength (k .past) (openBody (k .past)) + 1)
-              (bodyLength (k .past) (openBody (k .past))))
-              ≡ bodyLength (commandOf c ∷ k .past) (cond t (c .first) (openBody (k .past)))
+              (t : Bool) → is BODY c ≡ t
+              → cond t 0 (cond (isHandler c) (bodyLength (k .past) (openBody (k .past)) + 1) (bodyLength (k .past) (openBody (k .past))))
+              ≡ bodyLength (c ∷ k .past) (cond t (c .operands .first) (openBody (k .past)))
           by-body true e =
               let b : c .byte ≡ BODY = eqb-true (c .byte) BODY e in
-              let z : isHandler (commandOf c) ≡ false = rw b in
-              sym (body-next (commandOf c) (k .past) (c .first) ∙ rw z (body-fresh (k .past) (commandOf c) more e))
-          by-body false e = sym (body-next (commandOf c) (k .past) (openBody (k .past))
-              ∙ rw (eq-eqb (openBody (k .past)) (openBody (k .past)) refl) (by-handler (isHandler (commandOf c))))
+              let z : isHandler c ≡ false = rw b in
+              sym (body-next c (k .past) (c .operands .first) ∙ rw z (body-fresh (k .past) c more e))
+          by-body false e = sym (body-next c (k .past) (openBody (k .past))
+              ∙ rw (eq-eqb (openBody (k .past)) (openBody (k .past)) refl) (by-handler (isHandler c)))
             where
               by-handler :
                   (t : Bool) → cond (t && true) (bodyLength (k .past) (openBody (k .past)) + 1)
@@ -120,24 +125,33 @@ module _ (job : List ℕ) (all : List Command) (w u : List ℕ) (place opened in
               by-handler true = refl
               by-handler false = refl
 
+      -- after the command, by its byte and operand in the head that the code has of it
       pub keeping-on :
-          (x : List ℕ) (o i : ℕ)
-          → x ≡ cond (isHandlerByte (c .byte)) (stored u (slotOf opened index) (c .byte) (c .first)) u
-          → i ≡ cond (eqb (c .byte) BODY) 0 (cond (isHandlerByte (c .byte)) (index + 1) index)
-          → o ≡ cond (eqb (c .byte) BODY) (c .first) opened
+          (byte first : ℕ) → byte ≡ c .byte → first ≡ c .operands .first
+          → (x : List ℕ) (o i : ℕ)
+          → x ≡ cond (isHandlerByte byte) (stored u (slotOf opened index) byte first) u
+          → i ≡ cond (eqb byte BODY) 0 (cond (isHandlerByte byte) (index + 1) index)
+          → o ≡ cond (eqb byte BODY) first opened
           → Keeping job all w x next o i
       unfolding loaded
-      keeping-on x o i e f g =
-          let r = read-at job place (commandOf c) next read in
+      keeping-on byte first b a x o i e f g =
+          let r = read-at job place c next read in
           let m = left .2 in
           let n = k .enough in
           record {
-            past = commandOf c ∷ k .past;
+            past = c ∷ k .past;
             fuel = left .0;
             enough = omega (arith, r .later);
             goesOn = rw (again, behind) at (left .1 .goesOn);
             valid = more;
-            open-node = g ∙ rw (k .open-node, open-next (commandOf c) (k .past));
-            position = f ∙ rw (k .position) next-position;
-            same = e ∙ rw (k .same, k .open-node, k .position);
+            open-node = g ∙ rw (b, a, k .open-node, open-next c (k .past));
+            position = f ∙ rw (b, k .position) next-position;
+            same = e ∙ rw (b, a, k .same, k .open-node, k .position);
           }
+
+      -- no handler command stands behind a command of a group above 4
+      pub keeping-behind : 4 < groupOf (c .byte) → u ≡ loaded w all
+      keeping-behind above =
+          k .same
+          ∙ sym (stays-from (loaded w) 4 (loaded-above w) job all (left .0) place (k .past) h (rw (left .2) at (k .goesOn)) c next read
+          above)

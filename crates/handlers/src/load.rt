@@ -11,10 +11,10 @@ ghost use Rattle.model.specs.Refusal.{commandsOf, IsAccepted};
 use crate::slot_of;
 use command::bytes;
 use command::numbers::NodeNum;
-use command::read::Command;
-use command::read::Parsed;
+use command::read::Head;
+use command::read::HeadParsed;
 use command::read::open_after;
-use command::read::read_command;
+use command::read::read_head;
 use writing::put_byte;
 use writing::put_word;
 
@@ -30,7 +30,7 @@ fn store(work: &mut [u8], at: usize, b: u8, x: u32)
 }
 
 // Stores a command in its slot, if it is a handler command.
-fn keep(work: &mut [u8], opened: NodeNum, index: u32, c: Command)
+fn keep(work: &mut [u8], opened: NodeNum, index: u32, c: Head)
     requires { ⌜ (opened .0 < 32) × (index ≤ 64) ⌝ }
     ensures { λ _. ⌜ now (work .exit) ≡ cond (isHandlerByte (c .byte))
         (stored (now (work .entry)) (slotOf (opened .0) index) (c .byte) (c .first)) (now (work .entry)) ⌝ }
@@ -41,7 +41,7 @@ fn keep(work: &mut [u8], opened: NodeNum, index: u32, c: Command)
 }
 
 // The position of the next command in the open handler, after a command.
-fn index_after(c: Command, index: u32) -> u32
+fn index_after(c: Head, index: u32) -> u32
     requires { ⌜ index < 65536 ⌝ }
     ensures { λ r. ⌜ r ≡ cond (eqb (c .byte) BODY) 0 (cond (isHandlerByte (c .byte)) (index + 1) index) ⌝ }
 {
@@ -54,7 +54,7 @@ fn index_after(c: Command, index: u32) -> u32
     index
 }
 
-// Loads the handlers of an accepted job.
+// Loads the handlers of an accepted job: up to the first command of a group above 4, since no handler command stands behind it.
 pub fn load(job: &[u8], work: &mut [u8])
     requires { ⌜ IsAccepted (decodeJob (now job)) ⌝ }
     ensures { λ _. ⌜ now (work .exit) ≡ loaded (now (work .entry)) (commandsOf (decodeJob (now (job .entry)))) ⌝ }
@@ -63,13 +63,16 @@ pub fn load(job: &[u8], work: &mut [u8])
     let mut opened = NodeNum(0);
     let mut index: u32 = 0;
     while at < job.len() {
-        let read = read_command(job, at);
-        let Parsed::Whole(c, next) = read else {
+        let read = read_head(job, at);
+        let HeadParsed::Whole(c) = read else {
             return;
         };
+        if 4 < c.group {
+            return;
+        }
         keep(work, opened, index, c);
         index = index_after(c, index);
         opened = open_after(c, opened);
-        at = next;
+        at = c.next;
     }
 }

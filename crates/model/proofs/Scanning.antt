@@ -3,17 +3,24 @@ use Prim.Native.Nat.{ℕ, zero, suc, _+_, _≤_, _<_}
 use mathlib.Core.Path.{_≡_, refl, sym, _∙_}
 use mathlib.Core.Bool.{Bool, true, false, cond, _||_}
 use mathlib.Core.List.{List, [], _∷_}
-use mathlib.Core.Option.{none, some}
+use mathlib.Core.Option.{Option, none, some}
 use native.Mathlib.Omega.{arith}
 use lib.Dec.{ltb, eqb}
 use lib.ListN.{length}
-use borrow.Author.Tests.{lt-ltb, ltb-true}
-use Rattle.model.specs.Table.{maxJob}
+use borrow.Author.Tests.{lt-ltb, ltb-true, ltb-false}
+use Rattle.model.specs.Table.{groupOf, maxJob}
 use Rattle.model.specs.Command.{Command, Parsed, whole, unknown, cutShort, readCommand}
 use Rattle.model.specs.Refusal.{violation, Refusal, refuse, accepted, rejected, decodeNext, decodeRead, decodeFrom, decode}
-use Rattle.model.specs.Refusal.{refuseFirst}
+use Rattle.model.specs.Refusal.{groupFalls, firstOf, refuseFirst}
+use Rattle.model.proofs.Logic.{or-left, or-right}
+use Rattle.model.proofs.Valid.{passes}
 use Rattle.model.proofs.Reading.{read-at}
 use Rattle.model.proofs.Decoding.{decode-end, fuel-left}
+
+-- the first of two refusals, if the second is not there
+first-none : (r : Option Refusal) → firstOf r none ≡ r
+first-none none = refl
+first-none (some q) = refl
 
 -- a later test by a second look at the commands: none of those so far is found, and the rest of an accepted job follows
 pub record Scanning (k : ℕ) (test : List Command → Command → Bool) (job : List ℕ) (all : List Command) (place : ℕ)
@@ -67,23 +74,62 @@ unfolding decodeFrom
 passing fuel job place past all h e = passing-read fuel job place past all (readCommand job place) refl
     (rw (lt-ltb place (length job) h) at e)
 
+-- what holds so far, and goes on to hold after every command that passes, holds of all commands of an accepted job
+module _ (P : List Command → Type 0) (further : (past : List Command) (c : Command) → violation past c ≡ 0 → P past → P (c ∷ past))
+    (job : List ℕ) (all : List Command) where
+  holds-of-all : (fuel place : ℕ) (past : List Command) → decodeFrom fuel job place past ≡ accepted all → P past → P all
+  unfolding decodeFrom
+  holds-of-all zero place past e h = let q : past ≡ all = cc in rw q at h
+  holds-of-all (suc fuel) place past e h = by-place (ltb place (length job)) refl (holds-of-all fuel)
+    where
+      by-place :
+          (t : Bool) → ltb place (length job) ≡ t
+          → ((place : ℕ) (past : List Command) → decodeFrom fuel job place past ≡ accepted all → P past → P all)
+          → P all
+      by-place true t ih =
+          let p = passing fuel job place past all (ltb-true place (length job) t) e in
+          ih (p .next) (p .command ∷ past) (p .goesOn) (further past (p .command) (p .passes) h)
+      by-place false t ih = let z = rw t at e in let q : past ≡ all = cc in rw q at h
+
 -- a command found so far is the first one of all
 pub found-stays :
     (k : ℕ) (test : List Command → Command → Bool) (job : List ℕ) (all : List Command) (r : Refusal) (fuel place : ℕ) (past : List Command)
     → decodeFrom fuel job place past ≡ accepted all → refuseFirst k test past ≡ some r → refuseFirst k test all ≡ some r
-unfolding decodeFrom refuseFirst
-found-stays k test job all r zero place past e f = let q : past ≡ all = cc in rw q at f
-found-stays k test job all r (suc fuel) place past e f = by-place (ltb place (length job)) refl (found-stays k test job all r fuel)
-  where
-    by-place :
-        (t : Bool) → ltb place (length job) ≡ t
-        → ((place : ℕ) (past : List Command) → decodeFrom fuel job place past ≡ accepted all → refuseFirst k test past ≡ some r
-        → refuseFirst k test all ≡ some r)
-        → refuseFirst k test all ≡ some r
-    by-place true t ih =
-        let p = passing fuel job place past all (ltb-true place (length job) t) e in
-        ih (p .next) (p .command ∷ past) (p .goesOn) (rw f)
-    by-place false t ih = let z = rw t at e in let q : past ≡ all = cc in rw q at f
+unfolding refuseFirst
+found-stays k test job all r = holds-of-all (λ past. refuseFirst k test past ≡ some r) (λ past c v f. rw f) job all
+
+-- what no command of a group above g changes: it stays as it is from the first such command on, since groups do not fall
+module _ {A : Type 0} (value : List Command → A) (g : ℕ)
+    (same : (past : List Command) (c : Command) → g < groupOf (c .byte) → value (c ∷ past) ≡ value past) where
+  -- commands that may follow are of a group above g, and the value is this one
+  record Behind (x : A) (past : List Command) : Type 0 where
+    above : (c : Command) → groupFalls past c ≡ false → g < groupOf (c .byte)
+    still : value past ≡ x
+
+  further-behind : (x : A) (past : List Command) (c : Command) → violation past c ≡ 0 → Behind x past → Behind x (c ∷ past)
+  unfolding groupFalls
+  further-behind x past c v b =
+      record {
+        above = λ d f. b .above d (or-right (ltb (groupOf (d .byte)) (groupOf (c .byte))) (groupFalls past d) f);
+        still = same past c (b .above c (passes past c v .ordered)) ∙ b .still;
+      }
+
+  pub stays-from :
+      (job : List ℕ) (all : List Command) (fuel place : ℕ) (past : List Command) → place < length job
+      → decodeFrom (suc fuel) job place past ≡ accepted all
+      → (c : Command) (next : ℕ) → readCommand job place ≡ whole c next → g < groupOf (c .byte) → value all ≡ value past
+  unfolding groupFalls
+  stays-from job all fuel place past h e c next r high =
+      let p = passing fuel job place past all h e in
+      let w = sym r ∙ p .isRead in
+      let a : p .command ≡ c = cc in
+      let first : Behind (value past) (c ∷ past) =
+      record {
+        above = λ d f. omega (arith, ltb-false (groupOf (d .byte)) (groupOf (c .byte)) (or-left _ (groupFalls past d) f));
+        still = same past c high;
+      } in
+      holds-of-all (Behind (value past)) (further-behind (value past)) job all fuel (p .next) (p .command ∷ past) (p .goesOn)
+      (rw a first) .still
 
 module _ (k : ℕ) (test : List Command → Command → Bool) (job : List ℕ) (all : List Command) (place : ℕ) (past : List Command)
     (s : Scanning k test job all place past) where
@@ -126,3 +172,13 @@ module _ (k : ℕ) (test : List Command → Command → Bool) (job : List ℕ) (
           let g = left-over .2 in
           let m = s .enough in
           record { fuel = left-over .0; enough = omega (arith, r .later); goesOn = went; fine = rw (s .fine, t) }
+
+      -- it is of a group above g, and the test finds no command of those groups
+      pub scanning-behind :
+          (g : ℕ) → ((past : List Command) (d : Command) → g < groupOf (d .byte) → test past d ≡ false) → g < groupOf (c .byte)
+          → refuseFirst k test all ≡ none
+      unfolding refuseFirst
+      scanning-behind g none-found above =
+          stays-from (refuseFirst k test) g (λ past d h. rw (none-found past d h) (first-none (refuseFirst k test past))) job all
+          (left-over .0) place past h (left-over .1) c next e above
+          ∙ s .fine
