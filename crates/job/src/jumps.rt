@@ -11,21 +11,21 @@ ghost use Rattle.job.specs.Decoding.{verdictOf};
 use crate::Verdict;
 use command::bytes;
 use command::numbers::NodeNum;
-use command::read::Command;
-use command::read::Parsed;
+use command::read::Head;
+use command::read::HeadParsed;
 use command::read::open_after;
-use command::read::read_command;
+use command::read::read_head;
 use command::refusal::Refusal;
 use declared::length_of;
 
 // A jump whose target exceeds its handler's command count.
-fn is_far(c: Command, len: u32) -> bool
+fn is_far(c: Head, len: u32) -> bool
     ensures { λ r. ⌜ r ≡ ((eqb (c .byte) JUMPZ || eqb (c .byte) JUMP) && ltb len (c .first)) ⌝ }
 {
     ((c.byte == bytes::JUMPZ) | (c.byte == bytes::JUMP)) & (len < c.first)
 }
 
-// 9: refused at the first jump whose target exceeds its handler's command count.
+// 9: refused at the first jump whose target exceeds its handler's command count. No jump stands behind a command of a group above 4.
 pub(crate) fn check_jumps(job: &[u8], tables: &[u32]) -> Verdict
     ensures { λ r. ⌜ ((all : List Past) → decode (now (job .entry)) ≡ accepted all → Stands (now (tables .entry)) all
         → verdictOf r ≡ farJump all) ⌝ }
@@ -33,23 +33,22 @@ pub(crate) fn check_jumps(job: &[u8], tables: &[u32]) -> Verdict
     let mut at = 0;
     let mut opened = NodeNum(0);
     while at < job.len() {
-        let read = read_command(job, at);
-        match read {
-            Parsed::Refused(r) => {
-                return Verdict::Refused(r);
-            }
-            Parsed::Whole(c, next) => {
-                let len = length_of(tables, opened);
-                if is_far(c, len) {
-                    return Verdict::Refused(Refusal {
-                        number: 9,
-                        place: at,
-                    });
-                }
-                opened = open_after(c, opened);
-                at = next;
-            }
+        let read = read_head(job, at);
+        let HeadParsed::Whole(c) = read else {
+            return Verdict::Accepted;
+        };
+        if 4 < c.group {
+            return Verdict::Accepted;
         }
+        let len = length_of(tables, opened);
+        if is_far(c, len) {
+            return Verdict::Refused(Refusal {
+                number: 9,
+                place: at,
+            });
+        }
+        opened = open_after(c, opened);
+        at = c.next;
     }
     Verdict::Accepted
 }
