@@ -1,6 +1,6 @@
 pub mod Judged
 pub mod Going
 pub mod Looking
-pub mod Schedule
+pub mod LastTurns
 pub mod Prepared
 pub mod Buffered

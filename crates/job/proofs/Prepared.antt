@@ -24,7 +24,7 @@ use Rattle.handlers.proofs.Slots.{length-loaded, beyond-loaded}
 use Rattle.handlers.proofs.Fetched.{fetched-loaded}
 use Rattle.tables.specs.Programs.{programIn}
 use Rattle.job.specs.Prepared.{PreparedHolds}
-use Rattle.job.proofs.Schedule.{turn-at}
+use Rattle.job.proofs.LastTurns.{turn-at}
 
 module _ (t w : List ℕ) (past : List Command) (s : Stands t past) (size : 16384 ≤ length w) (v : Valid past) (fit : CommandsFit past) where
   -- the handler of a node

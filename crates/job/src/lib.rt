@@ -1,7 +1,7 @@
 // The tests of a job: the walk over all commands, the jumps, the buffers; and the turns of an accepted job.
 pub mod buffers;
 mod jumps;
-pub mod turns;
+pub mod schedule;
 mod walk;
 
 ghost use mathlib.Core.Path.{_≡_};

@@ -19,7 +19,7 @@ use engine::State;
 use engine::start;
 use entries::Outcome;
 use handlers::fetch::fetch;
-use job::turns::turn_at;
+use job::schedule::turn_at;
 use output::numbers::numbers_of;
 use output::trace::put_entry;
 

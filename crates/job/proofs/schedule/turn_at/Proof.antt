@@ -1,8 +1,8 @@
--- `job::turns::turn_at` meets its contract.
+-- `job::schedule::turn_at` meets its contract.
 use borrow.Author.Needs.{needs}
-use Rattle.job.proofs.Schedule.{turn-inside, turn-outside}
-use Rattle.job.proofs.turns.turn_at.Statement.{statement}
-use Rattle.job.proofs.turns.turn_at.Tie as tie
+use Rattle.job.proofs.LastTurns.{turn-inside, turn-outside}
+use Rattle.job.proofs.schedule.turn_at.Statement.{statement}
+use Rattle.job.proofs.schedule.turn_at.Tie as tie
 
 count-of-requires : tie.Need-count-of-requires
 count-of-requires c κs = search needs
