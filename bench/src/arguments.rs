@@ -5,8 +5,9 @@ use flow_reference::Mode;
 use crate::runs::{Bench, Engine, Schedule};
 
 /// What the four words are.
-pub const WORDS: &str = "ENGINE: proved or reference; MODE: monitored or bare;
-SCHEDULE: turns (4,096 of them), stopped (as many, none of which is made) or none; RUNS: how often, above 0";
+pub const WORDS: &str = "ENGINE: proved or reference; MODE: monitored or bare; RUNS: how often, above 0;
+SCHEDULE: turns (4,096 of them), stopped (as many, none of which is made), none,
+or large (the large job: 3,362 commands, no turns)";
 
 /// Reads the words: what to run, and how often.
 pub fn read(words: &[&str]) -> Option<(Bench, u32)> {
@@ -25,6 +26,7 @@ pub fn read(words: &[&str]) -> Option<(Bench, u32)> {
         "turns" => Schedule::Turns,
         "stopped" => Schedule::Stopped,
         "none" => Schedule::None,
+        "large" => Schedule::Large,
         _ => return None,
     };
     let runs = runs.parse().ok().filter(|&runs| runs > 0)?;

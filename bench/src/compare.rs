@@ -1,20 +1,18 @@
-//! Whether both implementations make the same of the script's job.
+//! Whether both implementations make the same of each job.
 
 use flow_reference::outcome::stop;
 use flow_reference::table::MAX_TURNS;
 use flow_reference::Mode;
 
-use crate::runs::{Bench, Engine, Schedule};
+use crate::runs::{self, Bench, Engine, Schedule};
 
 /// What the buffers hold before.
 const BYTE: u8 = 0xA5;
 
-/// Compares answers and whole buffers in both modes; the error says what is wrong.
+/// Compares answers and whole buffers of every job in both modes; the error says what is wrong.
 pub fn compare() -> Result<(), String> {
-    for mode in [Mode::Monitored, Mode::Unmonitored] {
-        for schedule in [Schedule::Turns, Schedule::Stopped, Schedule::None] {
-            agree(mode, schedule).map_err(|what| format!("{mode:?} {schedule:?}: {what}"))?;
-        }
+    for (mode, schedule) in runs::all() {
+        agree(mode, schedule).map_err(|what| format!("{mode:?} {schedule:?}: {what}"))?;
     }
     Ok(())
 }
@@ -24,7 +22,7 @@ fn expected(schedule: Schedule) -> [u64; 8] {
     let (stop, turns, node) = match schedule {
         Schedule::Turns => (stop::TURNS_OUT, MAX_TURNS, 0),
         Schedule::Stopped => (stop::NOT_READY, 0, 1),
-        Schedule::None => (stop::TURNS_OUT, 0, 0),
+        Schedule::None | Schedule::Large => (stop::TURNS_OUT, 0, 0),
     };
     [0, 0, stop.into(), turns as u64, node, 0, 0, 0]
 }

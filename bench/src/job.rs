@@ -1,4 +1,4 @@
-//! The job without its turns: one flow of three nodes that keep one message going round.
+//! The script's job without its turns: one flow of three nodes that keep one message going round.
 //!
 //! Node 0 sends to nodes 1 and 2, node 2 sends back to node 0. The handlers have every handler command,
 //! jumps taken and not taken, variables shared and not shared. Every access is permitted.

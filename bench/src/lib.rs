@@ -1,9 +1,10 @@
-//! Whole runs of one job, by the proved run and by the second implementation.
+//! Whole runs of two jobs, by the proved run and by the second implementation.
 
 pub mod arguments;
 pub mod buffers;
 pub mod compare;
 pub mod job;
+pub mod large;
 pub mod proved;
 pub mod reference;
 pub mod runs;

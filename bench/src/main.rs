@@ -1,5 +1,5 @@
-//! Runs the script's job, takes the time, compares both implementations, or tells what the script
-//! is and how much stack its runs take.
+//! Runs a job, takes the time, compares both implementations, or tells what the script is and how much
+//! stack the runs take.
 
 use std::process::ExitCode;
 
@@ -36,7 +36,7 @@ fn print_mix() {
     println!();
 }
 
-/// Bytes of stack that a whole run takes.
+/// Bytes of stack that a whole run takes, the most of all jobs.
 fn print_stack() {
     let [proved, reference] = [Engine::Proved, Engine::Reference].map(stack::most);
     println!("bytes of stack: proved {proved}, reference {reference}");
@@ -45,7 +45,7 @@ fn print_stack() {
 fn print_comparison() -> ExitCode {
     match compare() {
         Ok(()) => {
-            println!("both have the same answers and buffers, monitored and bare");
+            println!("both have the same answers and buffers for every job, monitored and bare");
             ExitCode::SUCCESS
         }
         Err(difference) => {

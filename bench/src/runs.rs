@@ -1,4 +1,4 @@
-//! Whole runs of the script's job, by either implementation.
+//! Whole runs of a job, by either implementation.
 
 use std::hint::black_box;
 use std::time::{Duration, Instant};
@@ -7,7 +7,7 @@ use flow_reference::Mode;
 
 use crate::buffers::Buffers;
 use crate::script::Script;
-use crate::{job, proved, reference};
+use crate::{job, large, proved, reference};
 
 /// Which implementation runs.
 #[derive(Clone, Copy, Debug, PartialEq, Eq)]
@@ -25,6 +25,15 @@ pub enum Schedule {
     Stopped,
     /// The job without its TURN commands.
     None,
+    /// The large job, which has no TURN commands.
+    Large,
+}
+
+/// Every job, monitored and bare.
+pub fn all() -> impl Iterator<Item = (Mode, Schedule)> {
+    let schedules = [Schedule::Turns, Schedule::Stopped, Schedule::None, Schedule::Large];
+    let modes = [Mode::Monitored, Mode::Unmonitored];
+    modes.into_iter().flat_map(move |mode| schedules.map(|schedule| (mode, schedule)))
 }
 
 /// A page of memory.
@@ -55,6 +64,7 @@ impl Bench {
     pub fn new(engine: Engine, mode: Mode, schedule: Schedule, byte: u8) -> Bench {
         let mut job = match schedule {
             Schedule::None => job::without_turns(),
+            Schedule::Large => large::job(),
             Schedule::Turns | Schedule::Stopped => Script::new().job,
         };
         if schedule == Schedule::Stopped {
@@ -64,8 +74,15 @@ impl Bench {
         Bench { engine, mode, job, buffers: Buffers::filled(byte) }
     }
 
-    /// Runs once; the answer.
+    /// Runs once; the answer. Always a call: the stack it takes does not depend on the rest of the harness.
+    #[inline(never)]
     pub fn run(&mut self) -> [u64; 8] {
+        self.run_here()
+    }
+
+    /// The same, never a call: the instructions it takes do not depend on the rest of the harness.
+    #[inline(always)]
+    fn run_here(&mut self) -> [u64; 8] {
         // The compiler may not take a run's result from the run before.
         let job = black_box(&self.job);
         match self.engine {
@@ -76,14 +93,14 @@ impl Bench {
 
     /// Runs `count` times; the completed turns of all runs.
     pub fn runs(&mut self, count: u32) -> u64 {
-        on_new_page(|| (0..count).map(|_| self.run()[3]).sum())
+        on_new_page(|| (0..count).map(|_| self.run_here()[3]).sum())
     }
 
     /// The time of the quickest of `count` runs.
     pub fn quickest(&mut self, count: u32) -> Duration {
         let mut timed = || {
             let start = Instant::now();
-            black_box(self.run());
+            black_box(self.run_here());
             start.elapsed()
         };
         on_new_page(|| (0..count).map(|_| timed()).min().unwrap_or_default())

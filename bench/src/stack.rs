@@ -7,21 +7,19 @@
 use std::arch::asm;
 use std::hint::black_box;
 
-use flow_reference::Mode;
-
-use crate::runs::{Bench, Engine, Schedule};
+use crate::runs::{self, Bench, Engine};
 
 /// Far more than a run takes.
 const BYTES: usize = 1 << 20;
 
-/// The bytes that a whole run of the script's job takes, the larger of monitored and bare. Each is
-/// run on two paints, as a byte that it writes may be that of one paint.
+/// The bytes that a whole run takes, the most of all jobs, monitored and bare. Each is run on two paints,
+/// as a byte that it writes may be that of one paint.
 pub fn most(engine: Engine) -> usize {
-    let deepest = |mode| {
-        let mut bench = Bench::new(engine, mode, Schedule::Turns, 0);
+    let deepest = |(mode, schedule)| {
+        let mut bench = Bench::new(engine, mode, schedule, 0);
         painted(&mut bench, 0x5A).max(painted(&mut bench, 0xA5))
     };
-    deepest(Mode::Monitored).max(deepest(Mode::Unmonitored))
+    runs::all().map(deepest).max().unwrap_or_default()
 }
 
 /// The bytes that a run changes on a stack with this paint, from its top to the lowest.

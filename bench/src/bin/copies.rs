@@ -1,5 +1,4 @@
-//! Runs the script's job and prints the calls of memcpy and memmove per run, and the bytes that they
-//! copied per run.
+//! Runs a job and prints the calls of memcpy and memmove per run, and the bytes that they copied per run.
 //!
 //! The linker turns every call of the two, in the static library, the second implementation and the
 //! standard library alike, into a call of the counting functions below (see `build.rs`). Copies that the
