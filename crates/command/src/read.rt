@@ -3,9 +3,10 @@ ghost use mathlib.Core.Path.{_≡_};
 ghost use mathlib.Core.Bool.{cond};
 ghost use Prim.Native.Nat.{_+_, _<_, _≤_};
 ghost use lib.Dec.{eqb};
-ghost use lib.ListN.{length};
+ghost use lib.ListN.{length, getD};
 ghost use Rattle.model.specs.Table.{BODY};
 ghost use Rattle.model.specs.Command.{numberAt, readCommand};
+ghost use Rattle.command.specs.Rows.{Finds};
 ghost use Rattle.command.specs.Reading.{ParsesAs, Extends, headOf, headIn, IsWidth};
 use crate::bytes;
 use crate::numbers::NodeNum;
@@ -76,12 +77,11 @@ pub fn operand(job: &[u8], at: usize, width: u8) -> u32
     0
 }
 
-// The row of the command at a place and the place after it: 2 if the byte there is none, 3 if its operands run past the end.
-fn extent_of(job: &[u8], at: usize) -> Extent
-    requires { ⌜ at < length (now job) ⌝ }
+// The extent of the command at a place, by what looking its byte up found: 2 if it is none, 3 if its operands run past the end.
+fn extent_of(job: &[u8], at: usize, found: Lookup) -> Extent
+    requires { ⌜ (at < length (now job)) × Finds (getD (now job) at 0) found ⌝ }
     ensures { λ r. ⌜ Extends (now (job .entry)) at r ⌝ }
 {
-    let found = look_up(job[at]);
     let Lookup::Found(row) = found else {
         return Extent::Refused(Refusal {
             number: 2,
@@ -106,11 +106,12 @@ pub fn read_command(job: &[u8], at: usize) -> Parsed
     requires { ⌜ at < length (now job) ⌝ }
     ensures { λ r. ⌜ ParsesAs (now (job .entry)) at r ⌝ }
 {
-    let extent = extent_of(job, at);
+    let byte = job[at];
+    let found = look_up(byte);
+    let extent = extent_of(job, at, found);
     match extent {
         Extent::Refused(r) => Parsed::Refused(r),
         Extent::Known(row, next) => {
-            let byte = job[at];
             let shape = unpack(row);
             let first_at = at + 1;
             let second_at = first_at + (shape.first_width as usize);
@@ -137,11 +138,12 @@ pub fn read_head(job: &[u8], at: usize) -> HeadParsed
     requires { ⌜ at < length (now job) ⌝ }
     ensures { λ r. ⌜ headOf r ≡ headIn (readCommand (now (job .entry)) at) ⌝ }
 {
-    let extent = extent_of(job, at);
+    let byte = job[at];
+    let found = look_up(byte);
+    let extent = extent_of(job, at, found);
     let Extent::Known(row, next) = extent else {
         return HeadParsed::Refused;
     };
-    let byte = job[at];
     let shape = unpack(row);
     let first = operand(job, at + 1, shape.first_width);
     HeadParsed::Whole(Head {

@@ -5,12 +5,6 @@ use Rattle.command.proofs.Taken.{read-missing, read-cut, read-reaches, 
 use Rattle.command.proofs.read.extent_of.Statement.{statement}
 use Rattle.command.proofs.read.extent_of.Tie as tie
 
-shared-slice-read-look-up : tie.Need-shared-slice-read-look-up
-shared-slice-read-look-up c = search needs
-
-look-up-requires : tie.Need-look-up-requires
-look-up-requires c κs = search needs
-
 enum-known-found : tie.Need-enum-known-found
 enum-known-found c = search needs
 
@@ -18,7 +12,7 @@ enum-told : tie.Need-enum-told
 enum-told c = search needs
 
 returns : tie.Need-returns
-returns c = read-missing _ _ _ (c .before .before .look-up .ensures) (c .enum-told .given .1)
+returns c = read-missing _ _ _ (c .before .before .before .pre .1) (c .enum-told .given .1)
 
 unpack-requires : tie.Need-unpack-requires
 unpack-requires c κs = search needs
@@ -47,21 +41,19 @@ add-next c = search needs
 returns-2 : tie.Need-returns-2
 returns-2 c =
     let p6 = c .before .before .before .before .before .before in
-    let says = finds-row _ _ _ (p6 .before .before .look-up .ensures) (p6 .found .given .1) in
+    let says = finds-row _ _ _ (p6 .before .before .before .pre .1) (p6 .found .given .1) in
     read-cut _ _ _ _ says (c .before .before .before .before .unpack .ensures) (c .if1 .taken)
 
 returns-3 : tie.Need-returns-3
 returns-3 c =
     let p6 = c .before .before .before .before .before .before in
-    let says = finds-row _ _ _ (p6 .before .before .look-up .ensures) (p6 .found .given .1) in
+    let says = finds-row _ _ _ (p6 .before .before .before .pre .1) (p6 .found .given .1) in
     read-reaches _ _ _ _ says (c .before .before .before .before .unpack .ensures) _ refl (c .if1 .left)
 
 pub extent-of-spec : {M : Type 1} → statement M
 extent-of-spec =
     tie.close
     (tie.spec
-    shared-slice-read-look-up
-    look-up-requires
     enum-known-found
     enum-told
     returns

@@ -4,6 +4,12 @@ use Rattle.command.proofs.Taken.{extends-known, extends-refused, first-
 use Rattle.command.proofs.read.read_command.Statement.{statement}
 use Rattle.command.proofs.read.read_command.Tie as tie
 
+shared-slice-read-byte : tie.Need-shared-slice-read-byte
+shared-slice-read-byte c = search needs
+
+look-up-requires : tie.Need-look-up-requires
+look-up-requires c κs = search needs
+
 extent-of-requires : tie.Need-extent-of-requires
 extent-of-requires c κs = search needs
 
@@ -12,9 +18,6 @@ enum-known-extent c = search needs
 
 enum-known-extent-2 : tie.Need-enum-known-extent-2
 enum-known-extent-2 c = search needs
-
-shared-slice-read-byte : tie.Need-shared-slice-read-byte
-shared-slice-read-byte c = search needs
 
 unpack-requires : tie.Need-unpack-requires
 unpack-requires c κs = search needs
@@ -36,20 +39,20 @@ add-third-at c = search needs
 
 operand-requires : tie.Need-operand-requires
 operand-requires c κs =
-    let p5 = c .before .before .before .before .before in
-    let reach = extends-known _ _ _ _ _ (p5 .before .before .extent-of .ensures) (p5 .extent2 .given .1) in
+    let p4 = c .before .before .before .before in
+    let reach = extends-known _ _ _ _ _ (p4 .before .before .extent-of .ensures) (p4 .extent2 .given .1) in
     first-fits _ _ _ _ reach _ (c .before .before .unpack .ensures)
 
 operand-requires-2 : tie.Need-operand-requires-2
 operand-requires-2 c κs =
-    let p6 = c .before .before .before .before .before .before in
-    let reach = extends-known _ _ _ _ _ (p6 .before .before .extent-of .ensures) (p6 .extent2 .given .1) in
+    let p5 = c .before .before .before .before .before in
+    let reach = extends-known _ _ _ _ _ (p5 .before .before .extent-of .ensures) (p5 .extent2 .given .1) in
     second-fits _ _ _ _ reach _ (c .before .before .before .unpack .ensures)
 
 operand-requires-3 : tie.Need-operand-requires-3
 operand-requires-3 c κs =
-    let p7 = c .before .before .before .before .before .before .before in
-    let reach = extends-known _ _ _ _ _ (p7 .before .before .extent-of .ensures) (p7 .extent2 .given .1) in
+    let p6 = c .before .before .before .before .before .before in
+    let reach = extends-known _ _ _ _ _ (p6 .before .before .extent-of .ensures) (p6 .extent2 .given .1) in
     third-fits _ _ _ _ reach _ (c .before .before .before .before .unpack .ensures)
 
 returns : tie.Need-returns
@@ -57,8 +60,8 @@ returns c = extends-refused _ _ _ _ (c .before .before .before .extent-of .ensur
 
 returns-2 : tie.Need-returns-2
 returns-2 c =
-    let p8 = c .before .before .before .before .before .before .before .before in
-    let reach = extends-known _ _ _ _ _ (p8 .before .before .extent-of .ensures) (p8 .extent2 .given .1) in
+    let p7 = c .before .before .before .before .before .before .before in
+    let reach = extends-known _ _ _ _ _ (p7 .before .before .extent-of .ensures) (p7 .extent2 .given .1) in
     let shape = c .before .before .before .before .before .unpack .ensures in (
       read-all _ _ _ _ reach _ shape _ _ _ (c .before .before .operand .ensures) (c .before .operand2 .ensures) (c .operand3 .ensures),
       read-known _ _ _ _ reach _ shape _ _ _,
@@ -68,10 +71,11 @@ pub read-command-spec : {M : Type 1} → statement M
 read-command-spec =
     tie.close
     (tie.spec
+    shared-slice-read-byte
+    look-up-requires
     extent-of-requires
     enum-known-extent
     enum-known-extent-2
-    shared-slice-read-byte
     unpack-requires
     add-first-at
     cast-second-at
