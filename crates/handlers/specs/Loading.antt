@@ -7,7 +7,7 @@ use lib.ListN.{length, getD}
 use Rattle.model.specs.Table.{SKIP, maxNodes, maxHandler}
 use Rattle.model.specs.Command.{Command, numberAt}
 use Rattle.model.specs.Declared.{Instruction, instruction, isHandler, openBody, bodyLength}
-use Rattle.model.specs.Refusal.{Decoded, accepted, rejected, workSize}
+use Rattle.model.specs.Refusal.{workSize}
 use Rattle.model.specs.State.{tabulate}
 use Rattle.model.specs.Output.{bytes4}
 use Rattle.command.specs.Instructions.{recognised}

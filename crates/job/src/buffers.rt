@@ -1,7 +1,7 @@
 // The tests 1 to 12 of a job with its buffers.
 ghost use mathlib.Core.Path.{_≡_};
 ghost use mathlib.Core.List.{List};
-ghost use Prim.Native.Nat.{ℕ, _≤_};
+ghost use Prim.Native.Nat.{ℕ};
 ghost use lib.ListN.{length};
 ghost use Rattle.model.specs.Command.{Command};
 ghost use Rattle.model.specs.Declared.{countOf};

@@ -35,7 +35,8 @@ use Rattle.notes.proofs.Cases.{column, flag, marking, wire}
 -- the writes for a command, by the cells before
 abbrev noteWrites : List ℕ → Command → List Write
 noteWrites t c =
-    commandWrites t c ++ (write true countCells (c .byte) (oneMore (countIn t (c .byte))) ∷ write true progressCells 0 (groupOf (c .byte)) ∷ [])
+    commandWrites t c
+    ++ (write true countCells (c .byte) (oneMore (countIn t (c .byte))) ∷ write true progressCells 0 (groupOf (c .byte)) ∷ [])
 
 -- one more, where that is counted
 more : (n : ℕ) → n < 65536 → oneMore n ≡ n + 1

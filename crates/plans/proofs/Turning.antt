@@ -78,7 +78,8 @@ module _ (P : Program) (s : State) (node : NodeNum) (monitored : Bool) (l : Regi
 
 -- where a command was fetched, the next position can be counted
 pub countable :
-    (fetched : Fetched) (i : Code) (position : ℕ) → (fetchedOf fetched ≡ none) ⊎ (position < 4294967295) → fetched ≡ f.Command i → position < 4294967295
+    (fetched : Fetched) (i : Code) (position : ℕ) → (fetchedOf fetched ≡ none) ⊎ (position < 4294967295) → fetched ≡ f.Command i
+    → position < 4294967295
 countable fetched i position (inl e) is =
     let never : some (instructionOf i) ≡ none = sym (ap fetchedOf is) ∙ e in
     let z : _≡_ {A = ℕ} 0 1 = cc in

@@ -23,7 +23,9 @@ unfolding blank
 entry-blank s i h = by-range (ltb i (s .1)) refl
   where
     by-range : (t : Bool) → ltb i (s .1) ≡ t → entryIn blank s i ≡ 0
-    by-range true e = let l = ltb-true i (s .1) e in entry-inside blank s i l ∙ getD-replicate {A = ℕ} cellCount (s .0 + i) 0 0 (omega arith)
+    by-range true e =
+        let l = ltb-true i (s .1) e in
+        entry-inside blank s i l ∙ getD-replicate {A = ℕ} cellCount (s .0 + i) 0 0 (omega arith)
     by-range false e = entry-outside blank s i (ltb-false i (s .1) e)
 
 flag-blank : (s : Section) (i : ℕ) → s .0 + s .1 ≤ cellCount → flagIn blank s i ≡ false

@@ -98,5 +98,6 @@ exports-transparency job before after before′ after′ numbers numbers′ tm l
       u,
       tm,
       tu,
-      transparency job (call before after m) (call before′ after′ u) (record { told = refl; left = lm }) (record { told = refl; left = lu }),
+      transparency job (call before after m) (call before′ after′ u) (record { told = refl; left = lm })
+          (record { told = refl; left = lu }),
     )

@@ -33,7 +33,8 @@ returns : tie.Need-returns
 returns c =
     let p7 = c .before .before .before .before .before .before .before in
     let p13 = p7 .before .before .before .before .before .before in
-    stands-noted _ (p13 .before .before .before .before .before .args .c) _ _ _ _ (p13 .before .before .count-of .ensures) (p13 .note-content .ensures)
+    stands-noted _ (p13 .before .before .before .before .before .args .c) _ _ _ _ (p13 .before .before .count-of .ensures)
+    (p13 .note-content .ensures)
     (p7 .put .ensures ∙ rw (p7 .before .one-more .ensures)) (c .before .before .put2 .ensures)
 
 pub note-spec : {M : Type 1} → statement M

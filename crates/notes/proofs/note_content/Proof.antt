@@ -59,69 +59,93 @@ same-length : tie.Need-same-length
 same-length c = search needs
 
 returns : tie.Need-returns
-returns c = c .before .before .note-node .ensures ∙ node-arm _ (commandOf (c .before .before .before .before .before .before .before .before .args .c)) (c .before .before .before .before .match .keys1)
+returns c =
+    let p = c .before .before .before .before in
+    c .before .before .note-node .ensures ∙ node-arm _ (commandOf (p .before .before .before .before .args .c)) (p .match .keys1)
 
 same-length-2 : tie.Need-same-length-2
 same-length-2 c = search needs
 
 returns-2 : tie.Need-returns-2
-returns-2 c = c .before .before .note-operands .ensures ∙ variable-arm _ (commandOf (c .before .before .before .before .before .before .before .before .args .c)) (c .before .before .before .before .match .keys2)
+returns-2 c =
+    let p = c .before .before .before .before in
+    c .before .before .note-operands .ensures ∙ variable-arm _ (commandOf (p .before .before .before .before .args .c)) (p .match .keys2)
 
 same-length-3 : tie.Need-same-length-3
 same-length-3 c = search needs
 
 returns-3 : tie.Need-returns-3
-returns-3 c = c .before .before .note-function .ensures ∙ function-arm _ (commandOf (c .before .before .before .before .before .before .before .before .args .c)) (c .before .before .before .before .match .keys3)
+returns-3 c =
+    let p = c .before .before .before .before in
+    c .before .before .note-function .ensures ∙ function-arm _ (commandOf (p .before .before .before .before .args .c)) (p .match .keys3)
 
 same-length-4 : tie.Need-same-length-4
 same-length-4 c = search needs
 
 returns-4 : tie.Need-returns-4
-returns-4 c = c .before .before .mark .ensures ∙ wire-arm _ (commandOf (c .before .before .before .before .before .before .before .before .before .args .c)) (c .before .before .before .before .before .match .keys4)
+returns-4 c =
+    let p = c .before .before .before .before .before in
+    c .before .before .mark .ensures ∙ wire-arm _ (commandOf (p .before .before .before .before .args .c)) (p .match .keys4)
 
 same-length-5 : tie.Need-same-length-5
 same-length-5 c = search needs
 
 returns-5 : tie.Need-returns-5
-returns-5 c = c .before .before .mark2 .ensures ∙ any-arm _ (commandOf (c .before .before .before .before .before .before .before .before .args .c)) (c .before .before .before .before .match .keys5)
+returns-5 c =
+    let p = c .before .before .before .before in
+    c .before .before .mark2 .ensures ∙ any-arm _ (commandOf (p .before .before .before .before .args .c)) (p .match .keys5)
 
 same-length-6 : tie.Need-same-length-6
 same-length-6 c = search needs
 
 returns-6 : tie.Need-returns-6
-returns-6 c = c .before .before .note-operands2 .ensures ∙ argument-arm _ (commandOf (c .before .before .before .before .before .before .before .before .args .c)) (c .before .before .before .before .match .keys6)
+returns-6 c =
+    let p = c .before .before .before .before in
+    c .before .before .note-operands2 .ensures ∙ argument-arm _ (commandOf (p .before .before .before .before .args .c)) (p .match .keys6)
 
 same-length-7 : tie.Need-same-length-7
 same-length-7 c = search needs
 
 returns-7 : tie.Need-returns-7
-returns-7 c = c .before .before .mark3 .ensures ∙ read-arm _ (commandOf (c .before .before .before .before .before .before .before .before .args .c)) (c .before .before .before .before .match .keys7)
+returns-7 c =
+    let p = c .before .before .before .before in
+    c .before .before .mark3 .ensures ∙ read-arm _ (commandOf (p .before .before .before .before .args .c)) (p .match .keys7)
 
 same-length-8 : tie.Need-same-length-8
 same-length-8 c = search needs
 
 returns-8 : tie.Need-returns-8
-returns-8 c = c .before .before .mark4 .ensures ∙ write-arm _ (commandOf (c .before .before .before .before .before .before .before .before .args .c)) (c .before .before .before .before .match .keys8)
+returns-8 c =
+    let p = c .before .before .before .before in
+    c .before .before .mark4 .ensures ∙ write-arm _ (commandOf (p .before .before .before .before .args .c)) (p .match .keys8)
 
 same-length-9 : tie.Need-same-length-9
 same-length-9 c = search needs
 
 returns-9 : tie.Need-returns-9
-returns-9 c = c .before .before .note-body .ensures ∙ body-arm _ (commandOf (c .before .before .before .before .before .before .before .before .args .c)) (c .before .before .before .before .match .keys9)
+returns-9 c =
+    let p = c .before .before .before .before in
+    c .before .before .note-body .ensures ∙ body-arm _ (commandOf (p .before .before .before .before .args .c)) (p .match .keys9)
 
 same-length-10 : tie.Need-same-length-10
 same-length-10 c = search needs
 
 returns-10 : tie.Need-returns-10
-returns-10 c = c .before .before .note-start .ensures ∙ start-arm _ (commandOf (c .before .before .before .before .before .before .before .before .args .c)) (c .before .before .before .before .match .keys10)
+returns-10 c =
+    let p = c .before .before .before .before in
+    c .before .before .note-start .ensures ∙ start-arm _ (commandOf (p .before .before .before .before .args .c)) (p .match .keys10)
 
 same-length-11 : tie.Need-same-length-11
 same-length-11 c = search needs
 
 returns-11 : tie.Need-returns-11
 returns-11 c =
-    let n = c .before .before .before .before .match .rest in
-    c .before .before .note-handler .ensures ∙ rest-arm _ (commandOf (c .before .before .before .before .before .before .before .before .args .c)) (n .0 .0 .0 .0 .0 .0 .0 .0 .0 .1) (n .0 .0 .0 .0 .0 .0 .0 .0 .1) (n .0 .0 .0 .0 .0 .0 .0 .1) (n .0 .0 .0 .0 .0 .0 .1) (n .0 .0 .0 .0 .0 .1) (n .0 .0 .0 .0 .1) (n .0 .0 .0 .1) (n .0 .0 .1) (n .0 .1) (n .1)
+    let p = c .before .before .before .before in
+    let n = p .match .rest in
+    c .before .before .note-handler .ensures
+    ∙ rest-arm _ (commandOf (p .before .before .before .before .args .c)) (n .0 .0 .0 .0 .0 .0 .0 .0 .0 .1)
+    (n .0 .0 .0 .0 .0 .0 .0 .0 .1) (n .0 .0 .0 .0 .0 .0 .0 .1) (n .0 .0 .0 .0 .0 .0 .1) (n .0 .0 .0 .0 .0 .1) (n .0 .0 .0 .0 .1)
+    (n .0 .0 .0 .1) (n .0 .0 .1) (n .0 .1) (n .1)
 
 pub note-content-spec : {M : Type 1} → statement M
 note-content-spec =

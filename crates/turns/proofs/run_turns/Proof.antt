@@ -99,8 +99,8 @@ put-entry-requires c κs =
       omega (arith, more, u .place, u .size, p19 .pre .1),
       subst Narrow (sym (c .numbers-of .ensures))
           (made-narrow (a .monitored) (now (a .job)) (now (a .tables)) (now (a .work)) ready _ (l .s) (l .trace) (l .at) (l .k) u more _
-          (p10 .turn-at .ensures)
-          (p7 .fetch .result) (p7 .fetch .ensures .0) (p6 .turn .result) (p6 .turn .ensures) _ (c .before .before .before .outcome .given .1)),
+          (p10 .turn-at .ensures) (p7 .fetch .result) (p7 .fetch .ensures .0) (p6 .turn .result) (p6 .turn .ensures) _
+          (c .before .before .before .outcome .given .1)),
     )
 
 add-k : tie.Need-add-k Inv-loop μ-loop

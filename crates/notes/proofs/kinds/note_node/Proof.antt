@@ -23,7 +23,10 @@ same-length : tie.Need-same-length
 same-length c = search needs
 
 returns : tie.Need-returns
-returns c = c .before .before .put .ensures ∙ rw (c .before .before .before .lowered .ensures, c .before .before .before .before .before .count-of2 .ensures, c .before .before .before .before .before .before .before .count-of .ensures)
+returns c =
+    let p5 = c .before .before .before .before .before in
+    c .before .before .put .ensures
+    ∙ rw (c .before .before .before .lowered .ensures, p5 .count-of2 .ensures, p5 .before .before .count-of .ensures)
 
 pub note-node-spec : {M : Type 1} → statement M
 note-node-spec =

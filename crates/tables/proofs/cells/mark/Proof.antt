@@ -28,8 +28,11 @@ same-length c = search needs
 
 returns : tie.Need-returns
 returns c =
-    c .before .before .put .ensures ∙ rw (c .before .before .before .with-bit .ensures, c .before .before .before .before .before .entry .ensures)
-    (sym (marked-inside _ _ _ _ (c .before .before .before .before .before .before .before .before .if1 .taken) (c .before .before .before .before .before .before .before .if2 .taken)))
+    let p5 = c .before .before .before .before .before in
+    let p7 = p5 .before .before in
+    c .before .before .put .ensures
+    ∙ rw (c .before .before .before .with-bit .ensures, p5 .entry .ensures)
+    (sym (marked-inside _ _ _ _ (p7 .before .if1 .taken) (p7 .if2 .taken)))
 
 returns-2 : tie.Need-returns-2
 returns-2 c = sym (marked-beside _ _ _ _ (c .before .if1 .taken) (c .if2 .left))

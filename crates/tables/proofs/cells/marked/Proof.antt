@@ -21,7 +21,9 @@ is-set-requires : tie.Need-is-set-requires
 is-set-requires c κs = search needs
 
 returns : tie.Need-returns
-returns c = c .is-set .ensures ∙ rw (c .before .entry .ensures) (sym (mark-inside _ _ _ _ (c .before .before .before .if1 .taken) (c .before .before .if2 .taken)))
+returns c =
+    c .is-set .ensures
+    ∙ rw (c .before .entry .ensures) (sym (mark-inside _ _ _ _ (c .before .before .before .if1 .taken) (c .before .before .if2 .taken)))
 
 returns-2 : tie.Need-returns-2
 returns-2 c = sym (mark-beside _ _ _ _ (c .before .if1 .taken) (c .if2 .left))
