@@ -44,12 +44,13 @@ unfolding oneMore
 more n h = rw (lt-ltb n 65536 h)
 
 -- the flow of a node is one of those counted
-pub flow-counted : (past : List Command) (n : ℕ) → flowOf past n ≤ countOf FLOW past
+flow-counted : (past : List Command) (n : ℕ) → flowOf past n ≤ countOf FLOW past - 1
 unfolding declared
 flow-counted [] n = zero-le
 flow-counted (c ∷ past) n = by-node (is NODE c && eqb (countOf NODE past) n) (flow-counted past n)
   where
-    by-node : (t : Bool) → flowOf past n ≤ countOf FLOW past → cond t (countOf FLOW past - 1) (flowOf past n) ≤ countOf FLOW (c ∷ past)
+    by-node : (t : Bool) → flowOf past n ≤ countOf FLOW past - 1
+        → cond t (countOf FLOW past - 1) (flowOf past n) ≤ countOf FLOW (c ∷ past) - 1
     by-node true h = omega (arith, count-grows FLOW c past)
     by-node false h = omega (arith, count-grows FLOW c past)
 
@@ -154,7 +155,7 @@ module _ (t : List ℕ) (past : List Command) (c : Command) (s : Stands t past) 
   flow-next : (n : ℕ) → flowIn after n ≡ flowOf (c ∷ past) n
   flow-next n =
       in-section flowCells (omega arith) refl n
-      ∙ declared-column (λ c before. countOf FLOW before - 1) NODE (countIn t NODE) 64 (countIn t FLOW - 1) (flowIn t n) n
+      ∙ declared-column (λ c before. countOf FLOW before - 1) NODE (countIn t NODE) 32 (countIn t FLOW - 1) (flowIn t n) n
       (s .counts NODE (omega arith))
       (λ e. omega (arith, room NODE 32 (limits (c ∷ past) v .nodes) e)) (rw (s .counts FLOW (omega arith))) (s .flow n)
 
@@ -183,14 +184,14 @@ module _ (t : List ℕ) (past : List Command) (c : Command) (s : Stands t past) 
   answer-next : (f : ℕ) → entryIn after answerCells f ≡ declared (λ c before. c .operands .first) FUN (c ∷ past) f
   answer-next f =
       in-section answerCells (omega arith) refl f
-      ∙ declared-column (λ c before. c .operands .first) FUN (countIn t FUN) 64 (c .operands .first) (entryIn t answerCells f) f
+      ∙ declared-column (λ c before. c .operands .first) FUN (countIn t FUN) 32 (c .operands .first) (entryIn t answerCells f) f
       (s .counts FUN (omega arith))
       (λ e. omega (arith, room FUN 32 (limits (c ∷ past) v .functions) e)) refl (s .answer f)
 
   lengths-next : (n : ℕ) → lengthIn after n ≡ bodyLength (c ∷ past) n
   lengths-next n =
       in-section lengthCells (omega arith) refl n
-      ∙ column (isHandler c) (openIn t) n 64 (oneMore (lengthIn t (openIn t))) (lengthIn t n) (bodyLength past n + 1) (bodyLength past n)
+      ∙ column (isHandler c) (openIn t) n 32 (oneMore (lengthIn t (openIn t))) (lengthIn t n) (bodyLength past n + 1) (bodyLength past n)
       (λ e. omega (arith, s .opened, open-inside past (v .0)))
       (λ e q. rw (q, s .lengths n) (more (bodyLength past n) (omega (arith, limits past (v .0) .handlers n)))) (s .lengths n)
       ∙ rw (s .opened, body-next c past n)
@@ -233,7 +234,7 @@ module _ (t : List ℕ) (past : List Command) (c : Command) (s : Stands t past) 
   unfolding flagIn
   bodies-next n =
       rw (in-section bodyCells (omega arith) refl n)
-      (flag (is BODY c) (c .operands .first) n 64 (entryIn t bodyCells n) (occurs BODY (binary n 0) past)
+      (flag (is BODY c) (c .operands .first) n 32 (entryIn t bodyCells n) (occurs BODY (binary n 0) past)
       (λ e. omega (arith, body-range e .0)) (s .bodies n)
       ∙ rw (occurs-next c past BODY (binary n 0), same-one BODY n (λ e. (body-range e .1, body-range e .2))))
 
@@ -241,7 +242,7 @@ module _ (t : List ℕ) (past : List Command) (c : Command) (s : Stands t past) 
   unfolding flagIn
   started-after f =
       rw (in-section startedCells (omega arith) refl f)
-      (flag (is START c) (flowIn t (c .operands .first)) f 64 (entryIn t startedCells f) (startedIn past f)
+      (flag (is START c) (flowIn t (c .operands .first)) f 8 (entryIn t startedCells f) (startedIn past f)
       (λ e. omega (arith, s .flow (c .operands .first), flow-counted past (c .operands .first), limits past (v .0) .flows)) (s .started f)
       ∙ rw (started-next c past f, s .flow (c .operands .first)))
 
@@ -304,7 +305,7 @@ module _ (t : List ℕ) (past : List Command) (c : Command) (s : Stands t past) 
   unfolding flagIn
   firsts-next n =
       rw (in-section firstCells (omega arith) refl n, in-section messageCells (omega arith) refl n, starts-next c past n)
-      (first-message (is START c) (c .operands .first) n 64 (entryIn t firstCells n) (entryIn t messageCells n) (c .operands .second)
+      (first-message (is START c) (c .operands .first) n 32 (entryIn t firstCells n) (entryIn t messageCells n) (c .operands .second)
       (startsOf past n)
       (λ e. omega (arith, start-range e)) (s .firsts n) (λ e q. alone
       (rw (e, q) at (rw (starts-next c past n) at (starts-one (c ∷ past) v n)))))

@@ -13,58 +13,58 @@ abbrev pub countCells : Section
 countCells = section 0 128
 
 abbrev pub progressCells : Section
-progressCells = section 128 64
+progressCells = section 128 2
 
 abbrev pub flowCells : Section
-flowCells = section 192 64
+flowCells = section 130 32
 
 abbrev pub scopeCells : Section
-scopeCells = section 256 64
+scopeCells = section 162 64
 
 abbrev pub ownerCells : Section
-ownerCells = section 320 64
+ownerCells = section 226 64
 
 abbrev pub startCells : Section
-startCells = section 384 64
+startCells = section 290 64
 
 abbrev pub answerCells : Section
-answerCells = section 448 64
+answerCells = section 354 32
 
 abbrev pub lengthCells : Section
-lengthCells = section 512 64
+lengthCells = section 386 32
 
 abbrev pub bodyCells : Section
-bodyCells = section 576 64
+bodyCells = section 418 32
 
 abbrev pub startedCells : Section
-startedCells = section 640 64
+startedCells = section 450 8
 
 abbrev pub firstCells : Section
-firstCells = section 704 64
+firstCells = section 458 32
 
 abbrev pub messageCells : Section
-messageCells = section 768 64
+messageCells = section 490 32
 
 abbrev pub argNodeCells : Section
-argNodeCells = section 832 256
+argNodeCells = section 522 256
 
 abbrev pub argFunctionCells : Section
-argFunctionCells = section 1088 256
+argFunctionCells = section 778 256
 
 abbrev pub argValueCells : Section
-argValueCells = section 1344 256
+argValueCells = section 1034 256
 
 abbrev pub readCells : Section
-readCells = section 1600 64
+readCells = section 1290 64
 
 abbrev pub writeCells : Section
-writeCells = section 1664 64
+writeCells = section 1354 64
 
 abbrev pub anyCells : Section
-anyCells = section 1728 64
+anyCells = section 1418 64
 
 abbrev pub wireCells : Section
-wireCells = section 1792 256
+wireCells = section 1482 256
 
 -- how many commands have this byte
 abbrev pub countIn : List ℕ → ℕ → ℕ

@@ -6,15 +6,16 @@ use lib.ListN.{length, getD, length-set, set}
 use lib.Seq.{getD-set-same, getD-set-other}
 use borrow.Author.Needs.{needs}
 use borrow.Author.Count.{below-more}
+use Rattle.tables.specs.Cells.{cellCount}
 use Rattle.tables.proofs.Writing.{blank-each}
 use Rattle.tables.proofs.cells.clear.Statement.{statement}
 use Rattle.tables.proofs.cells.clear.Tie as tie
 
 abbrev Inv-loop : tie.InvT-loop
-Inv-loop t₀ i₀ t i = (i ≤ length t) × (length t ≡ 2048) × ((k : ℕ) → k < i → getD t k 0 ≡ 0)
+Inv-loop t₀ i₀ t i = (i ≤ length t) × (length t ≡ cellCount) × ((k : ℕ) → k < i → getD t k 0 ≡ 0)
 
 abbrev μ-loop : tie.MeasureT-loop
-μ-loop t₀ i₀ t i = 2048 - i
+μ-loop t₀ i₀ t i = cellCount - i
 
 loop-holds : tie.Need-loop-holds Inv-loop μ-loop
 loop-holds c = (omega arith, c .pre, λ k h. absurd (omega arith))
