@@ -242,7 +242,7 @@ module _ (t : List ℕ) (past : List Command) (c : Command) (s : Stands t past) 
   unfolding flagIn
   started-after f =
       rw (in-section startedCells (omega arith) refl f)
-      (flag (is START c) (flowIn t (c .operands .first)) f 8 (entryIn t startedCells f) (startedIn past f)
+      (flag (is START c) (flowIn t (c .operands .first)) f 32 (entryIn t startedCells f) (startedIn past f)
       (λ e. omega (arith, s .flow (c .operands .first), flow-counted past (c .operands .first), limits past (v .0) .flows)) (s .started f)
       ∙ rw (started-next c past f, s .flow (c .operands .first)))
 

@@ -9,7 +9,7 @@ use Rattle.tables.specs.Bits.{bitOf, withBit}
 
 -- how many cells there are
 abbrev pub cellCount : ℕ
-cellCount = 1738
+cellCount = 1792
 
 -- the section with this first cell and this many cells
 abbrev pub section : ℕ → ℕ → Section

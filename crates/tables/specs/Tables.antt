@@ -13,58 +13,58 @@ abbrev pub countCells : Section
 countCells = section 0 128
 
 abbrev pub progressCells : Section
-progressCells = section 128 2
+progressCells = section 128 32
 
 abbrev pub flowCells : Section
-flowCells = section 130 32
+flowCells = section 160 32
 
 abbrev pub scopeCells : Section
-scopeCells = section 162 64
+scopeCells = section 192 64
 
 abbrev pub ownerCells : Section
-ownerCells = section 226 64
+ownerCells = section 256 64
 
 abbrev pub startCells : Section
-startCells = section 290 64
+startCells = section 320 64
 
 abbrev pub answerCells : Section
-answerCells = section 354 32
+answerCells = section 384 32
 
 abbrev pub lengthCells : Section
-lengthCells = section 386 32
+lengthCells = section 416 32
 
 abbrev pub bodyCells : Section
-bodyCells = section 418 32
+bodyCells = section 448 32
 
 abbrev pub startedCells : Section
-startedCells = section 450 8
+startedCells = section 480 32
 
 abbrev pub firstCells : Section
-firstCells = section 458 32
+firstCells = section 512 32
 
 abbrev pub messageCells : Section
-messageCells = section 490 32
+messageCells = section 544 32
 
 abbrev pub argNodeCells : Section
-argNodeCells = section 522 256
+argNodeCells = section 576 256
 
 abbrev pub argFunctionCells : Section
-argFunctionCells = section 778 256
+argFunctionCells = section 832 256
 
 abbrev pub argValueCells : Section
-argValueCells = section 1034 256
+argValueCells = section 1088 256
 
 abbrev pub readCells : Section
-readCells = section 1290 64
+readCells = section 1344 64
 
 abbrev pub writeCells : Section
-writeCells = section 1354 64
+writeCells = section 1408 64
 
 abbrev pub anyCells : Section
-anyCells = section 1418 64
+anyCells = section 1472 64
 
 abbrev pub wireCells : Section
-wireCells = section 1482 256
+wireCells = section 1536 256
 
 -- how many commands have this byte
 abbrev pub countIn : List ℕ → ℕ → ℕ

@@ -6,7 +6,7 @@ ghost use Rattle.tables.specs.Cells.{cellCount, entryIn, putIn, flagIn, 
 use crate::bits::is_set;
 use crate::bits::with_bit;
 
-pub const CELLS: usize = 1738;
+pub const CELLS: usize = 1792;
 
 // A section: its first cell, and how many cells it has.
 pub struct Section(pub usize, pub usize);
@@ -14,41 +14,41 @@ pub struct Section(pub usize, pub usize);
 // By command byte: how many commands.
 pub const COUNTS: Section = Section(0, 128);
 // The highest group so far, and the node of the open handler.
-pub const PROGRESS: Section = Section(128, 2);
+pub const PROGRESS: Section = Section(128, 32);
 // By node: its flow.
-pub const FLOW: Section = Section(130, 32);
+pub const FLOW: Section = Section(160, 32);
 // By variable: its scope, owner and start.
-pub const SCOPE: Section = Section(162, 64);
+pub const SCOPE: Section = Section(192, 64);
 
-pub const OWNER: Section = Section(226, 64);
+pub const OWNER: Section = Section(256, 64);
 
-pub const INITIAL: Section = Section(290, 64);
+pub const INITIAL: Section = Section(320, 64);
 // By function: its answer.
-pub const ANSWER: Section = Section(354, 32);
+pub const ANSWER: Section = Section(384, 32);
 // By node: how many commands its handler has, and 1 if it has a BODY.
-pub const LENGTH: Section = Section(386, 32);
+pub const LENGTH: Section = Section(416, 32);
 
-pub const BODY: Section = Section(418, 32);
+pub const BODY: Section = Section(448, 32);
 // By flow: 1 if it has a START.
-pub const STARTED: Section = Section(450, 8);
+pub const STARTED: Section = Section(480, 32);
 // By node: 1 if it has a START, and its first message.
-pub const FIRST: Section = Section(458, 32);
+pub const FIRST: Section = Section(512, 32);
 
-pub const MESSAGE: Section = Section(490, 32);
+pub const MESSAGE: Section = Section(544, 32);
 // By ARG command: node, function and argument.
-pub const ARG_NODE: Section = Section(522, 256);
+pub const ARG_NODE: Section = Section(576, 256);
 
-pub const ARG_FUNCTION: Section = Section(778, 256);
+pub const ARG_FUNCTION: Section = Section(832, 256);
 
-pub const ARG_VALUE: Section = Section(1034, 256);
+pub const ARG_VALUE: Section = Section(1088, 256);
 // 64 bits a node, 32 a cell, by variable or function: 1 if there is a READ, a WRITE, an ANY.
-pub const READS: Section = Section(1290, 64);
+pub const READS: Section = Section(1344, 64);
 
-pub const WRITES: Section = Section(1354, 64);
+pub const WRITES: Section = Section(1408, 64);
 
-pub const CALLS: Section = Section(1418, 64);
+pub const CALLS: Section = Section(1472, 64);
 // 64 bits a port, 4 ports a node, by target: 1 if there is a WIRE.
-pub const WIRES: Section = Section(1482, 256);
+pub const WIRES: Section = Section(1536, 256);
 
 // Cell i of a section.
 pub fn entry(tables: &[u32], s: Section, i: usize) -> u32
