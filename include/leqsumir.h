@@ -53,7 +53,7 @@ enum {
  * 11 snapshot, 12 work). A refusal changes none of the three buffers. Bytes beyond those named stay unchanged.
  *
  * Of the caller: each pointer is to memory of its length, none is NULL (with length 0 it may point anywhere else), and the five do not
- * overlap. No pointer is kept. A call takes less than 16 KB of stack, and no heap. */
+ * overlap. No pointer is kept. A call takes less than 20 KB of stack, and no heap. */
 void leqsumir_run_monitored(const uint8_t *job, size_t job_len, uint8_t *trace, size_t trace_len, uint8_t *snapshot,
                             size_t snapshot_len, uint8_t *work, size_t work_len, uint64_t answer[8]);
 

@@ -1,17 +1,17 @@
-//! What both programs take: ENGINE MODE SCHEDULE RUNS.
+//! What both programs take: ENGINE MODE CASE RUNS.
 
 use flow_reference::Mode;
 
-use crate::runs::{Bench, Engine, Schedule};
+use crate::runs::{Bench, Case, Engine};
 
 /// What the four words are.
 pub const WORDS: &str = "ENGINE: proved or reference; MODE: monitored or bare; RUNS: how often, above 0;
-SCHEDULE: turns (4,096 of them), stopped (as many, none of which is made), none,
+CASE: turns (4,096 of them), stopped (as many, none of which is made), none,
 or large (the large job: 3,362 commands, no turns)";
 
 /// Reads the words: what to run, and how often.
 pub fn read(words: &[&str]) -> Option<(Bench, u32)> {
-    let [engine, mode, schedule, runs] = words else { return None };
+    let [engine, mode, case, runs] = words else { return None };
     let engine = match *engine {
         "proved" => Engine::Proved,
         "reference" => Engine::Reference,
@@ -22,13 +22,13 @@ pub fn read(words: &[&str]) -> Option<(Bench, u32)> {
         "bare" => Mode::Unmonitored,
         _ => return None,
     };
-    let schedule = match *schedule {
-        "turns" => Schedule::Turns,
-        "stopped" => Schedule::Stopped,
-        "none" => Schedule::None,
-        "large" => Schedule::Large,
+    let case = match *case {
+        "turns" => Case::Turns,
+        "stopped" => Case::Stopped,
+        "none" => Case::None,
+        "large" => Case::Large,
         _ => return None,
     };
     let runs = runs.parse().ok().filter(|&runs| runs > 0)?;
-    Some((Bench::new(engine, mode, schedule, 0), runs))
+    Some((Bench::new(engine, mode, case, 0), runs))
 }

@@ -8,7 +8,7 @@ use flow_bench::runs::Engine;
 use flow_bench::script::Script;
 use flow_bench::{arguments, stack};
 
-const USAGE: &str = "usage: bench ENGINE MODE SCHEDULE RUNS | bench time ENGINE MODE SCHEDULE RUNS |
+const USAGE: &str = "usage: bench ENGINE MODE CASE RUNS | bench time ENGINE MODE CASE RUNS |
     bench compare | bench mix | bench stack";
 
 /// The completed turns of all runs.

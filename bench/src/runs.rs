@@ -18,7 +18,7 @@ pub enum Engine {
 
 /// Which job is run.
 #[derive(Clone, Copy, Debug, PartialEq, Eq)]
-pub enum Schedule {
+pub enum Case {
     /// All 4,096 turns, each of which completes.
     Turns,
     /// As many TURN commands, the first of them for a node that is not ready: all are decoded, none is made.
@@ -29,11 +29,11 @@ pub enum Schedule {
     Large,
 }
 
-/// Every job, monitored and bare.
-pub fn all() -> impl Iterator<Item = (Mode, Schedule)> {
-    let schedules = [Schedule::Turns, Schedule::Stopped, Schedule::None, Schedule::Large];
+/// Every case, monitored and bare.
+pub fn all() -> impl Iterator<Item = (Mode, Case)> {
+    let cases = [Case::Turns, Case::Stopped, Case::None, Case::Large];
     let modes = [Mode::Monitored, Mode::Unmonitored];
-    modes.into_iter().flat_map(move |mode| schedules.map(|schedule| (mode, schedule)))
+    modes.into_iter().flat_map(move |mode| cases.map(|case| (mode, case)))
 }
 
 /// A page of memory.
@@ -61,13 +61,13 @@ pub struct Bench {
 
 impl Bench {
     /// The buffers hold this byte everywhere before the first run.
-    pub fn new(engine: Engine, mode: Mode, schedule: Schedule, byte: u8) -> Bench {
-        let mut job = match schedule {
-            Schedule::None => job::without_turns(),
-            Schedule::Large => large::job(),
-            Schedule::Turns | Schedule::Stopped => Script::new().job,
+    pub fn new(engine: Engine, mode: Mode, case: Case, byte: u8) -> Bench {
+        let mut job = match case {
+            Case::None => job::without_turns(),
+            Case::Large => large::job(),
+            Case::Turns | Case::Stopped => Script::new().job,
         };
-        if schedule == Schedule::Stopped {
+        if case == Case::Stopped {
             // Node 1 has no message at the start.
             job[job::without_turns().len() + 1] = 1;
         }

@@ -15,8 +15,8 @@ const BYTES: usize = 1 << 20;
 /// The bytes that a whole run takes, the most of all jobs, monitored and bare. Each is run on two paints,
 /// as a byte that it writes may be that of one paint.
 pub fn most(engine: Engine) -> usize {
-    let deepest = |(mode, schedule)| {
-        let mut bench = Bench::new(engine, mode, schedule, 0);
+    let deepest = |(mode, case)| {
+        let mut bench = Bench::new(engine, mode, case, 0);
         painted(&mut bench, 0x5A).max(painted(&mut bench, 0xA5))
     };
     runs::all().map(deepest).max().unwrap_or_default()

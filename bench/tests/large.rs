@@ -16,7 +16,7 @@ fn command_bytes(job: &[u8]) -> Vec<u8> {
     bytes
 }
 
-/// FNV-1a: a number that another byte, or another order, makes another.
+/// FNV-1a: a number that almost every change of the bytes changes.
 fn fingerprint(job: &[u8]) -> u64 {
     job.iter()
         .fold(0xcbf2_9ce4_8422_2325, |hash, &byte| (hash ^ u64::from(byte)).wrapping_mul(0x100_0000_01b3))

@@ -2,23 +2,23 @@
 
 use flow_bench::arguments;
 use flow_bench::compare::compare;
-use flow_bench::runs::{Bench, Engine, Schedule};
+use flow_bench::runs::{Bench, Case, Engine};
 use flow_reference::Mode;
 
-/// Runs the job of a word and of a schedule: the answers and buffers are the same.
-fn names(word: &str, schedule: Schedule) {
+/// Runs the job of a word and of a case: the answers and buffers are the same.
+fn names(word: &str, case: Case) {
     let (mut named, runs) = arguments::read(&["reference", "bare", word, "3"]).expect(word);
-    let mut meant = Bench::new(Engine::Reference, Mode::Unmonitored, schedule, 0);
+    let mut meant = Bench::new(Engine::Reference, Mode::Unmonitored, case, 0);
     assert_eq!((named.run(), runs), (meant.run(), 3), "{word}");
     assert!(named.buffers == meant.buffers, "{word}");
 }
 
 #[test]
-fn every_schedule_has_a_word() {
-    names("turns", Schedule::Turns);
-    names("stopped", Schedule::Stopped);
-    names("none", Schedule::None);
-    names("large", Schedule::Large);
+fn every_case_has_a_word() {
+    names("turns", Case::Turns);
+    names("stopped", Case::Stopped);
+    names("none", Case::None);
+    names("large", Case::Large);
 }
 
 #[test]

@@ -65,7 +65,7 @@ fn main() -> ExitCode {
     let words: Vec<String> = std::env::args().skip(1).collect();
     let words: Vec<&str> = words.iter().map(String::as_str).collect();
     let Some((mut bench, runs)) = arguments::read(&words) else {
-        eprintln!("usage: copies ENGINE MODE SCHEDULE RUNS\n{}", arguments::WORDS);
+        eprintln!("usage: copies ENGINE MODE CASE RUNS\n{}", arguments::WORDS);
         return ExitCode::from(2);
     };
     if !is_counting() {

@@ -1,4 +1,4 @@
--- The code's table says what the model's table says: one computed equation of the two, for any rows.
+-- Rows that agree with the table of the model say what it says. That those of the code agree is computed in the proof of `look_up`.
 use Prim.Native.Nat.{ℕ, zero, suc, _+_, _<_}
 use mathlib.Core.Path.{_≡_, refl, sym, ap, _∙_}
 use mathlib.Core.List.{List, [], _∷_, map}

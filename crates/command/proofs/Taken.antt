@@ -118,7 +118,7 @@ module _ (job : List ℕ) (place : ℕ) where
       → refusalAt place (readCommand job place) ≡ some (refusalOf q)
   reads-refused p q r e = rw e at r
 
-  pub extends-known : (x : Extent) (row next : ℕ) → Extends job place x → x ≡ e.Known row next → Reaches job place row next
+  pub extends-known : (x : Extent) (row next : ℕ) → Extends job place x → x ≡ e.Whole row next → Reaches job place row next
   extends-known x row next r e = rw e at r
 
   pub extends-refused : (x : Extent) (q : Refusal) → Extends job place x → x ≡ e.Refused q

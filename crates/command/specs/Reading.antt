@@ -51,7 +51,7 @@ pub record Reaches (job : List ℕ) (place row next : ℕ) : Type 0 where
 
 -- what is known before the operands are read: that the command is whole, or a refusal
 abbrev pub Extends : List ℕ → ℕ → Extent → Type 0
-Extends job place (e.Known row next) = Reaches job place row next
+Extends job place (e.Whole row next) = Reaches job place row next
 Extends job place (e.Refused r) = refusalAt place (readCommand job place) ≡ some (refusalOf r)
 
 -- the head that the code answers; none if it refuses

@@ -48,6 +48,9 @@ pub const START: u8 = 0x50;
 
 pub const TURN: u8 = 0x60;
 
+// The group of BODY and the handler commands; no later group has a command of a handler.
+pub const HANDLER_GROUP: u8 = 4;
+
 // Whether the byte is that of a handler command: 41 SET to 4B SKIP.
 pub fn is_handler(byte: u8) -> bool
     ensures { λ r. ⌜ r ≡ isHandlerByte byte ⌝ }

@@ -48,7 +48,7 @@ pub enum HeadParsed {
 
 // What is known of the command at a place before its operands are read: its row and the place after it, or refusal 2 or 3.
 enum Extent {
-    Known(u64, usize),
+    Whole(u64, usize),
     Refused(Refusal),
 }
 
@@ -98,7 +98,7 @@ fn extent_of(job: &[u8], at: usize, found: Lookup) -> Extent
             place: at,
         });
     }
-    Extent::Known(row, next)
+    Extent::Whole(row, next)
 }
 
 // The command at a place, or its refusal.
@@ -111,7 +111,7 @@ pub fn read_command(job: &[u8], at: usize) -> Parsed
     let extent = extent_of(job, at, found);
     match extent {
         Extent::Refused(r) => Parsed::Refused(r),
-        Extent::Known(row, next) => {
+        Extent::Whole(row, next) => {
             let shape = unpack(row);
             let first_at = at + 1;
             let second_at = first_at + (shape.first_width as usize);
@@ -141,7 +141,7 @@ pub fn read_head(job: &[u8], at: usize) -> HeadParsed
     let byte = job[at];
     let found = look_up(byte);
     let extent = extent_of(job, at, found);
-    let Extent::Known(row, next) = extent else {
+    let Extent::Whole(row, next) = extent else {
         return HeadParsed::Refused;
     };
     let shape = unpack(row);

@@ -67,7 +67,7 @@ pub fn load(job: &[u8], work: &mut [u8])
         let HeadParsed::Whole(c) = read else {
             return;
         };
-        if 4 < c.group {
+        if bytes::HANDLER_GROUP < c.group {
             return;
         }
         keep(work, opened, index, c);

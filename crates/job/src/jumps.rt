@@ -37,7 +37,7 @@ pub(crate) fn check_jumps(job: &[u8], tables: &[u32]) -> Verdict
         let HeadParsed::Whole(c) = read else {
             return Verdict::Accepted;
         };
-        if 4 < c.group {
+        if bytes::HANDLER_GROUP < c.group {
             return Verdict::Accepted;
         }
         let len = length_of(tables, opened);

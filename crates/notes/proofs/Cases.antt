@@ -6,7 +6,7 @@ use native.Mathlib.Omega.{arith}
 use lib.Dec.{ltb, eqb}
 use borrow.Author.Tests.{ltb-true, ltb-false, lt-ltb, eqb-true, eqb-false, eq-eqb, ne-eqb}
 use Rattle.tables.specs.Bits.{bitOf, withBit}
-use Rattle.tables.specs.Cells.{isMark, markCell}
+use Rattle.tables.specs.Cells.{isMarkPlace, markCell}
 use Rattle.tables.proofs.Setting.{bit-set}
 
 -- a column: the new value at the cell, the old one elsewhere
@@ -70,8 +70,8 @@ module _ (cells : ℕ → ℕ) (a b r x k : ℕ) where
 
   pub marking :
       (on : Bool) (older : Bool) → (on ≡ true → a < 128) → (on ≡ true → b < 64) → (on ≡ true → markCell a b < k)
-      → (isMark r x && bitOf (cells (markCell r x)) (x % 32)) ≡ older
-      → (isMark r x && bitOf (cond ((on && isMark a b) && (eqb (markCell a b) (markCell r x) && ltb (markCell r x) k))
+      → (isMarkPlace r x && bitOf (cells (markCell r x)) (x % 32)) ≡ older
+      → (isMarkPlace r x && bitOf (cond ((on && isMarkPlace a b) && (eqb (markCell a b) (markCell r x) && ltb (markCell r x) k))
       (withBit (cells (markCell a b)) (b % 32)) (cells (markCell r x))) (x % 32)) ≡ ((on && (eqb a r && eqb b x)) || older)
   marking false older h₁ h₂ h₃ q = q
   marking true older h₁ h₂ h₃ q = rw (lt-ltb a 128 (h₁ refl), lt-ltb b 64 (h₂ refl)) (by-range (ltb r 128) refl (ltb x 64) refl q)

@@ -22,7 +22,7 @@ use Rattle.command.specs.declared.read.Command.{Command as Code}
 use Rattle.command.specs.Reading.{commandOf}
 use Rattle.tables.specs.declared.cells.Section.{Section}
 use Rattle.tables.specs.Bits.{bitOf}
-use Rattle.tables.specs.Cells.{cellCount, entryIn, putIn, flagIn, isMark, markCell, marksWith, markIn}
+use Rattle.tables.specs.Cells.{cellCount, entryIn, putIn, flagIn, isMarkPlace, markCell, marksWith, markIn}
 use Rattle.tables.specs.Tables.{countCells, progressCells, flowCells, scopeCells, ownerCells, startCells, answerCells, lengthCells}
 use Rattle.tables.specs.Tables.{bodyCells, startedCells, firstCells, messageCells, argNodeCells, argFunctionCells, argValueCells, readCells}
 use Rattle.tables.specs.Tables.{writeCells, anyCells, wireCells, countIn, groupIn, openIn, flowIn, lengthIn, listedIn, wiredIn}
@@ -249,7 +249,7 @@ module _ (t : List ℕ) (past : List Command) (c : Command) (s : Stands t past) 
   -- the marks of a section after a command with this byte: those before, and the one of its first two operands
   mark-next :
       (r : Section) (b : ℕ) → r .1 ≡ 64 → (row x : ℕ)
-      → entryIn after r (markCell row x) ≡ cond ((is b c && isMark (c .operands .first) (c .operands .second)) &&
+      → entryIn after r (markCell row x) ≡ cond ((is b c && isMarkPlace (c .operands .first) (c .operands .second)) &&
       (eqb (markCell (c .operands .first) (c .operands .second)) (markCell row x) && ltb (markCell row x) 64))
       (marksWith t r (c .operands .first) (c .operands .second)) (entryIn t r (markCell row x))
       → (is b c ≡ true → (c .operands .first < 32) × (c .operands .second < 64) × (c .operands .third ≡ 0))
@@ -290,7 +290,7 @@ module _ (t : List ℕ) (past : List Command) (c : Command) (s : Stands t past) 
   wire-mark row m =
       rw (in-section wireCells (omega arith) refl (markCell row m))
       (marking (entryIn t wireCells) (c .operands .first * 4 + c .operands .second) (c .operands .third) row m 256 (is WIRE c)
-      (isMark row m && bitOf (entryIn t wireCells (markCell row m)) (m % 32))
+      (isMarkPlace row m && bitOf (entryIn t wireCells (markCell row m)) (m % 32))
       (λ p. omega (arith, wire-range p .0, wire-range p .1)) (λ p. omega (arith, wire-range p .2))
       (λ p. omega (arith, wire-range p .0, wire-range p .1, wire-range p .2)) refl)
 

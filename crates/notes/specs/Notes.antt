@@ -12,7 +12,7 @@ use Rattle.model.specs.Valid.{Valid}
 use Rattle.command.specs.declared.read.Command.{Command}
 use Rattle.command.specs.Reading.{commandOf}
 use Rattle.tables.specs.declared.cells.Section.{Section}
-use Rattle.tables.specs.Cells.{putIn, isMark, markCell, marksWith}
+use Rattle.tables.specs.Cells.{putIn, isMarkPlace, markCell, marksWith}
 use Rattle.tables.specs.Tables.{countIn, openIn, flowIn, lengthIn, flowCells, scopeCells, ownerCells, startCells, answerCells, lengthCells}
 use Rattle.tables.specs.Tables.{progressCells, bodyCells, startedCells, firstCells, messageCells, argNodeCells, argFunctionCells}
 use Rattle.tables.specs.Tables.{argValueCells, readCells, writeCells, anyCells, wireCells}
@@ -23,7 +23,7 @@ abbrev pub Notes : List ℕ → Command → List ℕ → Type 0
 Notes before c after = (past : List Past) → c .group ≡ groupOf (c .byte) → Stands before past → Valid (commandOf c ∷ past)
     → length past < 65536 → Stands after (commandOf c ∷ past)
 
--- one more, for a number below 65,536
+-- one more, for a number below 65,536; others stay
 unfoldable pub oneMore : ℕ → ℕ
 oneMore n = cond (ltb n 65536) (n + 1) n
 
@@ -34,17 +34,19 @@ pub record Write : Type 0 where
   pub cell : ℕ
   pub value : ℕ
 
+-- the write with these
 abbrev pub write : Bool → Section → ℕ → ℕ → Write
 write on s i x = record { on = on; section = s; cell = i; value = x }
 
 -- a mark at a row and a column, as a write
 abbrev pub markWrite : List ℕ → Bool → Section → ℕ → ℕ → Write
-markWrite t on s r x = write (on && isMark r x) s (markCell r x) (marksWith t s r x)
+markWrite t on s r x = write (on && isMarkPlace r x) s (markCell r x) (marksWith t s r x)
 
--- the cells after a write, and after some, the first one first
+-- the cells after a write
 unfoldable pub made : List ℕ → Write → List ℕ
 made t w = cond (w .on) (putIn t (w .section) (w .cell) (w .value)) t
 
+-- the cells after some, the first one first
 abbrev pub written : List ℕ → List Write → List ℕ
 written t [] = t
 written t (w ∷ ws) = written (made t w) ws
@@ -53,7 +55,7 @@ written t (w ∷ ws) = written (made t w) ws
 abbrev pub handlerWrite : List ℕ → Past → Write
 handlerWrite t c = write (isHandler c) lengthCells (openIn t) (oneMore (lengthIn t (openIn t)))
 
--- the writes for the commands that declare, each made for those that it belongs to, by the cells before
+-- the writes for what commands declare and permit, each made for those that it belongs to, by the cells before
 abbrev pub declaredWrites : List ℕ → Past → List Write
 declaredWrites t c =
     write (is NODE c) flowCells (countIn t NODE) (countIn t FLOW - 1)
@@ -75,6 +77,6 @@ declaredWrites t c =
     ∷ write (is START c) messageCells (c .operands .first) (c .operands .second)
     ∷ []
 
--- the writes for what a command says: either of the handler's, or of what it declares
+-- the writes for a command: one command more in the open handler, or what it declares or permits; none is made for FLOW and TURN
 abbrev pub commandWrites : List ℕ → Past → List Write
 commandWrites t c = handlerWrite t c ∷ declaredWrites t c

@@ -1,5 +1,5 @@
 // Noting one more command: what it declares, by its kind, then its count and its group.
-mod kinds;
+mod commands;
 
 ghost use mathlib.Core.Path.{_≡_};
 ghost use Rattle.command.specs.Reading.{commandOf};
@@ -7,18 +7,18 @@ ghost use Rattle.notes.specs.Notes.{Notes, commandWrites, oneMore, writt
 use command::bytes;
 use command::numbers::NodeNum;
 use command::read::Command;
+use commands::note_body;
+use commands::note_function;
+use commands::note_handler;
+use commands::note_node;
+use commands::note_operands;
+use commands::note_start;
 use declared::count_of;
-use kinds::note_body;
-use kinds::note_function;
-use kinds::note_handler;
-use kinds::note_node;
-use kinds::note_operands;
-use kinds::note_start;
 use tables::cells;
 use tables::cells::mark;
 use tables::cells::put;
 
-// One more, for a number below 65,536.
+// One more, for a number below 65,536; others stay.
 pub(crate) fn one_more(n: u32) -> u32
     ensures { λ r. ⌜ r ≡ oneMore n ⌝ }
 {

@@ -11,7 +11,7 @@ use Rattle.model.specs.Table.{ARG, groupOf}
 use Rattle.model.specs.Declared.{countOf, occurs, declared, openBody, bodyLength, startsOf, startedIn}
 use Rattle.model.specs.Refusal.{groupFalls}
 use Rattle.tables.specs.declared.cells.Section.{Section}
-use Rattle.tables.specs.Cells.{cellCount, entryIn, flagIn, isMark, markCell, markIn, blank}
+use Rattle.tables.specs.Cells.{cellCount, entryIn, flagIn, isMarkPlace, markCell, markIn, blank}
 use Rattle.tables.specs.Tables.{countCells, progressCells, firstCells, wireCells, countIn, listedIn}
 use Rattle.tables.specs.Stands.{Stands}
 use Rattle.tables.proofs.Setting.{bit-zero}
@@ -34,7 +34,7 @@ flag-blank s i h = rw (entry-blank s i h)
 
 mark-blank : (s : Section) (r x : ℕ) → s .0 + s .1 ≤ cellCount → markIn blank s r x ≡ false
 unfolding markIn
-mark-blank s r x h = rw (entry-blank s (markCell r x) h, bit-zero (x % 32)) (and-false (isMark r x))
+mark-blank s r x h = rw (entry-blank s (markCell r x) h, bit-zero (x % 32)) (and-false (isMarkPlace r x))
 
 listed-blank : (k n f v : ℕ) → k ≡ 0 → listedIn blank k n f v ≡ false
 unfolding listedIn

@@ -7,6 +7,6 @@ use lib.Dec.{eqb}
 unfoldable pub bitOf : ℕ → ℕ → Bool
 bitOf x i = eqb (x / 2 ^ i % 2) 1
 
--- the number with bit i made 1: it is added where it is 0
+-- the number with bit i made 1: 2 ^ i is added where the bit is 0
 unfoldable pub withBit : ℕ → ℕ → ℕ
 withBit x i = cond (bitOf x i) x (x + 2 ^ i)

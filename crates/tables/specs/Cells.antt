@@ -27,9 +27,9 @@ putIn t s i x = cond (ltb i (s .1)) (set t (s .0 + i) x) t
 unfoldable pub flagIn : List ℕ → Section → ℕ → Bool
 flagIn t s i = not (eqb (entryIn t s i) 0)
 
--- a section may hold marks, as bits: 64 a row, 32 a cell, in at most 128 rows
-abbrev pub isMark : ℕ → ℕ → Bool
-isMark r x = ltb r 128 && ltb x 64
+-- marks are bits, 64 a row, 32 a cell; there is a place for one at the rows below 128 and the columns below 64
+abbrev pub isMarkPlace : ℕ → ℕ → Bool
+isMarkPlace r x = ltb r 128 && ltb x 64
 
 -- the cell of the mark at a row and a column
 abbrev pub markCell : ℕ → ℕ → ℕ
@@ -41,11 +41,11 @@ marksWith t s r x = withBit (entryIn t s (markCell r x)) (x % 32)
 
 -- there is a mark at a row and a column of such a section
 unfoldable pub markIn : List ℕ → Section → ℕ → ℕ → Bool
-markIn t s r x = isMark r x && bitOf (entryIn t s (markCell r x)) (x % 32)
+markIn t s r x = isMarkPlace r x && bitOf (entryIn t s (markCell r x)) (x % 32)
 
--- the cells with a mark there; as they were where there is no such mark
+-- the cells with a mark there; as they were where there is no place for one
 unfoldable pub markAt : List ℕ → Section → ℕ → ℕ → List ℕ
-markAt t s r x = cond (isMark r x) (putIn t s (markCell r x) (marksWith t s r x)) t
+markAt t s r x = cond (isMarkPlace r x) (putIn t s (markCell r x) (marksWith t s r x)) t
 
 -- cells of which none is noted
 unfoldable pub blank : List ℕ

@@ -1,4 +1,4 @@
-// Numbers as rows of marks: bit i of a number is 1 where mark i is made.
+// A number as 32 marks: bit i is 1 where mark i is made.
 ghost use mathlib.Core.Path.{_≡_};
 ghost use Prim.Native.Nat.{_<_};
 ghost use Rattle.tables.specs.Bits.{bitOf, withBit};

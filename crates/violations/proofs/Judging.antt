@@ -45,7 +45,7 @@ reached : (b k have : ℕ) (past : List Command) → have ≡ countOf b past →
 reached b zero have past e = refl
 reached b (suc k) have past e = rw (ne-eqb (suc k) 0 (λ z. omega arith), among-one b past, e)
 
--- 0 and the kinds from 8 on name nothing
+-- an operand of kind 0, or of a kind from 8 on, is never refused
 pub names-none : (d : Counts) (s k x : ℕ) → ¬ (k ≡ 1) → ¬ (k ≡ 2) → ¬ (k ≡ 3) → ¬ (k ≡ 4) → ¬ (k ≡ 5) → ¬ (k ≡ 6) → ¬ (k ≡ 7)
     → namesNothing d s (kindOf k) x ≡ false
 names-none d s zero x n₁ n₂ n₃ n₄ n₅ n₆ n₇ = refl

@@ -47,8 +47,8 @@ fn exceeds_count(tables: &[u32], c: Command) -> bool
     requires { ⌜ Known c ⌝ }
     ensures { λ r. ⌜ ((past : List Past) → Stands (now (tables .entry)) past → r ≡ exceedsCount past (commandOf c)) ⌝ }
 {
-    let row = table::unpack(c.row);
-    let most = row.most;
+    let shape = table::unpack(c.row);
+    let most = shape.most;
     let have = declared::count_of(tables, c.byte);
     let opened = declared::open_node(tables);
     let inside = declared::length_of(tables, opened);
@@ -88,7 +88,7 @@ fn is_undeclared(tables: &[u32], c: Command) -> bool
     requires { ⌜ Known c ⌝ }
     ensures { λ r. ⌜ ((past : List Past) → Stands (now (tables .entry)) past → r ≡ undeclared past (commandOf c)) ⌝ }
 {
-    let row = table::unpack(c.row);
+    let shape = table::unpack(c.row);
     let d = counts_of(tables);
     let bodies = declared::count_of(tables, bytes::BODY);
     if (c.byte == bytes::NODE) & (d.flows == 0) {
@@ -97,13 +97,13 @@ fn is_undeclared(tables: &[u32], c: Command) -> bool
     if bytes::is_handler(c.byte) & (bodies == 0) {
         return true;
     }
-    if names_nothing(d, c.first, row.first_kind, c.first) {
+    if names_nothing(d, c.first, shape.first_kind, c.first) {
         return true;
     }
-    if names_nothing(d, c.first, row.second_kind, c.second) {
+    if names_nothing(d, c.first, shape.second_kind, c.second) {
         return true;
     }
-    names_nothing(d, c.first, row.third_kind, c.third)
+    names_nothing(d, c.first, shape.third_kind, c.third)
 }
 
 // The handler commands that name a variable.

@@ -1,4 +1,4 @@
-// What each kind of command writes to the tables.
+// What a command writes to the tables, where it is more than a mark.
 ghost use mathlib.Core.Path.{_≡_};
 ghost use mathlib.Core.Bool.{cond};
 ghost use Prim.Native.Nat.{_+_, _-_, _≤_};
@@ -21,7 +21,7 @@ use tables::cells::Section;
 use tables::cells::put;
 
 // One less, and 0 for 0.
-fn lowered(n: u32) -> u32
+fn one_less(n: u32) -> u32
     ensures { λ r. ⌜ r ≡ n - 1 ⌝ }
 {
     if 0 < n {
@@ -37,7 +37,7 @@ pub(crate) fn note_node(tables: &mut [u32])
 {
     let flows = count_of(tables, bytes::FLOW);
     let nodes = count_of(tables, bytes::NODE) as usize;
-    put(tables, cells::FLOW, nodes, lowered(flows));
+    put(tables, cells::FLOW, nodes, one_less(flows));
 }
 
 // The three operands of a command, each in its section, at the number that the command has among those with its byte.

@@ -1,8 +1,8 @@
--- `notes::kinds::note_operands` meets its contract.
+-- `notes::commands::note_operands` meets its contract.
 use mathlib.Core.Path.{_∙_}
 use borrow.Author.Needs.{needs}
-use Rattle.notes.proofs.kinds.note_operands.Statement.{statement}
-use Rattle.notes.proofs.kinds.note_operands.Tie as tie
+use Rattle.notes.proofs.commands.note_operands.Statement.{statement}
+use Rattle.notes.proofs.commands.note_operands.Tie as tie
 
 count-of-requires : tie.Need-count-of-requires
 count-of-requires c κs = search needs

@@ -1,8 +1,8 @@
--- `notes::kinds::note_function` meets its contract.
+-- `notes::commands::note_function` meets its contract.
 use mathlib.Core.Path.{_∙_}
 use borrow.Author.Needs.{needs}
-use Rattle.notes.proofs.kinds.note_function.Statement.{statement}
-use Rattle.notes.proofs.kinds.note_function.Tie as tie
+use Rattle.notes.proofs.commands.note_function.Statement.{statement}
+use Rattle.notes.proofs.commands.note_function.Tie as tie
 
 count-of-requires : tie.Need-count-of-requires
 count-of-requires c κs = search needs

@@ -1,8 +1,8 @@
--- `notes::kinds::note_body` meets its contract.
+-- `notes::commands::note_body` meets its contract.
 use mathlib.Core.Path.{_∙_}
 use borrow.Author.Needs.{needs}
-use Rattle.notes.proofs.kinds.note_body.Statement.{statement}
-use Rattle.notes.proofs.kinds.note_body.Tie as tie
+use Rattle.notes.proofs.commands.note_body.Statement.{statement}
+use Rattle.notes.proofs.commands.note_body.Tie as tie
 
 put-requires : tie.Need-put-requires
 put-requires c κs = search needs

@@ -1,8 +1,8 @@
--- `notes::kinds::note_start` meets its contract.
+-- `notes::commands::note_start` meets its contract.
 use mathlib.Core.Path.{_∙_}
 use borrow.Author.Needs.{needs}
-use Rattle.notes.proofs.kinds.note_start.Statement.{statement}
-use Rattle.notes.proofs.kinds.note_start.Tie as tie
+use Rattle.notes.proofs.commands.note_start.Statement.{statement}
+use Rattle.notes.proofs.commands.note_start.Tie as tie
 
 flow-of-requires : tie.Need-flow-of-requires
 flow-of-requires c κs = search needs

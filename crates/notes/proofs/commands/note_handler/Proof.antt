@@ -1,8 +1,8 @@
--- `notes::kinds::note_handler` meets its contract.
+-- `notes::commands::note_handler` meets its contract.
 use mathlib.Core.Path.{_∙_}
 use borrow.Author.Needs.{needs}
-use Rattle.notes.proofs.kinds.note_handler.Statement.{statement}
-use Rattle.notes.proofs.kinds.note_handler.Tie as tie
+use Rattle.notes.proofs.commands.note_handler.Statement.{statement}
+use Rattle.notes.proofs.commands.note_handler.Tie as tie
 
 is-handler-requires : tie.Need-is-handler-requires
 is-handler-requires c κs = search needs
