@@ -27,7 +27,8 @@ use Rattle.tables.specs.Tables.{countCells, progressCells, flowCells, scopeCell
 use Rattle.tables.specs.Tables.{bodyCells, startedCells, firstCells, messageCells, argNodeCells, argFunctionCells, argValueCells, readCells}
 use Rattle.tables.specs.Tables.{writeCells, anyCells, wireCells, countIn, groupIn, openIn, flowIn, lengthIn, listedIn, wiredIn}
 use Rattle.tables.specs.Stands.{Stands}
-use Rattle.notes.specs.Notes.{Notes, oneMore, Write, write, made, written, commandWrites}
+use Rattle.notes.specs.Notes.{Notes}
+use Rattle.notes.specs.Writes.{oneMore, Write, write, made, written, commandWrites}
 use Rattle.notes.proofs.Sections.{sorted, left, length-written, entry-written}
 use Rattle.command.proofs.Known.{byte-low}
 use Rattle.notes.proofs.Cases.{column, flag, marking, wire}

@@ -7,7 +7,8 @@ ghost use Rattle.command.specs.Rows.{isHandlerByte};
 ghost use Rattle.tables.specs.Cells.{cellCount, putIn};
 ghost use Rattle.tables.specs.Tables.{countIn, openIn, flowIn, lengthIn, flowCells, answerCells, lengthCells, progressCells, bodyCells};
 ghost use Rattle.tables.specs.Tables.{startedCells, firstCells, messageCells};
-ghost use Rattle.notes.specs.Notes.{oneMore};
+ghost use Rattle.notes.specs.Writes.{oneMore};
+use crate::one_less;
 use crate::one_more;
 use command::bytes;
 use command::numbers::NodeNum;
@@ -19,16 +20,6 @@ use declared::open_node;
 use tables::cells;
 use tables::cells::Section;
 use tables::cells::put;
-
-// One less, and 0 for 0.
-fn one_less(n: u32) -> u32
-    ensures { λ r. ⌜ r ≡ n - 1 ⌝ }
-{
-    if 0 < n {
-        return n - 1;
-    }
-    0
-}
 
 // The next node is one of the last flow.
 pub(crate) fn note_node(tables: &mut [u32])

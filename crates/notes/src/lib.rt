@@ -2,8 +2,10 @@
 mod commands;
 
 ghost use mathlib.Core.Path.{_≡_};
+ghost use Prim.Native.Nat.{_-_};
 ghost use Rattle.command.specs.Reading.{commandOf};
-ghost use Rattle.notes.specs.Notes.{Notes, commandWrites, oneMore, written};
+ghost use Rattle.notes.specs.Notes.{Notes};
+ghost use Rattle.notes.specs.Writes.{commandWrites, oneMore, written};
 use command::bytes;
 use command::numbers::NodeNum;
 use command::read::Command;
@@ -26,6 +28,16 @@ pub(crate) fn one_more(n: u32) -> u32
         return n + 1;
     }
     n
+}
+
+// One less, and 0 for 0.
+pub(crate) fn one_less(n: u32) -> u32
+    ensures { λ r. ⌜ r ≡ n - 1 ⌝ }
+{
+    if 0 < n {
+        return n - 1;
+    }
+    0
 }
 
 // Notes what a command says besides its byte and group: nothing, for FLOW and TURN.

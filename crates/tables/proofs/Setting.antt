@@ -5,9 +5,9 @@ use mathlib.Core.Bool.{Bool, true, false, cond, _||_}
 use native.Mathlib.Omega.{arith}
 use native.Mathlib.Nat.{pow-suc, one-mul}
 use native.Mathlib.Numerals.{one-add}
-use lib.Dec.{eqb}
+use lib.Dec.{eqb, eqb·zero-suc, eqb·suc-zero, eqb·suc-suc}
 use lib.Pow.{shr-shr, shl-exact}
-use borrow.Author.Tests.{eqb-true, eqb-false, eq-eqb, ne-eqb}
+use borrow.Author.Tests.{eqb-true, eqb-false}
 use Rattle.tables.specs.Bits.{bitOf, withBit}
 
 -- the bits above the lowest are those of the half
@@ -46,23 +46,15 @@ pub bit-zero : (i : ℕ) → bitOf 0 i ≡ false
 bit-zero zero = low-bit 0
 bit-zero (suc i) = half-bit 0 i ∙ bit-zero i
 
--- numbers one more are the same if the numbers are
-same-after : (i j : ℕ) → eqb (suc i) (suc j) ≡ eqb i j
-same-after i j = by-test (eqb i j) refl
-  where
-    by-test : (b : Bool) → eqb i j ≡ b → eqb (suc i) (suc j) ≡ b
-    by-test true e = eq-eqb (suc i) (suc j) (ap suc (eqb-true i j e))
-    by-test false e = ne-eqb (suc i) (suc j) (λ z. eqb-false i j e (omega arith))
-
 -- after a bit is set, it is 1, and every other bit is what it was
 pub bit-set : (i j x : ℕ) → bitOf (withBit x i) j ≡ (eqb i j || bitOf x j)
 bit-set zero zero x = rw (low-bit (withBit x 0), low-set x .1)
 bit-set zero (suc j) x =
-    rw (half-bit (withBit x 0) j, low-set x .0, half-bit x j, ne-eqb 0 (suc j) (λ e. omega arith))
+    rw (half-bit (withBit x 0) j, low-set x .0, half-bit x j, eqb·zero-suc j)
 bit-set (suc i) zero x =
-    rw (low-bit (withBit x (suc i)), half-set x i .1, low-bit x, ne-eqb (suc i) 0 (λ e. omega arith))
+    rw (low-bit (withBit x (suc i)), half-set x i .1, low-bit x, eqb·suc-zero i)
 bit-set (suc i) (suc j) x =
-    rw (half-bit (withBit x (suc i)) j, half-set x i .0, half-bit x j, same-after i j) (bit-set i j (x / 2))
+    rw (half-bit (withBit x (suc i)) j, half-set x i .0, half-bit x j, eqb·suc-suc i j) (bit-set i j (x / 2))
 
 -- a number of k bits has k bits after one of them is set
 pub set-below : (k i x : ℕ) → i < k → x < 2 ^ k → withBit x i < 2 ^ k

@@ -4,7 +4,7 @@ ghost use Prim.Native.Nat.{_<_};
 ghost use Rattle.tables.specs.Bits.{bitOf, withBit};
 
 // Whether bit i of a number is 1.
-pub fn is_set(x: u32, i: u32) -> bool
+pub(crate) fn is_set(x: u32, i: u32) -> bool
     requires { ⌜ i < 32 ⌝ }
     ensures { λ r. ⌜ r ≡ bitOf x i ⌝ }
 {
@@ -12,7 +12,7 @@ pub fn is_set(x: u32, i: u32) -> bool
 }
 
 // The number with bit i made 1.
-pub fn with_bit(x: u32, i: u32) -> u32
+pub(crate) fn with_bit(x: u32, i: u32) -> u32
     requires { ⌜ i < 32 ⌝ }
     ensures { λ r. ⌜ r ≡ withBit x i ⌝ }
 {

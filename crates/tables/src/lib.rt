@@ -1,3 +1,3 @@
 // What the commands of a job declare, as tables: the cells that hold it. The definitions say what each cell stands for.
-pub mod bits;
+mod bits;
 pub mod cells;

@@ -1,6 +1,6 @@
 // The tests 4 to 8 of a command, by the tables of those before it.
 ghost use mathlib.Core.Path.{_≡_};
-ghost use mathlib.Core.Bool.{_||_};
+ghost use mathlib.Core.Bool.{cond, _||_};
 ghost use mathlib.Core.List.{List};
 ghost use lib.Dec.{eqb};
 ghost use Rattle.model.specs.Table.{READ, WRITE, GET, PUT, PLUS};
@@ -164,6 +164,20 @@ fn is_repeated(tables: &[u32], c: Command) -> bool
     }
 }
 
+// The number of the first of the tests 7 and 8 that refuses a command, or 0.
+fn late_violation(tables: &[u32], c: Command) -> u8
+    ensures { λ r. ⌜ ((past : List Past) → Stands (now (tables .entry)) past → Plain (commandOf c)
+        → r ≡ cond (outOfReach past (commandOf c)) 7 (cond (repeated past (commandOf c)) 8 0)) ⌝ }
+{
+    if is_out_of_reach(tables, c) {
+        return 7;
+    }
+    if is_repeated(tables, c) {
+        return 8;
+    }
+    0
+}
+
 // The number of the first of the tests 4 to 8 that refuses a command, or 0.
 pub fn violation_of(tables: &[u32], c: Command) -> u8
     requires { ⌜ Known c ⌝ }
@@ -179,11 +193,5 @@ pub fn violation_of(tables: &[u32], c: Command) -> u8
     if is_undeclared(tables, c) {
         return 6;
     }
-    if is_out_of_reach(tables, c) {
-        return 7;
-    }
-    if is_repeated(tables, c) {
-        return 8;
-    }
-    0
+    late_violation(tables, c)
 }

@@ -1,9 +1,10 @@
 -- `notes::note_content` meets its contract.
 use mathlib.Core.Path.{_∙_}
+use denote.Ref.{now}
 use borrow.Author.Needs.{needs}
-use Rattle.command.specs.Reading.{commandOf}
-use Rattle.notes.proofs.Arms.{node-arm, variable-arm, function-arm, wire-arm, any-arm, argument-arm, read-arm, write-arm}
-use Rattle.notes.proofs.Arms.{body-arm, start-arm, rest-arm}
+use Rattle.tables.specs.Cells.{markAt}
+use Rattle.notes.specs.Writes.{made}
+use Rattle.notes.proofs.Arms.{known-arm, rest-arm}
 use Rattle.notes.proofs.note_content.Statement.{statement}
 use Rattle.notes.proofs.note_content.Tie as tie
 
@@ -59,81 +60,101 @@ same-length : tie.Need-same-length
 same-length c = search needs
 
 returns : tie.Need-returns
+unfolding made
 returns c =
     let p = c .before .before .before .before in
-    c .before .before .note-node .ensures ∙ node-arm _ (commandOf (p .before .before .before .before .args .c)) (p .match .keys1)
+    let a = p .before .before .before .before .args in
+    known-arm (now (a .tables)) (a .c) _ _ (p .match .keys1) (c .before .before .note-node .ensures)
 
 same-length-2 : tie.Need-same-length-2
 same-length-2 c = search needs
 
 returns-2 : tie.Need-returns-2
+unfolding made
 returns-2 c =
     let p = c .before .before .before .before in
-    c .before .before .note-operands .ensures ∙ variable-arm _ (commandOf (p .before .before .before .before .args .c)) (p .match .keys2)
+    let a = p .before .before .before .before .args in
+    known-arm (now (a .tables)) (a .c) _ _ (p .match .keys2) (rw (p .match .keys2) at (c .before .before .note-operands .ensures))
 
 same-length-3 : tie.Need-same-length-3
 same-length-3 c = search needs
 
 returns-3 : tie.Need-returns-3
+unfolding made
 returns-3 c =
     let p = c .before .before .before .before in
-    c .before .before .note-function .ensures ∙ function-arm _ (commandOf (p .before .before .before .before .args .c)) (p .match .keys3)
+    let a = p .before .before .before .before .args in
+    known-arm (now (a .tables)) (a .c) _ _ (p .match .keys3) (c .before .before .note-function .ensures)
 
 same-length-4 : tie.Need-same-length-4
 same-length-4 c = search needs
 
 returns-4 : tie.Need-returns-4
+unfolding made markAt
 returns-4 c =
     let p = c .before .before .before .before .before in
-    c .before .before .mark .ensures ∙ wire-arm _ (commandOf (p .before .before .before .before .args .c)) (p .match .keys4)
+    let a = p .before .before .before .before .args in
+    known-arm (now (a .tables)) (a .c) _ _ (p .match .keys4) (c .before .before .mark .ensures)
 
 same-length-5 : tie.Need-same-length-5
 same-length-5 c = search needs
 
 returns-5 : tie.Need-returns-5
+unfolding made markAt
 returns-5 c =
     let p = c .before .before .before .before in
-    c .before .before .mark2 .ensures ∙ any-arm _ (commandOf (p .before .before .before .before .args .c)) (p .match .keys5)
+    let a = p .before .before .before .before .args in
+    known-arm (now (a .tables)) (a .c) _ _ (p .match .keys5) (c .before .before .mark2 .ensures)
 
 same-length-6 : tie.Need-same-length-6
 same-length-6 c = search needs
 
 returns-6 : tie.Need-returns-6
+unfolding made
 returns-6 c =
     let p = c .before .before .before .before in
-    c .before .before .note-operands2 .ensures ∙ argument-arm _ (commandOf (p .before .before .before .before .args .c)) (p .match .keys6)
+    let a = p .before .before .before .before .args in
+    known-arm (now (a .tables)) (a .c) _ _ (p .match .keys6) (rw (p .match .keys6) at (c .before .before .note-operands2 .ensures))
 
 same-length-7 : tie.Need-same-length-7
 same-length-7 c = search needs
 
 returns-7 : tie.Need-returns-7
+unfolding made markAt
 returns-7 c =
     let p = c .before .before .before .before in
-    c .before .before .mark3 .ensures ∙ read-arm _ (commandOf (p .before .before .before .before .args .c)) (p .match .keys7)
+    let a = p .before .before .before .before .args in
+    known-arm (now (a .tables)) (a .c) _ _ (p .match .keys7) (c .before .before .mark3 .ensures)
 
 same-length-8 : tie.Need-same-length-8
 same-length-8 c = search needs
 
 returns-8 : tie.Need-returns-8
+unfolding made markAt
 returns-8 c =
     let p = c .before .before .before .before in
-    c .before .before .mark4 .ensures ∙ write-arm _ (commandOf (p .before .before .before .before .args .c)) (p .match .keys8)
+    let a = p .before .before .before .before .args in
+    known-arm (now (a .tables)) (a .c) _ _ (p .match .keys8) (c .before .before .mark4 .ensures)
 
 same-length-9 : tie.Need-same-length-9
 same-length-9 c = search needs
 
 returns-9 : tie.Need-returns-9
+unfolding made
 returns-9 c =
     let p = c .before .before .before .before in
-    c .before .before .note-body .ensures ∙ body-arm _ (commandOf (p .before .before .before .before .args .c)) (p .match .keys9)
+    let a = p .before .before .before .before .args in
+    known-arm (now (a .tables)) (a .c) _ _ (p .match .keys9) (c .before .before .note-body .ensures)
 
 same-length-10 : tie.Need-same-length-10
 same-length-10 c = search needs
 
 returns-10 : tie.Need-returns-10
+unfolding made
 returns-10 c =
     let p = c .before .before .before .before in
-    c .before .before .note-start .ensures ∙ start-arm _ (commandOf (p .before .before .before .before .args .c)) (p .match .keys10)
+    let a = p .before .before .before .before .args in
+    known-arm (now (a .tables)) (a .c) _ _ (p .match .keys10) (c .before .before .note-start .ensures)
 
 same-length-11 : tie.Need-same-length-11
 same-length-11 c = search needs
@@ -141,11 +162,11 @@ same-length-11 c = search needs
 returns-11 : tie.Need-returns-11
 returns-11 c =
     let p = c .before .before .before .before in
+    let a = p .before .before .before .before .args in
     let n = p .match .rest in
     c .before .before .note-handler .ensures
-    ∙ rest-arm _ (commandOf (p .before .before .before .before .args .c)) (n .0 .0 .0 .0 .0 .0 .0 .0 .0 .1)
-    (n .0 .0 .0 .0 .0 .0 .0 .0 .1) (n .0 .0 .0 .0 .0 .0 .0 .1) (n .0 .0 .0 .0 .0 .0 .1) (n .0 .0 .0 .0 .0 .1) (n .0 .0 .0 .0 .1)
-    (n .0 .0 .0 .1) (n .0 .0 .1) (n .0 .1) (n .1)
+    ∙ rest-arm (now (a .tables)) (a .c) (n .0 .0 .0 .0 .0 .0 .0 .0 .0 .1) (n .0 .0 .0 .0 .0 .0 .0 .0 .1) (n .0 .0 .0 .0 .0 .0 .0 .1)
+    (n .0 .0 .0 .0 .0 .0 .1) (n .0 .0 .0 .0 .0 .1) (n .0 .0 .0 .0 .1) (n .0 .0 .0 .1) (n .0 .0 .1) (n .0 .1) (n .1)
 
 pub note-content-spec : {M : Type 1} → statement M
 note-content-spec =

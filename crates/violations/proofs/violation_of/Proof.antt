@@ -51,60 +51,22 @@ returns-3 c =
       sym (c .before .is-undeclared .ensures past s) ∙ c .if3 .taken,
     )
 
-is-out-of-reach-requires : tie.Need-is-out-of-reach-requires
-is-out-of-reach-requires c κs = search needs
+late-violation-requires : tie.Need-late-violation-requires
+late-violation-requires c κs = search needs
 
 returns-4 : tie.Need-returns-4
 returns-4 c =
-    let p2 = c .before .before in
-    let p4 = p2 .before .before in
-    let p6 = p4 .before .before in
-    let start = p6 .before .before .before .before in
+    let p3 = c .before .before .before in
+    let p5 = p3 .before .before in
+    let start = p5 .before .before .before .before in
     λ past s plain.
     rw (
-      violation-as _ (start .args .c) past s _ (start .pre) (p6 .before .group .ensures),
-      le-ltb _ _ (p6 .if1 .left),
-      sym (p4 .before .exceeds-count .ensures past s) ∙ p4 .if2 .left,
-      sym (p2 .before .is-undeclared .ensures past s) ∙ p2 .if3 .left,
-      sym (c .before .is-out-of-reach .ensures past s) ∙ c .if4 .taken,
+      violation-as _ (start .args .c) past s _ (start .pre) (p5 .before .group .ensures),
+      le-ltb _ _ (p5 .if1 .left),
+      sym (p3 .before .exceeds-count .ensures past s) ∙ p3 .if2 .left,
+      sym (c .before .before .is-undeclared .ensures past s) ∙ c .before .if3 .left,
     )
-
-is-repeated-requires : tie.Need-is-repeated-requires
-is-repeated-requires c κs = search needs
-
-returns-5 : tie.Need-returns-5
-returns-5 c =
-    let p2 = c .before .before in
-    let p4 = p2 .before .before in
-    let p6 = p4 .before .before in
-    let p8 = p6 .before .before in
-    let start = p8 .before .before .before .before in
-    λ past s plain.
-    rw (
-      violation-as _ (start .args .c) past s _ (start .pre) (p8 .before .group .ensures),
-      le-ltb _ _ (p8 .if1 .left),
-      sym (p6 .before .exceeds-count .ensures past s) ∙ p6 .if2 .left,
-      sym (p4 .before .is-undeclared .ensures past s) ∙ p4 .if3 .left,
-      sym (p2 .before .is-out-of-reach .ensures past s) ∙ p2 .if4 .left,
-      sym (c .before .is-repeated .ensures past s plain) ∙ c .if5 .taken,
-    )
-
-returns-6 : tie.Need-returns-6
-returns-6 c =
-    let p2 = c .before .before in
-    let p4 = p2 .before .before in
-    let p6 = p4 .before .before in
-    let p8 = p6 .before .before in
-    let start = p8 .before .before .before .before in
-    λ past s plain.
-    rw (
-      violation-as _ (start .args .c) past s _ (start .pre) (p8 .before .group .ensures),
-      le-ltb _ _ (p8 .if1 .left),
-      sym (p6 .before .exceeds-count .ensures past s) ∙ p6 .if2 .left,
-      sym (p4 .before .is-undeclared .ensures past s) ∙ p4 .if3 .left,
-      sym (p2 .before .is-out-of-reach .ensures past s) ∙ p2 .if4 .left,
-      sym (c .before .is-repeated .ensures past s plain) ∙ c .if5 .left,
-    )
+    (c .late-violation .ensures past s plain)
 
 pub violation-of-spec : {M : Type 1} → statement M
 violation-of-spec =
@@ -117,8 +79,5 @@ violation-of-spec =
     returns-2
     is-undeclared-requires
     returns-3
-    is-out-of-reach-requires
-    returns-4
-    is-repeated-requires
-    returns-5
-    returns-6)
+    late-violation-requires
+    returns-4)
