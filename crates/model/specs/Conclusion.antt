@@ -109,7 +109,7 @@ pub record Leaves (result : Result) (b : Buffers) : Type 0 where
       (r : Refusal) → result ≡ refused r
       → (traceAfter result (b .trace) ≡ b .trace) × (snapshotAfter result (b .snapshot) ≡ b .snapshot) ×
       (workAfter result (b .work) ≡ b .work)
-  -- a run leaves its trace, its snapshot, and 16,384 zero bytes
+  -- a run leaves its trace, its snapshot, and 4,096 zero bytes
   pub filled :
       (a : Answer) (t s : List ℕ) → result ≡ ran a t s
       → Filled t (b .trace) (traceAfter result (b .trace)) × Filled s (b .snapshot) (snapshotAfter result (b .snapshot)) × Filled

@@ -26,7 +26,7 @@ RowsHold rows = map outcome rows ≡ map (λ (e : Example). e .expected) rows
 
 -- buffers that are long enough for every job
 unfoldable pub enough : Sizes
-enough = sizes 28672 2624 16384
+enough = sizes 28672 2624 4096
 
 -- a monitored and an unmonitored row with long buffers
 unfoldable pub monitoredRow : List ℕ → Result → Example

@@ -19,5 +19,7 @@ pub mod Following
 pub mod Transparency
 pub mod Examples
 pub mod Readings
+-- statements on change requests
+pub mod WorkSize
 -- what holds of accepted jobs and of states, for proofs about code
 pub mod Valid

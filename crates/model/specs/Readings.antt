@@ -48,11 +48,11 @@ orderRows =
     -- an unmonitored run refuses alike
     ∷ unmonitoredRow (nodes 1 ++ (0x32 ∷ 0x00 ∷ 0x00 ∷ [])) (refused (refuse 6 2))
     -- 10, 11 and 12 in this order, at the job's length
-    ∷ within (sizes 6 2623 16383) (nodes 1 ++ turns 1 0) (refused (refuse 10 4))
-    ∷ within (sizes 7 2623 16383) (nodes 1 ++ turns 1 0) (refused (refuse 11 4))
-    ∷ within (sizes 7 2624 16383) (nodes 1 ++ turns 1 0) (refused (refuse 12 4))
+    ∷ within (sizes 6 2623 4095) (nodes 1 ++ turns 1 0) (refused (refuse 10 4))
+    ∷ within (sizes 7 2623 4095) (nodes 1 ++ turns 1 0) (refused (refuse 11 4))
+    ∷ within (sizes 7 2624 4095) (nodes 1 ++ turns 1 0) (refused (refuse 12 4))
     -- with no turns the trace buffer may be empty
-    ∷ within (sizes 0 2624 16384) (nodes 1) (ends 0 0 noEntry [] idleNode)
+    ∷ within (sizes 0 2624 4096) (nodes 1) (ends 0 0 noEntry [] idleNode)
     ∷ []
 
 -- a variable of this scope and owner, with start 0

@@ -204,20 +204,25 @@ pub record Sizes : Type 0 where
 abbrev pub sizes : ℕ → ℕ → ℕ → Sizes
 sizes trace snapshot work = record { trace = trace; snapshot = snapshot; work = work }
 
--- the lengths that the snapshot buffer ("picture buffer") and the work buffer must have
+-- the lengths that the snapshot buffer ("picture buffer") and the work buffer must have; of the latter two bytes for each of 64 commands of
+-- 32 nodes (S-9)
 abbrev pub snapshotSize : ℕ
 snapshotSize = 2624
 
 abbrev pub workSize : ℕ
-workSize = 16384
+workSize = 4096
 
--- 10 to 12: the trace, snapshot or work buffer is too short; the place is the job's length
-abbrev pub shortBuffer : List ℕ → Sizes → List Command → Option Refusal
-shortBuffer job b past =
+-- 10 to 12: the trace, snapshot or work buffer is too short; the place is the job's length. The first number is what is asked of the work
+-- buffer
+abbrev pub shortBufferAsking : ℕ → List ℕ → Sizes → List Command → Option Refusal
+shortBufferAsking asked job b past =
     cond (ltb (b .trace) (7 * countOf TURN past)) (some (refuse 10 (length job)))
     (cond (ltb (b .snapshot) snapshotSize) (some (refuse 11 (length job)))
-    (cond (ltb (b .work) workSize) (some (refuse 12 (length job)))
+    (cond (ltb (b .work) asked) (some (refuse 12 (length job)))
     none))
+
+abbrev pub shortBuffer : List ℕ → Sizes → List Command → Option Refusal
+shortBuffer = shortBufferAsking workSize
 
 -- the commands of a job after the tests 1 to 12, with buffers of these lengths, or its refusal
 unfoldable pub decodeFor : List ℕ → Sizes → Decoded

@@ -43,7 +43,7 @@ sizesOf b = sizes (length (b .trace)) (length (b .snapshot)) (length (b .work))
 abbrev pub written : List ℕ → List ℕ → List ℕ
 written bytes buffer = bytes ++ drop (length bytes) buffer
 
--- the trace, snapshot and work buffers afterwards: a refusal changes none; a run leaves its trace, its snapshot, and 16,384 zero bytes
+-- the trace, snapshot and work buffers afterwards: a refusal changes none; a run leaves its trace, its snapshot, and 4,096 zero bytes
 abbrev pub traceAfter : Result → List ℕ → List ℕ
 traceAfter (refused r) buffer = buffer
 traceAfter (ran a trace snapshot) buffer = written trace buffer

@@ -1,0 +1,34 @@
+-- Request S-9: "Refusal 12 aside, all answers, traces and pictures are equal to those before." Only test 12 and the zeros afterwards name the
+-- length of the work buffer; what a run hands over does not depend on it.
+use Prim.Native.Nat.{ℕ, _≤_}
+use mathlib.Core.Path.{_≡_}
+use mathlib.Core.Logic.{_⊎_}
+use mathlib.Core.List.{List}
+use lib.ListN.{length}
+use Rattle.model.specs.Program.{Program}
+use Rattle.model.specs.Run.{Run, monitoredRun, unmonitoredRun}
+use Rattle.model.specs.Refusal.{refuse, decodeJob, andThen, Sizes, workSize, shortBufferAsking}
+use Rattle.model.specs.Result.{Result, refused, resultOf, monitored, unmonitored}
+
+-- the length that the work buffer had to have before the request
+abbrev pub formerWorkSize : ℕ
+formerWorkSize = 16384
+
+-- what was handed over for a job before the request, by the way its turns are run: test 12 asked for that length
+abbrev pub formerly : (Program → List ℕ → Run) → List ℕ → Sizes → Result
+formerly run job b = resultOf run (andThen (shortBufferAsking formerWorkSize job b) (decodeJob job))
+
+-- what is handed over now is what was handed over before
+pub record SameAsFormerly (run : Program → List ℕ → Run) (result : List ℕ → Sizes → Result) : Type 0 where
+  -- with work buffers that are long enough, before and now, whatever their lengths
+  pub longEnough :
+      (job : List ℕ) (b b′ : Sizes) → b .trace ≡ b′ .trace → b .snapshot ≡ b′ .snapshot → formerWorkSize ≤ b .work → workSize ≤ b′ .work
+      → formerly run job b ≡ result job b′
+  -- with the same buffers, refusal 12 aside
+  pub aside :
+      (job : List ℕ) (b : Sizes) → (formerly run job b ≡ refused (refuse 12 (length job))) ⊎ (formerly run job b ≡ result job b)
+
+-- the claim on the monitored ("watched") and on the unmonitored ("bare") run
+pub record LittleMemoryHolds : Type 0 where
+  pub ofMonitored : SameAsFormerly monitoredRun monitored
+  pub ofUnmonitored : SameAsFormerly unmonitoredRun unmonitored
