@@ -1,13 +1,15 @@
 -- What holds of every command byte, by one test of the table's rows.
-use Prim.Native.Nat.{ℕ, _/_, _<_}
-use mathlib.Core.Path.{_≡_, refl}
+use Prim.Native.Nat.{ℕ, zero, suc, _+_, _/_, _≤_, _<_}
+use mathlib.Core.Path.{_≡_, refl, sym, ap, _∙_}
 use mathlib.Core.Bool.{Bool, true, false, cond, not, _&&_, _||_}
 use mathlib.Core.List.{List, [], _∷_}
-use mathlib.Core.Option.{none, some}
-use lib.Dec.{ltb, eqb}
-use borrow.Author.Tests.{ltb-true, eqb-true}
-use Rattle.model.specs.Table.{Row, table, operandsIn, operandsOf}
-use Rattle.model.proofs.Logic.{and-left, and-right}
+use mathlib.Core.Option.{Option, none, some}
+use native.Mathlib.Omega.{arith}
+use lib.Dec.{leb, ltb, eqb}
+use borrow.Author.Tests.{ltb-true, leb-true, eqb-true, eqb-false}
+use Rattle.model.specs.Table.{SET, SKIP, OperandKind, Row, table, width, kindAt, operandsIn, operandsOf}
+use Rattle.model.proofs.Logic.{true-false, and-left, and-right}
+use Rattle.command.specs.Rows.{isHandlerByte}
 
 -- the test passes for the byte of every row
 abbrev pub everyRow : (ℕ → Bool) → List Row → Bool
@@ -37,3 +39,38 @@ byte-low b h = ltb-true b 128 (known-passes (λ d. ltb d 128) b refl h)
 pub permission-byte : (b : ℕ) → ¬ (operandsOf b ≡ none) → (not (eqb (b / 16) 3) ||
     (eqb b 0x30 || (eqb b 0x31 || (eqb b 0x32 || eqb b 0x33)))) ≡ true
 permission-byte b h = known-passes (λ d. not (eqb (d / 16) 3) || (eqb d 0x30 || (eqb d 0x31 || (eqb d 0x32 || eqb d 0x33)))) b refl h
+
+-- the test passes for each of n bytes from k on
+abbrev everyFrom : (ℕ → Bool) → ℕ → ℕ → Bool
+everyFrom test k zero = true
+everyFrom test k (suc n) = test k && everyFrom test (suc k) n
+
+from-passes : (test : ℕ → Bool) (k n b : ℕ) → everyFrom test k n ≡ true → k ≤ b → b < k + n → test b ≡ true
+from-passes test k zero b e l h = absurd (omega arith)
+from-passes test k (suc n) b e l h = by-first (eqb b k) refl (from-passes test (suc k) n b (and-right (test k) _ e))
+  where
+    by-first : (t : Bool) → eqb b k ≡ t → (suc k ≤ b → b < suc k + n → test b ≡ true) → test b ≡ true
+    by-first true t ih = rw (eqb-true b k t) (and-left (test k) _ e)
+    by-first false t ih = let q = eqb-false b k t in ih (omega arith) (omega arith)
+
+-- a handler command byte is in the table, and has one operand at most
+abbrev is-known : Option (List OperandKind) → Bool
+is-known none = false
+is-known (some kinds) = true
+
+abbrev single : ℕ → Bool
+single b = is-known (operandsOf b) && eqb (width (kindAt b 1) + width (kindAt b 2)) 0
+
+pub record OneOperand (b : ℕ) : Type 0 where
+  pub known : ¬ (operandsOf b ≡ none)
+  pub others : width (kindAt b 1) + width (kindAt b 2) ≡ 0
+
+pub handler-single : (b : ℕ) → isHandlerByte b ≡ true → OneOperand b
+unfolding operandsOf operandsIn
+handler-single b h =
+    let e = from-passes single SET 11 b refl (leb-true SET b (and-left (leb SET b) _ h))
+    (omega (arith, leb-true b SKIP (and-right (leb SET b) _ h))) in
+    record {
+      known = λ n. let q = ap is-known (sym n) ∙ and-left (is-known (operandsOf b)) _ e in true-false (sym q);
+      others = eqb-true _ 0 (and-right (is-known (operandsOf b)) _ e);
+    }

@@ -4,3 +4,4 @@ pub mod Known
 pub mod Handled
 pub mod Keys
 pub mod Fetching
+pub mod Instructed

@@ -1,49 +1,17 @@
--- Rows that agree with the table of the model say what it says. That those of the code agree is computed in the proof of `look_up`.
+-- Rows that agree with the table of the model say what it says. That those of the code agree is computed where they are searched.
 use Prim.Native.Nat.{ℕ, zero, suc, _+_, _<_}
 use mathlib.Core.Path.{_≡_, refl, sym, ap, _∙_}
 use mathlib.Core.List.{List, [], _∷_, map}
 use mathlib.Core.Logic.{inl, inr}
-use mathlib.Core.Option.{Option, some}
+use mathlib.Core.Option.{none, some}
 use native.Mathlib.Omega.{arith}
 use lib.ListN.{length, getD, drop, List·getD-map}
 use Rattle.model.specs.Table.{OperandKind, scope, owner, start, answer, node, port, target, function, value, variable, jump, absent, width}
-use Rattle.model.specs.Table.{Row, row, table, operandsIn, operandsOf, listOf, kindAt, groupOf, Limit, largestOf}
+use Rattle.model.specs.Table.{Row, row, table, operandsIn, operandsOf, kindAt}
 use Rattle.model.specs.Command.{numberAt}
 use Rattle.model.proofs.Reading.{rowAt, search-miss, number-none}
-use Rattle.command.specs.Rows.{unpacked, kindOf, limitOf, Says}
+use Rattle.command.specs.Rows.{unpacked, Says, Said, given, wanted, Agree, IsRow}
 use Rattle.command.specs.Reading.{IsWidth}
-
--- what a row says: byte, group and widths; kinds; largest count; that its byte is a command
-pub record Said : Type 0 where
-  pub numbers : List ℕ
-  pub kinds : List OperandKind
-  pub most : Option Limit
-  pub operands : Option (List OperandKind)
-
--- a packed row says this
-abbrev pub given : ℕ → Said
-given p =
-    let s = unpacked p in
-    record {
-      numbers = s .byte ∷ s .group ∷ s .«first_width» ∷ s .«second_width» ∷ s .«third_width» ∷ [];
-      kinds = kindOf (s .«first_kind») ∷ kindOf (s .«second_kind») ∷ kindOf (s .«third_kind») ∷ [];
-      most = limitOf (s .byte) (s .most);
-      operands = some (listOf (operandsOf (s .byte)));
-    }
-
--- the model says this of a byte
-abbrev pub wanted : ℕ → Said
-wanted b =
-    record {
-      numbers = b ∷ groupOf b ∷ width (kindAt b 0) ∷ width (kindAt b 1) ∷ width (kindAt b 2) ∷ [];
-      kinds = kindAt b 0 ∷ kindAt b 1 ∷ kindAt b 2 ∷ [];
-      most = largestOf b;
-      operands = operandsOf b;
-    }
-
--- the packed rows say what the model says of the bytes of its rows
-pub record Agree (rows : List ℕ) : Type 0 where
-  pub same : map given rows ≡ map (λ (r : Row). wanted (r .byte)) table
 
 says-as : (b p : ℕ) → given p ≡ wanted b → Says b (unpacked p)
 says-as b p e =
@@ -87,6 +55,18 @@ module _ {rows : List ℕ} (agree : Agree rows) (i : ℕ) (h : i < length table)
   pub row-passed : (b : ℕ) → operandsOf b ≡ operandsIn (drop i table) b → ¬ (unpacked (getD rows i 0) .byte ≡ b)
       → operandsOf b ≡ operandsIn (drop (i + 1) table) b
   row-passed b e n = search-miss b i e h (λ q. n (same-byte ∙ q))
+
+-- a row that is not 0 is that of its byte, and 0 stands for no command
+pub row-there : (b p : ℕ) → IsRow b p → ¬ (p ≡ 0) → Says b (unpacked p)
+row-there b p (inl s) n = s
+row-there b p (inr z) n = absurd (n (z .1))
+
+pub row-none : (b p : ℕ) → IsRow b p → p ≡ 0 → operandsOf b ≡ none
+unfolding operandsOf operandsIn
+row-none b p (inr z) e = z .0
+row-none b p (inl s) e =
+    let zero-byte : 0 ≡ b = rw e at (s .byte) in
+    rw (← zero-byte)
 
 -- the width of each kind
 pub width-is : (k : OperandKind) (w : ℕ) → w ≡ width k → IsWidth w

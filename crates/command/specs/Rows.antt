@@ -2,12 +2,13 @@
 use Prim.Native.Nat.{ℕ, zero, suc, _/_, _%_}
 use mathlib.Core.Path.{_≡_}
 use mathlib.Core.Bool.{Bool, _&&_}
-use mathlib.Core.List.{[], _∷_}
+use mathlib.Core.List.{List, [], _∷_, map}
+use mathlib.Core.Logic.{_⊎_}
 use mathlib.Core.Option.{Option, none, some}
 use lib.Dec.{leb}
 use lib.ListN.{getD}
 use Rattle.model.specs.Table.{SET, SKIP, OperandKind, scope, owner, start, answer, node, port, target, function, value, variable, jump}
-use Rattle.model.specs.Table.{absent, width, operandsOf, listOf, kindAt, groupOf, Limit, limit, largestOf}
+use Rattle.model.specs.Table.{absent, width, Row, table, operandsOf, listOf, kindAt, groupOf, Limit, limit, largestOf}
 use Rattle.command.specs.declared.table.Row.{Row as Shape}
 use Rattle.command.specs.declared.table.Lookup.{Lookup}
 use Rattle.command.specs.declared.table.Lookup.the-variants.{Found, Missing}
@@ -48,6 +49,42 @@ pub record Says (b : ℕ) (s : Shape) : Type 0 where
   pub kind₂ : kindOf (s .«second_kind») ≡ kindAt b 1
   pub kind₃ : kindOf (s .«third_kind») ≡ kindAt b 2
   pub most : limitOf b (s .most) ≡ largestOf b
+
+-- what a row says, all columns together: byte, group and widths; kinds; largest count; that its byte is a command
+pub record Said : Type 0 where
+  pub numbers : List ℕ
+  pub kinds : List OperandKind
+  pub most : Option Limit
+  pub operands : Option (List OperandKind)
+
+-- a packed row says this
+abbrev pub given : ℕ → Said
+given p =
+    let s = unpacked p in
+    record {
+      numbers = s .byte ∷ s .group ∷ s .«first_width» ∷ s .«second_width» ∷ s .«third_width» ∷ [];
+      kinds = kindOf (s .«first_kind») ∷ kindOf (s .«second_kind») ∷ kindOf (s .«third_kind») ∷ [];
+      most = limitOf (s .byte) (s .most);
+      operands = some (listOf (operandsOf (s .byte)));
+    }
+
+-- the model says this of a byte
+abbrev pub wanted : ℕ → Said
+wanted b =
+    record {
+      numbers = b ∷ groupOf b ∷ width (kindAt b 0) ∷ width (kindAt b 1) ∷ width (kindAt b 2) ∷ [];
+      kinds = kindAt b 0 ∷ kindAt b 1 ∷ kindAt b 2 ∷ [];
+      most = largestOf b;
+      operands = operandsOf b;
+    }
+
+-- the packed rows say what the model says of the bytes of its rows
+pub record Agree (rows : List ℕ) : Type 0 where
+  pub same : map given rows ≡ map (λ (r : Row). wanted (r .byte)) table
+
+-- the packed row of a byte; 0 if the byte is no command
+abbrev pub IsRow : ℕ → ℕ → Type 0
+IsRow b p = Says b (unpacked p) ⊎ ((operandsOf b ≡ none) × (p ≡ 0))
 
 -- what looking a byte up finds: its row, or that the byte is no command
 abbrev pub Finds : ℕ → Lookup → Type 0

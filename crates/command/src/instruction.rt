@@ -1,9 +1,13 @@
 // The commands of a handler, each with its operand.
 ghost use mathlib.Core.Path.{_≡_};
-ghost use Rattle.command.specs.Instructions.{instructionOf, recognised};
+ghost use Rattle.model.specs.Command.{readCommand};
+ghost use Rattle.command.specs.Instructions.{instructionOf, recognised, instructionIn};
 use crate::bytes;
 use crate::numbers::FunNum;
 use crate::numbers::VarNum;
+use crate::read::operand;
+use crate::table::row_of;
+use crate::table::unpack;
 
 pub enum Instruction {
     Set(u32),
@@ -42,4 +46,24 @@ pub fn instruction_of(byte: u8, x: u32) -> Instruction
         bytes::CALL => Instruction::Call(FunNum(x)),
         _ => Instruction::Skip,
     }
+}
+
+// The handler command at a place of a job, by the row of its byte; SKIP where none is read. It has one operand at most.
+pub fn read_instruction(job: &[u8], at: usize) -> Instruction
+    ensures { λ r. ⌜ instructionOf r ≡ instructionIn (readCommand (now (job .entry)) at) ⌝ }
+{
+    if job.len() <= at {
+        return Instruction::Skip;
+    }
+    let byte = job[at];
+    if !bytes::is_handler(byte) {
+        return Instruction::Skip;
+    }
+    let shape = unpack(row_of(byte));
+    let width = shape.first_width;
+    if job.len() < at + 1 + (width as usize) {
+        return Instruction::Skip;
+    }
+    let x = operand(job, at + 1, width);
+    instruction_of(byte, x)
 }

@@ -1,6 +1,6 @@
 // The command table: each command byte with its group, the widths and kinds of its operands, and its largest count.
 ghost use mathlib.Core.Path.{_≡_};
-ghost use Rattle.command.specs.Rows.{unpacked, Finds};
+ghost use Rattle.command.specs.Rows.{unpacked, Agree, IsRow, Finds};
 
 // What an operand is, by the name in its column of the paper's table; NO_OPERAND where the command has none.
 pub const NO_OPERAND: u8 = 0;
@@ -88,24 +88,45 @@ pub fn unpack(row: u64) -> Row
     }
 }
 
+// The row of a byte among those of the table; 0 if it is no command.
+fn row_in(rows: &[u64; ROW_COUNT], byte: u8) -> u64
+    requires { ⌜ Agree (now rows) ⌝ }
+    ensures { λ r. ⌜ IsRow byte r ⌝ }
+{
+    let mut i = 0;
+    while i < ROW_COUNT {
+        let row = rows[i];
+        if (row % 0x100) as u8 == byte {
+            return row;
+        }
+        i += 1;
+    }
+    0
+}
+
+// The row of a command byte; 0 for a byte that is no command.
+pub fn row_of(byte: u8) -> u64
+    ensures { λ r. ⌜ IsRow byte r ⌝ }
+{
+    let rows = ROWS;
+    row_in(&rows, byte)
+}
+
 // What looking a byte up finds: its packed row, or that it is no command.
 pub enum Lookup {
     Found(u64),
     Missing,
 }
 
-// The row of a command byte.
+// The row of a command byte, for a reader that takes the answer apart. It searches the rows itself: a function that has them is compiled
+// into one caller only.
 pub fn look_up(byte: u8) -> Lookup
     ensures { λ r. ⌜ Finds byte r ⌝ }
 {
     let rows = ROWS;
-    let mut i = 0;
-    while i < ROW_COUNT {
-        let row = rows[i];
-        if (row % 0x100) as u8 == byte {
-            return Lookup::Found(row);
-        }
-        i += 1;
+    let row = row_in(&rows, byte);
+    if row == 0 {
+        return Lookup::Missing;
     }
-    Lookup::Missing
+    Lookup::Found(row)
 }

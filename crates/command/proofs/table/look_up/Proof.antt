@@ -1,67 +1,20 @@
 -- `command::table::look_up` meets its contract.
-use Prim.Native.Nat.{_≤_, _-_}
-use mathlib.Core.Path.{_≡_, refl}
-use native.Mathlib.Omega.{arith}
-use lib.ListN.{length, drop}
-use borrow.Author.Needs.{needs}
-use Rattle.model.specs.Table.{table, operandsIn, operandsOf, isAmong, largestIn, largestOf}
-use Rattle.model.proofs.Reading.{search-start, search-end}
-use Rattle.command.proofs.Shaped.{Agree, row-found, row-passed}
+use mathlib.Core.Path.{refl}
+use Rattle.model.specs.Table.{operandsIn, operandsOf, isAmong, largestIn, largestOf}
+use Rattle.command.proofs.Shaped.{row-there, row-none}
 use Rattle.command.proofs.table.look_up.Statement.{statement}
 use Rattle.command.proofs.table.look_up.Tie as tie
 
-abbrev Inv-loop : tie.InvT-loop
-Inv-loop byte rows i₀ i = (i ≤ length table) × Agree rows × (operandsOf byte ≡ operandsIn (drop i table) byte)
-
-abbrev μ-loop : tie.MeasureT-loop
-μ-loop byte rows i₀ i = length table - i
-
 -- the code's rows and the model's agree: computed
-loop-holds : tie.Need-loop-holds Inv-loop μ-loop
+row-in-requires : tie.Need-row-in-requires
 unfolding operandsOf operandsIn isAmong largestIn largestOf
-loop-holds c = (omega arith, record { same = refl }, search-start (c .args .byte))
+row-in-requires c κs = record { same = refl }
 
-mul-row : tie.Need-mul-row Inv-loop μ-loop
-mul-row c = search needs
+returns : tie.Need-returns
+returns c = row-none _ _ (c .before .row-in .ensures) (c .if1 .taken)
 
-array-read-row : tie.Need-array-read-row Inv-loop μ-loop
-array-read-row c = search needs
-
-cast-if1 : tie.Need-cast-if1 Inv-loop μ-loop
-cast-if1 c = search needs
-
-returns : tie.Need-returns Inv-loop μ-loop
-returns c = row-found (c .before .before .loop .inv .1) _ (c .before .loop-test .taken) _ (c .if1 .taken)
-
-add-i : tie.Need-add-i Inv-loop μ-loop
-add-i c = omega arith
-
-loop-less : tie.Need-loop-less Inv-loop μ-loop
-loop-less c = omega arith
-
-loop-again : tie.Need-loop-again Inv-loop μ-loop
-loop-again c =
-    let kept = c .before .before .loop .inv in (
-      omega arith,
-      kept .1,
-      row-passed (kept .1) _ (c .before .loop-test .taken) _ (kept .2) (c .if1 .left),
-    )
-
-returns-2 : tie.Need-returns-2 Inv-loop μ-loop
-returns-2 c = search-end _ _ (c .before .loop .inv .2) (c .loop-test .left)
+returns-2 : tie.Need-returns-2
+returns-2 c = row-there _ _ (c .before .row-in .ensures) (c .if1 .left)
 
 pub look-up-spec : {M : Type 1} → statement M
-look-up-spec =
-    tie.close
-    (tie.spec
-    Inv-loop
-    μ-loop
-    loop-holds
-    mul-row
-    array-read-row
-    cast-if1
-    returns
-    add-i
-    loop-less
-    loop-again
-    returns-2)
+look-up-spec = tie.close (tie.spec row-in-requires returns returns-2)
