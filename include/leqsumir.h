@@ -17,7 +17,20 @@ extern "C" {
 #define LEQSUMIR_ENTRY_BYTES 7       /* an entry: node 1 byte, kind 1, number 1, value 4, lowest first */
 #define LEQSUMIR_TRACE_BYTES 28672   /* 4,096 turns of 7 bytes */
 #define LEQSUMIR_SNAPSHOT_BYTES 2624 /* asked of every job; the snapshot is 01's "end picture" */
-#define LEQSUMIR_WORK_BYTES 16384    /* asked of every job */
+#define LEQSUMIR_WORK_BYTES 4096     /* asked of every job: 2 bytes for each of 64 handler commands of 32 nodes */
+
+/* What a caller must have:
+ *
+ *   job       the job's bytes, at most 16,384; the turns read the handler commands there, so nothing may write them during the call
+ *   trace     7 bytes for each TURN of the job, at most 28,672
+ *   snapshot  2,624 bytes
+ *   work      4,096 bytes
+ *   answer    64 bytes
+ *   stack     a call takes less than 20,000 bytes of stack; XX,XXX were measured, on x86-64. The tables of the decoded job and the
+ *             state of the run lie there, in no other memory.
+ *   code      XX,XXX bytes with constants, on x86-64, and memcpy and memset of the C library; no variables of its own
+ *
+ * A call takes no heap. */
 
 /* The numbers of the answer. All eight are always written. */
 enum {
@@ -46,14 +59,14 @@ enum {
  *   trace, trace_len        gets 7 bytes for each completed turn
  *   snapshot, snapshot_len  gets the state that the run left: each node in order with position (1 byte, 255 idle), accumulator (4),
  *                           message (4), waiting count (1), waiting messages, oldest first (4 each); then each variable (4)
- *   work, work_len          room for the handlers; after a run its first 16,384 bytes are 0
+ *   work, work_len          during the run, for each handler command, its place in the job; after a run its first 4,096 bytes are 0
  *   answer                  gets the eight numbers: for a refusal the last six are 0, for a run the first two
  *
  * Any bytes and any lengths are allowed, 0 included, and the buffers may hold anything before. A short buffer is a refusal (10 trace,
  * 11 snapshot, 12 work). A refusal changes none of the three buffers. Bytes beyond those named stay unchanged.
  *
  * Of the caller: each pointer is to memory of its length, none is NULL (with length 0 it may point anywhere else), and the five do not
- * overlap. No pointer is kept. A call takes less than 20 KB of stack, and no heap. */
+ * overlap. No pointer is kept. */
 void leqsumir_run_monitored(const uint8_t *job, size_t job_len, uint8_t *trace, size_t trace_len, uint8_t *snapshot,
                             size_t snapshot_len, uint8_t *work, size_t work_len, uint64_t answer[8]);
 

@@ -1,18 +1,28 @@
-//! Whether both implementations make the same of each case.
+//! Whether both implementations make the same of each job.
 
 use flow_reference::outcome::stop;
 use flow_reference::table::MAX_TURNS;
 use flow_reference::Mode;
 
+use crate::groups;
 use crate::runs::{self, Bench, Case, Engine};
 
 /// What the buffers hold before.
 const BYTE: u8 = 0xA5;
 
-/// Compares answers and whole buffers of every case in both modes; the error says what is wrong.
+/// Compares answers and whole buffers of every job in both modes, then the answers to the cases with those
+/// that are meant; the error says what is wrong.
 pub fn compare() -> Result<(), String> {
+    for group in groups::all().map_err(|error| format!("the examples: {error}"))? {
+        for (mode, job) in group.runs() {
+            agree(mode, job).map_err(|what| format!("{}, {mode:?}: {what}", group.name))?;
+        }
+    }
     for (mode, case) in runs::all() {
-        agree(mode, case).map_err(|what| format!("{mode:?} {case:?}: {what}"))?;
+        let answer = Bench::new(Engine::Reference, mode, case, BYTE).run();
+        if answer != expected(case) {
+            return Err(format!("{mode:?} {case:?}: the answer is {answer:?}"));
+        }
     }
     Ok(())
 }
@@ -27,11 +37,12 @@ fn expected(case: Case) -> [u64; 8] {
     [0, 0, stop.into(), turns as u64, node, 0, 0, 0]
 }
 
-fn agree(mode: Mode, case: Case) -> Result<(), String> {
+/// Both accept the job and hand over the same.
+fn agree(mode: Mode, job: &[u8]) -> Result<(), String> {
     let [mut proved, mut reference] =
-        [Engine::Proved, Engine::Reference].map(|engine| Bench::new(engine, mode, case, BYTE));
+        [Engine::Proved, Engine::Reference].map(|engine| Bench::of(engine, mode, job.to_vec(), BYTE));
     let answers = [proved.run(), reference.run()];
-    if answers != [expected(case); 2] {
+    if answers[0] != answers[1] || answers[0][0] != 0 {
         return Err(format!("the answers are {answers:?}"));
     }
     if proved.buffers != reference.buffers {

@@ -1,10 +1,12 @@
-//! Whole runs of two jobs, by the proved run and by the second implementation.
+//! Whole runs of some jobs, by the proved run and by the second implementation.
 
 pub mod arguments;
 pub mod buffers;
 pub mod compare;
+pub mod groups;
 pub mod job;
 pub mod large;
+pub mod largest;
 pub mod proved;
 pub mod reference;
 pub mod runs;

@@ -4,6 +4,7 @@
 use std::process::ExitCode;
 
 use flow_bench::compare::compare;
+use flow_bench::groups::{self, Group};
 use flow_bench::runs::Engine;
 use flow_bench::script::Script;
 use flow_bench::{arguments, stack};
@@ -36,10 +37,24 @@ fn print_mix() {
     println!();
 }
 
-/// Bytes of stack that a whole run takes, the most of all jobs.
-fn print_stack() {
-    let [proved, reference] = [Engine::Proved, Engine::Reference].map(stack::most);
+/// Bytes of stack that a run by an engine takes: the most of all jobs, and of each group.
+fn stack_of(engine: Engine, groups: &[Group]) -> String {
+    let bytes: Vec<usize> = groups.iter().map(|group| stack::most(engine, group)).collect();
+    let each = groups.iter().zip(&bytes).map(|(group, bytes)| format!("{} {bytes}", group.name));
+    format!("{} ({})", bytes.iter().max().unwrap_or(&0), each.collect::<Vec<_>>().join(", "))
+}
+
+fn print_stack() -> ExitCode {
+    let groups = match groups::all() {
+        Ok(groups) => groups,
+        Err(error) => {
+            eprintln!("bench: the examples: {error}");
+            return ExitCode::FAILURE;
+        }
+    };
+    let [proved, reference] = [Engine::Proved, Engine::Reference].map(|engine| stack_of(engine, &groups));
     println!("bytes of stack: proved {proved}, reference {reference}");
+    ExitCode::SUCCESS
 }
 
 fn print_comparison() -> ExitCode {
@@ -60,7 +75,7 @@ fn execute(words: &[&str]) -> Option<ExitCode> {
     match words {
         ["compare"] => return Some(print_comparison()),
         ["mix"] => print_mix(),
-        ["stack"] => print_stack(),
+        ["stack"] => return Some(print_stack()),
         ["time", words @ ..] => print_time(words)?,
         _ => print_turns(words)?,
     }

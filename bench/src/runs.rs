@@ -29,11 +29,28 @@ pub enum Case {
     Large,
 }
 
+pub const CASES: [Case; 4] = [Case::Turns, Case::Stopped, Case::None, Case::Large];
+pub const MODES: [Mode; 2] = [Mode::Monitored, Mode::Unmonitored];
+
 /// Every case, monitored and bare.
 pub fn all() -> impl Iterator<Item = (Mode, Case)> {
-    let cases = [Case::Turns, Case::Stopped, Case::None, Case::Large];
-    let modes = [Mode::Monitored, Mode::Unmonitored];
-    modes.into_iter().flat_map(move |mode| cases.map(|case| (mode, case)))
+    MODES.into_iter().flat_map(|mode| CASES.map(|case| (mode, case)))
+}
+
+impl Case {
+    /// The job's bytes.
+    pub fn job(self) -> Vec<u8> {
+        let mut job = match self {
+            Case::None => job::without_turns(),
+            Case::Large => large::job(),
+            Case::Turns | Case::Stopped => Script::new().job,
+        };
+        if self == Case::Stopped {
+            // Node 1 has no message at the start.
+            job[job::without_turns().len() + 1] = 1;
+        }
+        job
+    }
 }
 
 /// A page of memory.
@@ -62,15 +79,11 @@ pub struct Bench {
 impl Bench {
     /// The buffers hold this byte everywhere before the first run.
     pub fn new(engine: Engine, mode: Mode, case: Case, byte: u8) -> Bench {
-        let mut job = match case {
-            Case::None => job::without_turns(),
-            Case::Large => large::job(),
-            Case::Turns | Case::Stopped => Script::new().job,
-        };
-        if case == Case::Stopped {
-            // Node 1 has no message at the start.
-            job[job::without_turns().len() + 1] = 1;
-        }
+        Bench::of(engine, mode, case.job(), byte)
+    }
+
+    /// The same for any job.
+    pub fn of(engine: Engine, mode: Mode, job: Vec<u8>, byte: u8) -> Bench {
         Bench { engine, mode, job, buffers: Buffers::filled(byte) }
     }
 

@@ -1,4 +1,5 @@
-//! The script: the job with the longest schedule that a job can have, every turn of which completes.
+//! The script: the job with the longest schedule that a job can have, every turn of which completes; and
+//! such schedules of other jobs.
 
 use flow_reference::engine::turn;
 use flow_reference::outcome::Entry;
@@ -17,14 +18,7 @@ impl Script {
     /// Finds the schedule by running the job, monitored.
     pub fn new() -> Script {
         let program = decode(&job::without_turns()).expect("a valid job");
-        let mut state = State::new(&program);
-        let mut last = program.nodes.len() as u8 - 1;
-        let mut entries = Vec::with_capacity(MAX_TURNS);
-        while entries.len() < MAX_TURNS {
-            let entry = next(&program, &mut state, last).expect("some node's turn completes");
-            last = entry.node;
-            entries.push(entry);
-        }
+        let entries = schedule(&program, MAX_TURNS, Mode::Monitored);
         let nodes: Vec<u8> = entries.iter().map(|entry| entry.node).collect();
         Script { job: job::with_turns(&nodes), entries }
     }
@@ -45,9 +39,23 @@ impl Default for Script {
     }
 }
 
+/// The entries of so many turns, each of which completes: the nodes have them in turn, from node 0 on.
+pub fn schedule(program: &Program, turns: usize, mode: Mode) -> Vec<Entry> {
+    let mut state = State::new(program);
+    let mut last = program.nodes.len() as u8 - 1;
+    let mut entries = Vec::with_capacity(turns);
+    while entries.len() < turns {
+        let entry = next(program, &mut state, last, mode).expect("some node's turn completes");
+        last = entry.node;
+        entries.push(entry);
+    }
+    entries
+}
+
 /// Gives a turn to the next node after `last` whose turn completes: it is at work or a message waits,
-/// and no target of a send is full. A stopped turn changes nothing.
-fn next(program: &Program, state: &mut State, last: u8) -> Option<Entry> {
+/// no target of a send is full, and if the run is monitored, the access is permitted. A stopped turn
+/// changes nothing.
+fn next(program: &Program, state: &mut State, last: u8, mode: Mode) -> Option<Entry> {
     let nodes = program.nodes.len() as u8;
-    (1..=nodes).find_map(|step| turn(program, state, (last + step) % nodes, Mode::Monitored).ok())
+    (1..=nodes).find_map(|step| turn(program, state, (last + step) % nodes, mode).ok())
 }

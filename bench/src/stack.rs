@@ -7,19 +7,20 @@
 use std::arch::asm;
 use std::hint::black_box;
 
-use crate::runs::{self, Bench, Engine};
+use crate::groups::Group;
+use crate::runs::{Bench, Engine};
 
 /// Far more than a run takes.
 const BYTES: usize = 1 << 20;
 
-/// The bytes that a whole run takes, the most of all jobs, monitored and bare. Each is run on two paints,
-/// as a byte that it writes may be that of one paint.
-pub fn most(engine: Engine) -> usize {
-    let deepest = |(mode, case)| {
-        let mut bench = Bench::new(engine, mode, case, 0);
+/// The bytes that a whole run takes, the most of a group's jobs, monitored and bare. Each is run on two
+/// paints, as a byte that it writes may be that of one paint.
+pub fn most(engine: Engine, group: &Group) -> usize {
+    let deepest = |(mode, job): (_, &Vec<u8>)| {
+        let mut bench = Bench::of(engine, mode, job.clone(), 0);
         painted(&mut bench, 0x5A).max(painted(&mut bench, 0xA5))
     };
-    runs::all().map(deepest).max().unwrap_or_default()
+    group.runs().map(deepest).max().unwrap_or_default()
 }
 
 /// The bytes that a run changes on a stack with this paint, from its top to the lowest.

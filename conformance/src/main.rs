@@ -3,6 +3,7 @@
 mod compare;
 mod draw;
 mod guarded;
+mod late;
 mod library;
 mod reference;
 mod tally;

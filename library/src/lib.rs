@@ -15,8 +15,8 @@ pub const TRACE_BYTES: usize = 28_672;
 /// Asked of every job. The snapshot is 01's "end picture".
 pub const SNAPSHOT_BYTES: usize = 2_624;
 
-/// Asked of every job.
-pub const WORK_BYTES: usize = 16_384;
+/// Asked of every job: two bytes for each of 64 handler commands of 32 nodes.
+pub const WORK_BYTES: usize = 4_096;
 
 /// Job, trace, snapshot and work, each as pointer and length, and the eight numbers of the answer.
 type Run = unsafe extern "C" fn(*const u8, usize, *mut u8, usize, *mut u8, usize, *mut u8, usize, *mut u64);

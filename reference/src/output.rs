@@ -8,8 +8,8 @@ use crate::state::State;
 pub const ENTRY_BYTES: usize = 7;
 /// The longest snapshot: 32 nodes with full queues and 64 variables.
 pub const SNAPSHOT_BYTES: usize = 2_624;
-/// What a run asks of the work buffer.
-pub const WORK_BYTES: usize = 16_384;
+/// What a run asks of the work buffer, and clears: two bytes for each of 64 commands of 32 nodes.
+pub const WORK_BYTES: usize = 4_096;
 
 pub fn entry_bytes(entry: &Entry) -> [u8; ENTRY_BYTES] {
     let [a, b, c, d] = entry.value.to_le_bytes();

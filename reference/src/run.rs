@@ -65,7 +65,7 @@ fn short_buffer(turns: usize, trace: usize, snapshot: usize, work: usize) -> Opt
 }
 
 /// Runs a job. A refusal changes none of the buffers. After an accepted run the trace holds 7 bytes
-/// a completed turn, the snapshot its real length, and the first 16,384 bytes of `work` are 0; every
+/// a completed turn, the snapshot its real length, and the first 4,096 bytes of `work` are 0; every
 /// byte beyond is unchanged.
 pub fn run(job: &[u8], mode: Mode, trace: &mut [u8], snapshot: &mut [u8], work: &mut [u8]) -> Outcome {
     let program = match decode(job) {

@@ -2,13 +2,15 @@
 
 mod common;
 
-use common::{bytes, k1, run_dirty, Ran, MODES};
+use std::collections::BTreeSet;
+
+use common::{bytes, job, k1, run_dirty, Ran, MODES};
 use flow_reference::generate::{case, Kind};
 use flow_reference::output::snapshot_length;
 use flow_reference::{decode, Mode, Outcome, Refusal};
 
 /// K1 has 9 turns and 65 bytes.
-const EXACT: [usize; 3] = [63, 2_624, 16_384];
+const EXACT: [usize; 3] = [63, 2_624, 4_096];
 
 fn refusal(job: &[u8], lengths: [usize; 3]) -> Option<(u8, usize)> {
     match run_dirty(job, Mode::Monitored, lengths, 0).outcome {
@@ -22,24 +24,24 @@ fn short_exact_and_longer() {
     let job = k1();
     assert_eq!(refusal(&job, EXACT), None);
     assert_eq!(refusal(&job, EXACT.map(|length| length + 1)), None);
-    assert_eq!(refusal(&job, [62, 2_624, 16_384]), Some((10, 65)));
-    assert_eq!(refusal(&job, [63, 2_623, 16_384]), Some((11, 65)));
-    assert_eq!(refusal(&job, [63, 2_624, 16_383]), Some((12, 65)));
+    assert_eq!(refusal(&job, [62, 2_624, 4_096]), Some((10, 65)));
+    assert_eq!(refusal(&job, [63, 2_623, 4_096]), Some((11, 65)));
+    assert_eq!(refusal(&job, [63, 2_624, 4_095]), Some((12, 65)));
 }
 
 #[test]
 fn refusals_by_number() {
     let job = k1();
-    assert_eq!(refusal(&job, [62, 2_623, 16_383]), Some((10, 65)));
+    assert_eq!(refusal(&job, [62, 2_623, 4_095]), Some((10, 65)));
     assert_eq!(refusal(&job, [0, 0, 0]), Some((10, 65)));
     assert_eq!(refusal(&job, [63, 0, 0]), Some((11, 65)));
     // The job's own refusals come first.
     assert_eq!(refusal(&bytes("02"), [0, 0, 0]), Some((6, 0)));
     assert_eq!(refusal(&bytes("01 02 40 00 48 02"), [0, 0, 0]), Some((9, 4)));
     // No turns, no trace; the other two are always asked for in full.
-    assert_eq!(refusal(&bytes("01"), [0, 2_624, 16_384]), None);
-    assert_eq!(refusal(&bytes("01"), [0, 2_623, 16_384]), Some((11, 1)));
-    assert_eq!(refusal(&bytes("01"), [0, 2_624, 16_383]), Some((12, 1)));
+    assert_eq!(refusal(&bytes("01"), [0, 2_624, 4_096]), None);
+    assert_eq!(refusal(&bytes("01"), [0, 2_623, 4_096]), Some((11, 1)));
+    assert_eq!(refusal(&bytes("01"), [0, 2_624, 4_095]), Some((12, 1)));
 }
 
 #[test]
@@ -70,7 +72,7 @@ fn longest_snapshot() {
     }
     (0..8).for_each(|flow| job.extend([0x50, flow * 4, 1, 0, 0, 0]));
     (0..8).for_each(|flow| job.extend([0x60, flow * 4].repeat(17)));
-    let ran = run_dirty(&job, Mode::Monitored, [7 * 8 * 17, 2_624, 16_384], 0x77);
+    let ran = run_dirty(&job, Mode::Monitored, [7 * 8 * 17, 2_624, 4_096], 0x77);
     let Outcome::Ran(answer) = ran.outcome else { panic!("refused") };
     assert_eq!((answer.stop, answer.turns), (0, 8 * 17));
     assert_eq!(snapshot_length(&decode(&job).unwrap(), &ran.snapshot), 2_624);
@@ -94,9 +96,48 @@ fn check_bytes<'a>(job: &[u8], ran: &'a Ran, dirt: u8) -> Option<(&'a [u8], &'a 
     let snapshot = snapshot_length(&decode(job).unwrap(), &ran.snapshot);
     assert!(unchanged(&ran.trace, trace, dirt));
     assert!(unchanged(&ran.snapshot, snapshot, dirt));
-    assert_eq!(ran.work[..16_384], [0; 16_384]);
-    assert!(unchanged(&ran.work, 16_384, dirt));
+    assert_eq!(ran.work[..4_096], [0; 4_096]);
+    assert!(unchanged(&ran.work, 4_096, dirt));
     Some((&ran.trace[..trace], &ran.snapshot[..snapshot]))
+}
+
+/// Lengths of work buffers, exact and longer.
+const LONG_WORK: [usize; 6] = [4_096, 4_097, 8_192, 16_383, 16_384, 16_385];
+
+/// Jobs whose runs end with stop 0, 1 (monitored), 2 and 3: K1, K2, K5 and K7; and one without turns.
+fn ending_with_each_stop() -> [Vec<u8>; 5] {
+    let [mut k2, mut k5] = [k1(), k1()];
+    k2[43] = 3; // the START value
+    k5[48] = 1; // the first turn's node
+    let k7 = job(&[("01 02 20 00 00 00 40 00 49 00 48 00 50 00 01 00 00 00", 1), ("60 00", 34)]);
+    [k1(), k2, k5, k7, bytes("01")]
+}
+
+/// Of a longer work buffer, exactly the first 4,096 bytes are cleared, with every stop.
+#[test]
+fn longer_work_buffers() {
+    let mut stops = BTreeSet::new();
+    for (job, mode) in ending_with_each_stop().iter().flat_map(|job| MODES.map(|mode| (job, mode))) {
+        for (work, dirt) in LONG_WORK.into_iter().flat_map(|work| [0x5A, 0xC3].map(|dirt| (work, dirt))) {
+            let ran = run_dirty(job, mode, [7 * 34, 2_624, work], dirt);
+            let Outcome::Ran(answer) = ran.outcome else { panic!("refused") };
+            stops.insert(answer.stop);
+            assert_eq!(ran.work, [vec![0; 4_096], vec![dirt; work - 4_096]].concat(), "{work}");
+        }
+    }
+    assert!(stops.into_iter().eq(0..=3));
+}
+
+/// Fewer than 4,096 bytes are refused by 12, at the job's length, and no byte is changed.
+#[test]
+fn shorter_work_buffers() {
+    for (job, mode) in ending_with_each_stop().iter().flat_map(|job| MODES.map(|mode| (job, mode))) {
+        for work in [0, 1, 2_048, 4_095] {
+            let ran = run_dirty(job, mode, [7 * 34, 2_624, work], 0x5A);
+            assert_eq!(ran.outcome, Outcome::Refused(Refusal { number: 12, place: job.len() }));
+            assert_eq!(check_bytes(job, &ran, 0x5A), None);
+        }
+    }
 }
 
 #[test]

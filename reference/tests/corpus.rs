@@ -54,7 +54,7 @@ fn commands(holds: impl Fn(&Row) -> bool) -> BTreeSet<u8> {
 fn sizes() {
     let runs = all_runs();
     assert!((5_000..=6_500).contains(&runs.len()), "{}", runs.len());
-    assert!(records(&runs).len() < 1_200_000);
+    assert!(records(&runs).len() < 1_300_000);
     assert!(all_texts().len() < 2_000_000);
     assert!(runs.iter().all(|run| run.job.len() <= 16_400));
     let [trace, snapshot, work] = [0, 1, 2].map(|buffer| runs.iter().map(|run| run.lengths[buffer]).max());

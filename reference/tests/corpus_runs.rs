@@ -5,10 +5,11 @@ mod common;
 use std::collections::{BTreeMap, BTreeSet};
 
 use common::made::{all, runs_of, Made};
-use common::{run_dirty, MODES};
+use common::{commands, run_dirty, MODES};
 use flow_reference::corpus::{Change, Run};
 use flow_reference::output::{snapshot_length, ENTRY_BYTES};
 use flow_reference::print::print;
+use flow_reference::run::{Runner, Step};
 use flow_reference::{decode, Answer, Mode, Outcome, Refusal};
 
 /// The runs of accepted jobs with buffers that are long enough, and their answers.
@@ -34,7 +35,7 @@ fn kept_or_changed() {
     for Made { run, text, .. } in all() {
         assert_eq!(text.lines().last(), Some(last_line(run)), "{run:?}");
     }
-    assert_eq!(all().iter().filter(|made| made.run.change != Change::Nothing).count(), 16);
+    assert_eq!(all().iter().filter(|made| made.run.change != Change::Nothing).count(), 32);
     assert!(runs_of("changes").iter().all(|run| run.change != Change::Nothing));
 }
 
@@ -125,9 +126,14 @@ fn modes_seeds_and_pairs() {
         assert_eq!(seeds.iter().collect::<BTreeSet<_>>().len(), 256);
     }
     let both = |pair: &[Run]| pair[0].job == pair[1].job && pair[0].mode != pair[1].mode;
-    for (family, count) in
-        [("worked", 15), ("accesses", 200), ("full queues", 80), ("long runs", 3), ("pairs", 350)]
-    {
+    for (family, count) in [
+        ("worked", 15),
+        ("accesses", 200),
+        ("full queues", 80),
+        ("long runs", 3),
+        ("pairs", 350),
+        ("work", 89),
+    ] {
         let runs = runs_of(family);
         assert!(runs.chunks(2).all(both), "{family}");
         assert!(runs.len() >= 2 * count, "{family}");
@@ -140,7 +146,7 @@ fn buffer_lengths() {
     let mut seen: BTreeMap<(usize, isize), usize> = BTreeMap::new();
     for Made { run, .. } in all() {
         let Ok(program) = decode(&run.job) else { continue };
-        let needed = [ENTRY_BYTES * program.turns.len(), 2_624, 16_384];
+        let needed = [ENTRY_BYTES * program.turns.len(), 2_624, 4_096];
         let more = [0, 1, 2].map(|buffer| run.lengths[buffer] as isize - needed[buffer] as isize);
         for buffer in (0..3).filter(|&buffer| (0..3).all(|other| other == buffer || more[other] >= 0)) {
             *seen.entry((buffer, more[buffer].clamp(-2, 2))).or_default() += 1;
@@ -149,6 +155,76 @@ fn buffer_lengths() {
     let expected: Vec<_> = (0..3).flat_map(|buffer| (-2..=2).map(move |more| (buffer, more))).collect();
     assert_eq!(seen.keys().copied().collect::<Vec<_>>(), expected);
     assert!(seen.values().all(|&count| count >= 20), "{seen:?}");
+}
+
+/// How the runs of the family end, by the length of the work buffer: refusal (0: none) and stop.
+fn ends_by_work_length() -> BTreeMap<usize, BTreeSet<(u8, u8)>> {
+    let mut ends: BTreeMap<usize, BTreeSet<(u8, u8)>> = BTreeMap::new();
+    for run in runs_of("work") {
+        let end = match run_dirty(&run.job, run.mode, run.lengths, run.seed).outcome {
+            Outcome::Ran(answer) => (0, answer.stop),
+            Outcome::Refused(refusal) => (refusal.number, 0),
+        };
+        ends.entry(run.lengths[2]).or_default().insert(end);
+    }
+    ends
+}
+
+/// Each length from 4,096 on has runs with each stop, a shorter one has none.
+#[test]
+fn work_lengths() {
+    let refused = [(6, 0), (10, 0), (11, 0)];
+    let [short, long] = [&[(12, 0)][..], &[(0, 0), (0, 1), (0, 2), (0, 3)]];
+    let lengths = [4_095, 4_096, 4_097, 5_000, 8_192, 16_383, 16_384, 16_385, 16_500];
+    let expected = lengths.map(|length| {
+        let others = if length < 4_096 { short } else { long };
+        (length, refused.into_iter().chain(others.iter().copied()).collect())
+    });
+    assert_eq!(ends_by_work_length(), BTreeMap::from(expected));
+}
+
+/// The last byte that is cleared, the first that is kept, and later ones are changed after some runs.
+#[test]
+fn changed_work_lengths() {
+    let changed = runs_of("work").into_iter().filter(|run| run.change == Change::LastOfWork);
+    let lengths: BTreeSet<usize> = changed.map(|run| run.lengths[2]).collect();
+    assert_eq!(lengths, BTreeSet::from([4_096, 4_097, 16_384, 16_500]));
+}
+
+/// The places of a job's handler commands, by node.
+fn places(job: &[u8]) -> BTreeMap<u8, Vec<usize>> {
+    let mut places: BTreeMap<u8, Vec<usize>> = BTreeMap::new();
+    let (mut node, mut place) = (0, 0);
+    for command in commands(job) {
+        match *command {
+            [0x40, opened] => node = opened,
+            [0x41..=0x4B, ..] => places.entry(node).or_default().push(place),
+            _ => {}
+        }
+        place += command.len();
+    }
+    places
+}
+
+/// Node, position and place of each handler command that a run makes.
+fn made_commands(run: &Run) -> BTreeSet<(u8, usize, usize)> {
+    let (program, places) = (decode(&run.job).unwrap(), places(&run.job));
+    let mut runner = Runner::new(&program, run.mode);
+    let mut made = BTreeSet::new();
+    for &node in &program.turns {
+        let position = usize::from(runner.state().nodes[usize::from(node)].position);
+        let Step::Completed(_) = runner.step() else { break };
+        made.extend(places[&node].get(position).map(|&place| (node, position, place)));
+    }
+    made
+}
+
+/// All handler commands that a job can have are made, and those of a handler at the end of a long job.
+#[test]
+fn handler_commands() {
+    let made: Vec<_> = runs_of("handlers").iter().map(made_commands).collect();
+    assert_eq!(made.iter().map(BTreeSet::len).collect::<Vec<_>>(), [32 * 64, 32 * 64, 64, 64]);
+    assert!(made[2..].iter().flatten().all(|&(node, _, place)| node == 31 && place > 16_000));
 }
 
 #[test]

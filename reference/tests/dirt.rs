@@ -45,9 +45,10 @@ fn found(job: &[u8], lengths: Lengths) -> [Option<(usize, usize)>; 3] {
 /// K1 hands over 9 entries, two idle nodes and a variable.
 #[test]
 fn changes_of_a_run() {
-    let expected = [Some((63, 69)), Some((24, 2_629)), Some((0, 16_389))];
-    assert_eq!(found(&k1(), [70, 2_630, 16_390]), expected);
-    assert_eq!(found(&k1(), [63, 2_624, 16_384]), [None, Some((24, 2_623)), Some((0, 16_383))]);
+    let expected = [Some((63, 69)), Some((24, 2_629)), Some((0, 4_101))];
+    assert_eq!(found(&k1(), [70, 2_630, 4_102]), expected);
+    assert_eq!(found(&k1(), [63, 2_624, 4_096]), [None, Some((24, 2_623)), Some((0, 4_095))]);
+    assert_eq!(found(&k1(), [63, 2_624, 16_385]), [None, Some((24, 2_623)), Some((0, 16_384))]);
 }
 
 #[test]

@@ -53,7 +53,7 @@ fn far(job: &[u8]) -> Vec<Lengths> {
 
 /// No bytes, some, and as many as a run of 9 turns needs.
 fn some_lengths() -> [Lengths; 6] {
-    [[0; 3], [1; 3], [63, 2_624, 16_384], [62, 2_624, 16_384], [63, 2_623, 16_384], [70, 2_631, 16_383]]
+    [[0; 3], [1; 3], [63, 2_624, 4_096], [62, 2_624, 4_096], [63, 2_623, 4_096], [70, 2_631, 4_095]]
 }
 
 /// A short job for each of the refusals 1 to 9, which come before the buffers are looked at.

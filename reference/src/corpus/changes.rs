@@ -3,7 +3,7 @@
 use super::run::{exact, Change, Run, Runs};
 use super::worked;
 
-/// An accepted and a refused job, K1 and K9, with each change and buffers that are longer than needed.
+/// An accepted and a refused job, K1 and K10, with each change and buffers that are longer than needed.
 pub fn runs(runs: &mut Runs) -> Vec<Run> {
     let k = worked::jobs();
     let mut list = Vec::new();

@@ -6,6 +6,7 @@ mod changes;
 mod edits;
 mod full;
 mod groups;
+mod handlers;
 mod jumps;
 mod lengths;
 mod limits;
@@ -18,6 +19,7 @@ mod repeats;
 mod run;
 mod sight;
 mod stops;
+mod work;
 mod worked;
 mod worlds;
 
@@ -78,6 +80,8 @@ pub fn families() -> Vec<Family> {
     ];
     list.extend(pairs.map(|(name, jobs)| Family { name, runs: runs.pairs(&jobs) }));
     list.push(Family { name: "changes", runs: changes::runs(&mut runs) });
+    list.push(Family { name: "handlers", runs: runs.pairs(&handlers::jobs()) });
+    list.push(Family { name: "work", runs: work::runs(&mut runs) });
     list
 }
 

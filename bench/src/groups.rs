@@ -1,0 +1,40 @@
+//! All jobs, in groups.
+
+use std::{fs, io};
+
+use flow_reference::Mode;
+
+use crate::largest;
+use crate::runs::{CASES, MODES};
+
+/// The folder of the repository's examples.
+const EXAMPLES: &str = concat!(env!("CARGO_MANIFEST_DIR"), "/../examples");
+
+/// Jobs with a name.
+pub struct Group {
+    pub name: &'static str,
+    pub jobs: Vec<Vec<u8>>,
+}
+
+impl Group {
+    /// Each job, monitored and bare.
+    pub fn runs(&self) -> impl Iterator<Item = (Mode, &Vec<u8>)> {
+        self.jobs.iter().flat_map(|job| MODES.map(|mode| (mode, job)))
+    }
+}
+
+/// The example jobs, those of the cases, which the table is about, and the largest.
+pub fn all() -> io::Result<[Group; 3]> {
+    Ok([
+        Group { name: "examples", jobs: examples()? },
+        Group { name: "table", jobs: CASES.map(|case| case.job()).to_vec() },
+        Group { name: "largest job", jobs: vec![largest::job()] },
+    ])
+}
+
+/// The example jobs, read from their files.
+fn examples() -> io::Result<Vec<Vec<u8>>> {
+    let files = fs::read_dir(EXAMPLES)?.collect::<io::Result<Vec<_>>>()?;
+    let paths = files.into_iter().map(|file| file.path());
+    paths.filter(|path| path.extension().is_some_and(|end| end == "job")).map(fs::read).collect()
+}

@@ -1,0 +1,26 @@
+//! All jobs are there, and no run of one takes more stack than is promised.
+
+use flow_bench::groups::{self, Group};
+use flow_bench::runs::Engine;
+use flow_bench::stack::most;
+use flow_reference::decode;
+
+fn all() -> [Group; 3] {
+    groups::all().expect("the examples can be read")
+}
+
+#[test]
+fn groups_and_jobs() {
+    let counts = all().map(|group| (group.name, group.jobs.len()));
+    assert_eq!(counts, [("examples", 14), ("table", 4), ("largest job", 1)]);
+    assert!(all().iter().flat_map(|group| &group.jobs).all(|job| decode(job).is_ok()));
+}
+
+/// The tables and a state lie on the stack, so there is some to find.
+#[test]
+fn stack() {
+    for group in all() {
+        let bytes = most(Engine::Proved, &group);
+        assert!((7_168 + 2_720..20_000).contains(&bytes), "{}: {bytes}", group.name);
+    }
+}
