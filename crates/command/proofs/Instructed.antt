@@ -15,7 +15,7 @@ use Rattle.model.specs.Declared.{instruction}
 use Rattle.model.proofs.Logic.{true-false}
 use Rattle.model.proofs.Reading.{read-unknown, read-short, read-whole, read-at}
 use Rattle.command.specs.declared.table.Row.{Row as Shape}
-use Rattle.command.specs.Instructions.{recognised, instructionIn}
+use Rattle.command.specs.Instructions.{recognised, instructionIn, instructionFrom}
 use Rattle.command.specs.Rows.{unpacked, Says, IsRow, isHandlerByte}
 use Rattle.command.specs.Reading.{IsWidth}
 use Rattle.command.proofs.Known.{OneOperand, handler-single}
@@ -36,12 +36,12 @@ other-skipped b x h = by-range (leb SET b) refl (leb b SKIP) refl h
 
 module _ (job : List ℕ) (place : ℕ) where
   -- after the end of the job
-  pub read-behind : length job ≤ place → instruction SKIP 0 ≡ instructionIn (readCommand job place)
+  pub read-behind : length job ≤ place → instruction SKIP 0 ≡ instructionFrom job place
   unfolding operandsOf operandsIn
   read-behind h = rw (read-unknown job place (rw (List·getD-eq-default job 0 h)))
 
   -- no handler command
-  pub read-other : isHandlerByte (getD job place 0) ≡ false → instruction SKIP 0 ≡ instructionIn (readCommand job place)
+  pub read-other : isHandlerByte (getD job place 0) ≡ false → instruction SKIP 0 ≡ instructionFrom job place
   read-other h = by-read (readCommand job place) refl
     where
       by-read : (r : Parsed) → readCommand job place ≡ r → instruction SKIP 0 ≡ instructionIn r
@@ -66,7 +66,7 @@ module _ (job : List ℕ) (place : ℕ) where
     ends = omega (arith, says .width₁, one .others)
 
     -- the operand runs past the end
-    pub read-cut-off : length job < place + 1 + s .«first_width» → instruction SKIP 0 ≡ instructionIn (readCommand job place)
+    pub read-cut-off : length job < place + 1 + s .«first_width» → instruction SKIP 0 ≡ instructionFrom job place
     read-cut-off l = rw (read-short job place (listOf (operandsOf (getD job place 0))) (says .known) (omega (arith, ends)))
 
     pub operand-inside : place + 1 + s .«first_width» ≤ length job → (place + 1 + s .«first_width» ≤ length job) × IsWidth (s .«first_width»)
@@ -75,6 +75,6 @@ module _ (job : List ℕ) (place : ℕ) where
     -- a whole command
     pub read-instructed :
         place + 1 + s .«first_width» ≤ length job → (x : ℕ) → x ≡ numberAt job (place + 1) (s .«first_width»)
-        → recognised (getD job place 0) x ≡ instructionIn (readCommand job place)
+        → recognised (getD job place 0) x ≡ instructionFrom job place
     read-instructed l x e =
         rw (read-whole job place (listOf (operandsOf (getD job place 0))) (says .known) (omega (arith, ends)), e, says .width₁)

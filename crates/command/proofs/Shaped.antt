@@ -9,6 +9,7 @@ use lib.ListN.{length, getD, drop, List·getD-map}
 use Rattle.model.specs.Table.{OperandKind, scope, owner, start, answer, node, port, target, function, value, variable, jump, absent, width}
 use Rattle.model.specs.Table.{Row, row, table, operandsIn, operandsOf, kindAt}
 use Rattle.model.specs.Command.{numberAt}
+use Rattle.model.proofs.Lists.{getD-default}
 use Rattle.model.proofs.Reading.{rowAt, search-miss, number-none}
 use Rattle.command.specs.Rows.{unpacked, Says, Said, given, wanted, Agree, IsRow}
 use Rattle.command.specs.Reading.{IsWidth}
@@ -28,12 +29,6 @@ says-as b p e =
       kind₃ = ap (λ (x : Said). getD (x .kinds) 2 absent) e;
       most = rw same at (ap (λ (x : Said). x .most) e);
     }
-
--- another default changes nothing inside the list
-getD-default : {A : Type 0} (l : List A) (i : ℕ) (d e : A) → i < length l → getD l i d ≡ getD l i e
-getD-default [] i d e h = absurd (omega arith)
-getD-default (a ∷ l) zero d e h = refl
-getD-default (a ∷ l) (suc i) d e h = getD-default l i d e (omega arith)
 
 module _ {rows : List ℕ} (agree : Agree rows) (i : ℕ) (h : i < length table) where
   -- row i

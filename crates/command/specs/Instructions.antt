@@ -6,7 +6,7 @@ use mathlib.Core.Option.{Option, none, some}
 use lib.Dec.{leb, ltb, eqb}
 use lib.ListN.{length, getD}
 use Rattle.model.specs.Table.{SET, TAKE, GET, PUT, ADD, PLUS, JUMPZ, JUMP, SEND, CALL, SKIP}
-use Rattle.model.specs.Command.{Parsed, whole, unknown, cutShort}
+use Rattle.model.specs.Command.{Parsed, whole, unknown, cutShort, readCommand}
 use Rattle.model.specs.Declared.{Instruction as Meant, instruction}
 use Rattle.command.specs.declared.instruction.Instruction.{Instruction}
 use Rattle.command.specs.declared.instruction.Instruction.the-variants as i
@@ -31,11 +31,15 @@ instructionOf i.Skip = instruction SKIP 0
 abbrev pub recognised : ℕ → ℕ → Meant
 recognised b x = cond (eqb b TAKE) (instruction TAKE 0) (cond (leb SET b && leb b CALL) (instruction b x) (instruction SKIP 0))
 
--- the handler command in what is read at a place of a job; SKIP if that is none
+-- the handler command in what is read; SKIP if that is no command
 abbrev pub instructionIn : Parsed → Meant
 instructionIn (whole c next) = recognised (c .byte) (c .operands .first)
 instructionIn unknown = instruction SKIP 0
 instructionIn cutShort = instruction SKIP 0
+
+-- the handler command at a place of a job
+abbrev pub instructionFrom : List ℕ → ℕ → Meant
+instructionFrom job place = instructionIn (readCommand job place)
 
 -- the command of a handler at a position, if there is one
 abbrev pub commandIn : List Meant → ℕ → Option Meant

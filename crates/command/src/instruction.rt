@@ -1,7 +1,6 @@
 // The commands of a handler, each with its operand.
 ghost use mathlib.Core.Path.{_≡_};
-ghost use Rattle.model.specs.Command.{readCommand};
-ghost use Rattle.command.specs.Instructions.{instructionOf, recognised, instructionIn};
+ghost use Rattle.command.specs.Instructions.{instructionOf, recognised, instructionFrom};
 use crate::bytes;
 use crate::numbers::FunNum;
 use crate::numbers::VarNum;
@@ -50,7 +49,7 @@ pub fn instruction_of(byte: u8, x: u32) -> Instruction
 
 // The handler command at a place of a job, by the row of its byte; SKIP where none is read. It has one operand at most.
 pub fn read_instruction(job: &[u8], at: usize) -> Instruction
-    ensures { λ r. ⌜ instructionOf r ≡ instructionIn (readCommand (now (job .entry)) at) ⌝ }
+    ensures { λ r. ⌜ instructionOf r ≡ instructionFrom (now (job .entry)) at ⌝ }
 {
     if job.len() <= at {
         return Instruction::Skip;

@@ -17,7 +17,7 @@ use Rattle.model.proofs.Decoding.{decode-end, fuel-left}
 use Rattle.model.proofs.Scanning.{accepted-from, Passing, passing, stays-from}
 use Rattle.model.proofs.Retracing.{read-accepted}
 use Rattle.model.proofs.Growth.{open-next, body-next}
-use Rattle.model.proofs.Ranges.{open-inside, body-fresh}
+use Rattle.model.proofs.Ranges.{body-fresh}
 use Rattle.model.proofs.Valid.{job-accepted, limits}
 use Rattle.command.specs.declared.read.HeadParsed.{HeadParsed}
 use Rattle.command.specs.declared.read.HeadParsed.the-variants as heads
@@ -74,10 +74,7 @@ module _ {job : List ℕ} {all : List Command} {w u : List ℕ} {place opened in
   pub keeping-length : length u ≡ length w
   keeping-length = ap length (k .same) ∙ length-loaded w (k .past)
 
-  -- the node and the position have a slot
-  pub keeping-open : opened < 32
-  keeping-open = omega (arith, k .open-node, open-inside (k .past) (k .valid))
-
+  -- the position is inside a handler
   pub keeping-position : index ≤ 64
   keeping-position = omega (arith, k .position, limits (k .past) (k .valid) .handlers (openBody (k .past)))
 
@@ -129,7 +126,7 @@ module _ {job : List ℕ} {all : List Command} {w u : List ℕ} {place opened in
       pub keeping-on :
           (byte first : ℕ) → byte ≡ c .byte → first ≡ c .operands .first
           → (x : List ℕ) (o i : ℕ)
-          → x ≡ cond (isHandlerByte byte) (stored u (slotOf opened index) byte first) u
+          → x ≡ cond (isHandlerByte byte) (stored u (slotOf opened index) place) u
           → i ≡ cond (eqb byte BODY) 0 (cond (isHandlerByte byte) (index + 1) index)
           → o ≡ cond (eqb byte BODY) first opened
           → Keeping job all w x next o i
@@ -146,7 +143,7 @@ module _ {job : List ℕ} {all : List Command} {w u : List ℕ} {place opened in
             valid = more;
             open-node = g ∙ rw (b, a, k .open-node, open-next c (k .past));
             position = f ∙ rw (b, k .position) next-position;
-            same = e ∙ rw (b, a, k .same, k .open-node, k .position);
+            same = e ∙ rw (b, ← r .here, k .same, k .open-node, k .position);
           }
 
       -- no handler command stands behind a command of a group above 4

@@ -1,7 +1,7 @@
-// Loading the handlers of an accepted job into the work buffer: 8 bytes a command, 64 commands a node.
+// Loading the handlers of an accepted job: the places of their commands go into the work buffer, 2 bytes a command, 64 commands a node.
 ghost use mathlib.Core.Path.{_≡_};
 ghost use mathlib.Core.Bool.{cond};
-ghost use Prim.Native.Nat.{_+_, _≤_, _<_};
+ghost use Prim.Native.Nat.{_+_, _<_};
 ghost use lib.Dec.{eqb};
 ghost use Rattle.model.specs.Table.{BODY};
 ghost use Rattle.command.specs.Rows.{isHandlerByte};
@@ -16,27 +16,25 @@ use command::read::HeadParsed;
 use command::read::open_after;
 use command::read::read_head;
 use writing::put_byte;
-use writing::put_word;
 
-// Stores a handler command at a place, if it fits: its byte, and its operand, lowest byte first.
-fn store(work: &mut [u8], at: usize, b: u8, x: u32)
-    requires { ⌜ at ≤ 16384 ⌝ }
-    ensures { λ _. ⌜ now (work .exit) ≡ stored (now (work .entry)) at b x ⌝ }
+// Stores a place in the slot of a node's command, if it fits: two bytes, lowest byte first.
+fn store(work: &mut [u8], n: NodeNum, i: u32, place: usize)
+    ensures { λ _. ⌜ now (work .exit) ≡ stored (now (work .entry)) (slotOf (n .0) i) place ⌝ }
 {
-    if at + 5 <= work.len() {
-        let operand = put_byte(work, at, b);
-        put_word(work, operand, x);
+    let at = slot_of(n, i);
+    if at + 2 <= work.len() {
+        let high = put_byte(work, at, (place % 256) as u8);
+        put_byte(work, high, (place / 256 % 256) as u8);
     }
 }
 
-// Stores a command in its slot, if it is a handler command.
-fn keep(work: &mut [u8], opened: NodeNum, index: u32, c: Head)
-    requires { ⌜ (opened .0 < 32) × (index ≤ 64) ⌝ }
+// Stores the place of a command in its slot, if it is a handler command.
+fn keep(work: &mut [u8], opened: NodeNum, index: u32, c: Head, place: usize)
     ensures { λ _. ⌜ now (work .exit) ≡ cond (isHandlerByte (c .byte))
-        (stored (now (work .entry)) (slotOf (opened .0) index) (c .byte) (c .first)) (now (work .entry)) ⌝ }
+        (stored (now (work .entry)) (slotOf (opened .0) index) place) (now (work .entry)) ⌝ }
 {
     if bytes::is_handler(c.byte) {
-        store(work, slot_of(opened, index), c.byte, c.first);
+        store(work, opened, index, place);
     }
 }
 
@@ -70,7 +68,7 @@ pub fn load(job: &[u8], work: &mut [u8])
         if bytes::HANDLER_GROUP < c.group {
             return;
         }
-        keep(work, opened, index, c);
+        keep(work, opened, index, c, at);
         index = index_after(c, index);
         opened = open_after(c, opened);
         at = c.next;

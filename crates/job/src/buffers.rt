@@ -19,7 +19,7 @@ use tables::cells::clear;
 // The lengths that the snapshot buffer (01's "picture buffer") and the work buffer must have.
 pub const SNAPSHOT: usize = 2624;
 
-pub const WORK: usize = 16384;
+pub const WORK: usize = 4096;
 
 // The tests 10 to 12: a job of this length and number of turns, with buffers of these lengths.
 fn check_buffers(size: usize, turns: u32, trace: usize, snapshot: usize, work: usize) -> Verdict

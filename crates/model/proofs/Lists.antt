@@ -16,19 +16,25 @@ pub length-only : {A : Type 0} (l : List A) (t : Bool) (a : A) → length (l ++ 
 length-only l true a = length-append l (a ∷ [])
 length-only l false a = ap length (append-nil l)
 
--- a property of each of its elements
+-- a property of each of its elements, by its place
 pub only-each :
-    {A : Type 0} (Q : A → Type 0) (d : A) (l : List A) (t : Bool) (a : A)
-    → ((i : ℕ) → i < length l → Q (getD l i d)) → (t ≡ true → Q a)
-    → (i : ℕ) → i < length (l ++ only t a) → Q (getD (l ++ only t a) i d)
+    {A : Type 0} (Q : ℕ → A → Type 0) (d : A) (l : List A) (t : Bool) (a : A)
+    → ((i : ℕ) → i < length l → Q i (getD l i d)) → (t ≡ true → Q (length l) a)
+    → (i : ℕ) → i < length (l ++ only t a) → Q i (getD (l ++ only t a) i d)
 only-each Q d l false a older new i h = rw (append-nil l) (older i (rw (append-nil l) at h))
 only-each {A} Q d l true a older new i h = by-place (ltb i (length l)) refl
   where
-    by-place : (b : Bool) → ltb i (length l) ≡ b → Q (getD (l ++ (a ∷ [])) i d)
+    by-place : (b : Bool) → ltb i (length l) ≡ b → Q i (getD (l ++ (a ∷ [])) i d)
     by-place true q = rw (List·getD-append l (a ∷ []) d i (ltb-true i (length l) q)) (older i (ltb-true i (length l) q))
     by-place false q =
         let last : length l ≡ i = omega (arith, ltb-false i (length l) q, length-append l (a ∷ [])) in
-        rw (getD-at l a [] d i last) (new refl)
+        rw (getD-at l a [] d i last) (rw last at (new refl))
+
+-- another default changes nothing inside a list
+pub getD-default : {A : Type 0} (l : List A) (i : ℕ) (d e : A) → i < length l → getD l i d ≡ getD l i e
+getD-default [] i d e h = absurd (omega arith)
+getD-default (a ∷ l) zero d e h = refl
+getD-default (a ∷ l) (suc i) d e h = getD-default l i d e (omega arith)
 
 -- a table has as many elements as it says
 pub length-tabulate : {A : Type 0} (k : ℕ) (f : ℕ → A) → length (tabulate k f) ≡ k

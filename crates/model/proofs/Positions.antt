@@ -51,7 +51,7 @@ pub jumps-inside :
 unfolding handlerOf
 jumps-inside all [] e n = λ i h. absurd (omega arith)
 jumps-inside all (c ∷ past) e n =
-    only-each (StaysInside (bodyLength all n)) (instruction 0 0) (handlerOf past n) (belongs past c n)
+    only-each (λ i. StaysInside (bodyLength all n)) (instruction 0 0) (handlerOf past n) (belongs past c n)
     (instruction (c .byte) (c .operands .first))
     (jumps-inside all past (first-none 9 (isFarJump all) c past e .0) n) here
   where

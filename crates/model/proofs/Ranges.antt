@@ -77,7 +77,7 @@ pub handler-named : (past : List Command) → Valid past → (n i : ℕ) → i <
 unfolding handlerOf
 handler-named [] v n = λ i h. absurd (omega arith)
 handler-named (c ∷ past) v n =
-    only-each NamedInstruction (instruction 0 0) (handlerOf past n) (belongs past c n) (instruction (c .byte) (c .operands .first))
+    only-each (λ i. NamedInstruction) (instruction 0 0) (handlerOf past n) (belongs past c n) (instruction (c .byte) (c .operands .first))
     (handler-named past (v .0) n)
     (λ p. record { handler = and-left (isHandler c) _ p; operand = named past c v .first })
 
@@ -93,7 +93,7 @@ pub turns-inside : (past : List Command) → Valid past → (i : ℕ) → i < le
 unfolding turnsOf operandsOf operandsIn
 turns-inside [] v = λ i h. absurd (omega arith)
 turns-inside (c ∷ past) v =
-    only-each (λ n. n < countOf NODE (c ∷ past)) 0 (turnsOf past) (is TURN c) (c .operands .first)
+    only-each (λ i n. n < countOf NODE (c ∷ past)) 0 (turnsOf past) (is TURN c) (c .operands .first)
     (λ i h. omega (arith, turns-inside past (v .0) i h, count-grows NODE c past))
     (λ p.
     let turn : c .byte ≡ TURN = eqb-true (c .byte) TURN p in

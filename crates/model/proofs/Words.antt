@@ -94,7 +94,7 @@ handler-fits : (past : List Command) → CommandsFit past → (n i : ℕ) → i 
 unfolding handlerOf
 handler-fits [] fit n = λ i h. absurd (omega arith)
 handler-fits (c ∷ past) fit n =
-    only-each (λ (i : Instruction). i .operand < 2 ^ 32) (instruction 0 0) (handlerOf past n) (belongs past c n)
+    only-each (λ k (i : Instruction). i .operand < 2 ^ 32) (instruction 0 0) (handlerOf past n) (belongs past c n)
     (instruction (c .byte) (c .operands .first))
     (handler-fits past (fit .0) n) (λ _. fit .1 .first)
 
@@ -102,7 +102,7 @@ starts-fit : (past : List Command) → CommandsFit past → (n i : ℕ) → i < 
 unfolding startsOf
 starts-fit [] fit n = λ i h. absurd (omega arith)
 starts-fit (c ∷ past) fit n =
-    only-each (λ m. m < 2 ^ 32) 0 (startsOf past n) (is START c && eqb (c .operands .first) n) (c .operands .second)
+    only-each (λ i m. m < 2 ^ 32) 0 (startsOf past n) (is START c && eqb (c .operands .first) n) (c .operands .second)
     (starts-fit past (fit .0) n) (λ _. fit .1 .second)
 
 program-fits : (past : List Command) → CommandsFit past → ProgramFits (programOf past)

@@ -17,17 +17,17 @@ read-slot-requires c κs = search needs
 
 returns : tie.Need-returns
 returns c =
-    let a = c .before .before .before .before .before .args in (
+    let a = c .before .before .before .before .before .before .args in (
       ap some (c .read-slot .ensures)
-          ∙ sym (handlers-inside (now (a .tables)) (now (a .work)) (a .n .0) (a .position)
+          ∙ sym (handlers-inside (now (a .job)) (now (a .tables)) (now (a .work)) (a .n .0) (a .position)
           (omega (arith, c .before .if1 .taken, c .before .before .length-of .ensures))),
       inr (search needs),
     )
 
 returns-2 : tie.Need-returns-2
 returns-2 c =
-    let a = c .before .before .before .before .args in (
-      sym (handlers-after (now (a .tables)) (now (a .work)) (a .n .0) (a .position)
+    let a = c .before .before .before .before .before .args in (
+      sym (handlers-after (now (a .job)) (now (a .tables)) (now (a .work)) (a .n .0) (a .position)
           (omega (arith, c .if1 .left, c .before .length-of .ensures))),
       inl refl,
     )

@@ -1,66 +1,70 @@
 -- `handlers::fetch::read_slot` meets its contract.
-use mathlib.Core.Path.{refl}
-use mathlib.Core.Logic.{inl}
 use native.Mathlib.Omega.{arith}
+use denote.Ref.{now}
+use Rattle.handlers.proofs.Fetched.{no-slot, from-bytes}
 use borrow.Author.Needs.{needs}
-use Rattle.handlers.proofs.Fetched.{no-node, no-position, no-room, made}
 use Rattle.handlers.proofs.fetch.read_slot.Statement.{statement}
 use Rattle.handlers.proofs.fetch.read_slot.Tie as tie
-
-returns : tie.Need-returns
-returns c = no-node (c .before .before .before .args .work .now) (c .before .before .before .args .n .0)
-    (c .before .before .before .args .position) (c .if1 .taken)
-
-returns-2 : tie.Need-returns-2
-returns-2 c = no-position (c .before .before .before .before .args .work .now) (c .before .before .before .before .args .n .0)
-    (c .before .before .before .before .args .position) (c .before .if1 .left) (c .if2 .taken)
-
-returns-3 : tie.Need-returns-3
-returns-3 c = no-room (c .before .before .before .before .before .args .work .now) (c .before .before .before .before .before .args .n .0)
-    (c .before .before .before .before .before .args .position) (c .before .before .if1 .left) (c .before .if2 .left) (c .if3 .taken)
 
 slot-of-requires : tie.Need-slot-of-requires
 slot-of-requires c κs = search needs
 
-shared-slice-read-byte : tie.Need-shared-slice-read-byte
-shared-slice-read-byte c = search needs
+add-if1 : tie.Need-add-if1
+add-if1 c = search needs
 
-add-operand : tie.Need-add-operand
-add-operand c = search needs
+returns : tie.Need-returns
+returns c =
+    let a = c .before .before .before .before .args in
+    no-slot (now (a .job)) (now (a .work)) (a .n .0) (a .position) (omega (arith, c .before .slot-of .ensures, c .if1 .taken))
 
-operand-requires : tie.Need-operand-requires
-operand-requires c κs = (
-  omega (
-    arith,
-    c .before .slot-of .ensures,
-    c .before .before .if3 .left,
-    c .before .before .before .if2 .left,
-    c .before .before .before .before .if1 .left,
-  ),
-  inl refl,
-)
+shared-slice-read-wide : tie.Need-shared-slice-read-wide
+shared-slice-read-wide c = search needs
 
-instruction-of-requires : tie.Need-instruction-of-requires
-instruction-of-requires c κs = search needs
+wide-requires : tie.Need-wide-requires
+wide-requires c κs = search needs
 
-returns-4 : tie.Need-returns-4
-returns-4 c =
-    let p6 = c .before .before .before .before .before .before in
-    let p9 = p6 .before .before .before in
-    made (p9 .args .work .now) (p9 .args .n .0) (p9 .args .position) _ _ _ (p6 .if1 .left)
-    (c .before .before .before .before .before .if2 .left) (c .before .before .before .before .if3 .left)
-    (c .before .before .before .slot-of .ensures) (c .before .operand .ensures) (c .instruction-of .ensures)
+add-wide : tie.Need-add-wide
+add-wide c = search needs
+
+shared-slice-read-wide-2 : tie.Need-shared-slice-read-wide-2
+shared-slice-read-wide-2 c = search needs
+
+wide-requires-2 : tie.Need-wide-requires-2
+wide-requires-2 c κs = search needs
+
+mul-place : tie.Need-mul-place
+mul-place c = search needs
+
+add-place : tie.Need-add-place
+add-place c = search needs
+
+cast-read-instruction : tie.Need-cast-read-instruction
+cast-read-instruction c = search needs
+
+read-instruction-requires : tie.Need-read-instruction-requires
+read-instruction-requires c κs = search needs
+
+returns-2 : tie.Need-returns-2
+returns-2 c =
+    let p5 = c .before .before .before .before .before in
+    let a = p5 .before .before .before .before .args in
+    from-bytes (now (a .job)) (now (a .work)) (a .n .0) (a .position) _ _ _ _ (p5 .before .slot-of .ensures)
+    (omega (arith, p5 .if1 .left)) (c .before .before .before .wide .ensures .0) (c .before .wide2 .ensures .0) (c .read-instruction .ensures)
 
 pub read-slot-spec : {M : Type 1} → statement M
 read-slot-spec =
     tie.close
     (tie.spec
-    returns
-    returns-2
-    returns-3
     slot-of-requires
-    shared-slice-read-byte
-    add-operand
-    operand-requires
-    instruction-of-requires
-    returns-4)
+    add-if1
+    returns
+    shared-slice-read-wide
+    wide-requires
+    add-wide
+    shared-slice-read-wide-2
+    wide-requires-2
+    mul-place
+    add-place
+    cast-read-instruction
+    read-instruction-requires
+    returns-2)

@@ -7,9 +7,6 @@ use Rattle.handlers.proofs.load.keep.Tie as tie
 is-handler-requires : tie.Need-is-handler-requires
 is-handler-requires c κs = search needs
 
-slot-of-requires : tie.Need-slot-of-requires
-slot-of-requires c κs = search needs
-
 store-requires : tie.Need-store-requires
 store-requires c κs = search needs
 
@@ -17,17 +14,10 @@ same-length : tie.Need-same-length
 same-length c = search needs
 
 returns : tie.Need-returns
-returns c = rw (
-  sym (c .before .before .before .before .before .before .is-handler .ensures)
-      ∙ c .before .before .before .before .before .if1 .taken,
-  c .before .before .store .ensures,
-  c .before .before .before .slot-of .ensures,
-)
+returns c = rw (sym (c .before .before .before .before .before .is-handler .ensures) ∙ c .before .before .before .before .if1 .taken) (c .before .before .store .ensures)
 
 returns-2 : tie.Need-returns-2
 returns-2 c = rw (sym (c .before .is-handler .ensures) ∙ c .if1 .left)
 
 pub keep-spec : {M : Type 1} → statement M
-keep-spec =
-    tie.close
-    (tie.spec is-handler-requires slot-of-requires store-requires same-length returns returns-2)
+keep-spec = tie.close (tie.spec is-handler-requires store-requires same-length returns returns-2)

@@ -6,7 +6,7 @@ use borrow.Author.Needs.{needs}
 use Rattle.model.specs.Refusal.{decodeJob, commandsOf}
 use Rattle.model.proofs.Reading.{read-at}
 use Rattle.command.proofs.Taken.{head-read}
-use Rattle.handlers.proofs.Keeping.{accepted-is, Keeping, keeping-start, keeping-end, keeping-length, keeping-open, keeping-position}
+use Rattle.handlers.proofs.Keeping.{accepted-is, Keeping, keeping-start, keeping-end, keeping-length, keeping-position}
 use Rattle.handlers.proofs.Keeping.{keeping-reads, keeping-on, keeping-behind}
 use Rattle.handlers.proofs.load.load.Statement.{statement}
 use Rattle.handlers.proofs.load.load.Tie as tie
@@ -49,9 +49,7 @@ returns-2 c =
     (rw (r .group) at (c .if1 .taken))
 
 keep-requires : tie.Need-keep-requires Inv-loop μ-loop
-keep-requires c κs =
-    let k = c .before .before .before .before .before .before .before .before .loop .inv in
-    (keeping-open k, keeping-position k)
+keep-requires c κs = search needs
 
 index-after-requires : tie.Need-index-after-requires Inv-loop μ-loop
 index-after-requires c κs =
