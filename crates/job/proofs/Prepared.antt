@@ -75,7 +75,7 @@ module _ (job t w : List ℕ) (past : List Command) (s : Stands t past) (size : 
   same-read = places-read (passed .reads)
 
 pub prepared : PreparedHolds
-prepared job t w past bytes e s size =
+prepared job t w past e s size =
     let passed = job-accepted job past e .read in
     let counted : countIn t TURN ≡ countOf TURN past = s .counts TURN (omega arith) in
     record {

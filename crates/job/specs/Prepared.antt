@@ -9,7 +9,6 @@ use Rattle.model.specs.Declared.{turnsOf}
 use Rattle.model.specs.Program.{programOf}
 use Rattle.model.specs.Turn.{instructionAt}
 use Rattle.model.specs.Refusal.{accepted, decodeJob, workSize}
-use Rattle.model.specs.Valid.{Bytes}
 use Rattle.tables.specs.Tables.{countIn}
 use Rattle.tables.specs.Stands.{Stands}
 use Rattle.tables.specs.Programs.{programIn}
@@ -35,8 +34,8 @@ pub record Prepared (job t before w : List ℕ) (past : List Command) : Type 0 w
   pub size : length w ≡ length before
   pub beyond : (i : ℕ) → workSize ≤ i → getD w i 0 ≡ getD before i 0
 
--- the claim: for every accepted job of bytes, with tables that stand for its commands and a work buffer that is long enough
+-- the claim: for every accepted job, with tables that stand for its commands and a work buffer that is long enough
 abbrev pub PreparedHolds : Type 0
 PreparedHolds =
-    (job t w : List ℕ) (past : List Command) → Bytes job → decodeJob job ≡ accepted past → Stands t past → workSize ≤ length w
+    (job t w : List ℕ) (past : List Command) → decodeJob job ≡ accepted past → Stands t past → workSize ≤ length w
     → Prepared job t w (loaded w past) past

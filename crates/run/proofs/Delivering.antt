@@ -17,7 +17,7 @@ use Rattle.model.specs.Refusal.{Refusal, Decoded, accepted, rejected, acceptUnl
 use Rattle.model.specs.Refusal.{decodeFor}
 use Rattle.model.specs.Result.{Result, refused, report, monitored, unmonitored, Buffers, sizesOf, written}
 use Rattle.model.specs.Result.{traceAfter, snapshotAfter, workAfter}
-use Rattle.model.specs.Valid.{Bytes, ValidJob}
+use Rattle.model.specs.Valid.{ValidJob}
 use Rattle.model.proofs.Results.{buffers-fit}
 use Rattle.model.proofs.Valid.{job-valid, limits}
 use Rattle.command.specs.declared.refusal.Refusal.{Refusal as Refused}
@@ -97,9 +97,9 @@ module _ (job t : List ℕ) (b : Sizes) (f : AcceptedWith job t b) where
   pub variables-fit : countIn t VAR ≤ 64
   variables-fit = omega (arith, f .stands .counts VAR (omega arith), limits past (valid .commands) .variables)
 
-  pub is-ready : Bytes job → (w after : List ℕ) → workSize ≤ length w → after ≡ loaded w (commandsOf (decodeJob job)) → Loaded job t after
-  is-ready bytes w after long e =
-      record { bytes = bytes; past = past; decoded = both .0; stands = f .stands; before = w; long = long; holds = e ∙ loads w }
+  pub is-ready : (w after : List ℕ) → workSize ≤ length w → after ≡ loaded w (commandsOf (decodeJob job)) → Loaded job t after
+  is-ready w after long e =
+      record { past = past; decoded = both .0; stands = f .stands; before = w; long = long; holds = e ∙ loads w }
 
   -- zeros over the loaded handlers are zeros over what was there before
   zeros-over : (w : List ℕ) → written (replicate workSize 0) (loaded w past) ≡ written (replicate workSize 0) w

@@ -83,11 +83,11 @@ module _ (monitored : Bool) (job t w : List ℕ) (ready : Loaded job t w) where
 
   prepares : Prepared job t (ready .before) w past
   prepares = subst (λ (x : List ℕ). Prepared job t (ready .before) x (ready .past)) (sym (ready .holds))
-      (prepared job t (ready .before) past (ready .bytes) (ready .decoded) (ready .stands) (ready .long))
+      (prepared job t (ready .before) past (ready .decoded) (ready .stands) (ready .long))
 
   meets : EngineMeets job t w past
   meets = subst (λ (x : List ℕ). EngineMeets job t x (ready .past)) (sym (ready .holds))
-      (engine-holds job t (ready .before) past (ready .bytes) (ready .decoded) (ready .stands) (ready .long))
+      (engine-holds job t (ready .before) past (ready .decoded) (ready .stands) (ready .long))
 
   -- before the loop
   pub underway-none : (s : State) (before : List ℕ) → Starts t s → Underway monitored past before s before 0 0
@@ -133,7 +133,7 @@ module _ (monitored : Bool) (job t w : List ℕ) (ready : Loaded job t w) where
   -- turn k of the loop
   module _ (before : List ℕ) (s : State) (trace : List ℕ) (at k : ℕ) (u : Underway monitored past before s trace at k)
       (more : k < countIn t TURN) (n : ℕ) (node : n ≡ turnIn job t k)
-      (fetched : Fetched) (at-position : fetchedOf fetched ≡ commandIn (handlersIn t w n) (positionAt (view s) n))
+      (fetched : Fetched) (at-position : fetchedOf fetched ≡ commandIn (handlersIn job t w n) (positionAt (view s) n))
       (turned : Turned) (turns : Turns t fetched n monitored s turned) where
     inside : k < length (turnsOf past)
     inside = omega (arith, prepares .turns)

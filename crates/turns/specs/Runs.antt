@@ -12,7 +12,6 @@ use Rattle.model.specs.Run.{Run, runFrom}
 use Rattle.model.specs.Output.{answerIn, traceIn}
 use Rattle.model.specs.Refusal.{accepted, decodeJob, workSize}
 use Rattle.model.specs.Result.{written}
-use Rattle.model.specs.Valid.{Bytes}
 use Rattle.handlers.specs.Loading.{loaded}
 use Rattle.tables.specs.Stands.{Stands}
 use Rattle.memory.specs.Queues.{BoundedCounts}
@@ -26,9 +25,8 @@ use Rattle.turns.specs.Endings.{answerOf}
 abbrev pub runOf : Bool → List Command → Run
 runOf monitored past = runFrom (ruleOf monitored (programOf past)) (turnsOf past) (initialState (programOf past))
 
--- the job is accepted, the tables stand for its commands, and the work buffer holds its handlers
+-- the job is accepted, the tables stand for its commands, and the work buffer holds the places of its handler commands
 pub record Loaded (job t w : List ℕ) : Type 0 where
-  pub bytes : Bytes job
   pub past : List Command
   pub decoded : decodeJob job ≡ accepted past
   pub stands : Stands t past

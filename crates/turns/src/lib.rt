@@ -45,7 +45,7 @@ pub fn run_turns(job: &[u8], tables: &[u32], work: &[u8], trace: &mut [u8], moni
     while k < last {
         let n = turn_at(job, tables, k);
         let i = n.0 as usize;
-        let fetched = fetch(tables, work, n, s.position[i]);
+        let fetched = fetch(job, tables, work, n, s.position[i]);
         let turned = s.turn(tables, fetched, n, monitored);
         s = turned.state;
         let outcome = turned.outcome;

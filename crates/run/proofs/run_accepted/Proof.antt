@@ -14,11 +14,7 @@ load-requires c κs = may-load _ _ _ (c .before .before .before .before .before 
 run-turns-requires : tie.Need-run-turns-requires
 run-turns-requires c κs =
     let z = c .before .before .before .before .before .before .before .before .before .before .before in (
-      is-ready _ _ _ (z .pre) (λ i. omega (
-        arith,
-        c .before .before .before .before .before .before .before .before .before .before
-            .shared-slice-known .given i,
-      )) (now (z .args .work)) _ (work-fits _ _ _ (z .pre))
+      is-ready _ _ _ (z .pre) (now (z .args .work)) _ (work-fits _ _ _ (z .pre))
           (c .before .before .before .before .before .load .ensures),
       trace-fits _ _ _ (z .pre),
     )
