@@ -2,6 +2,7 @@
 use crate::input::wide;
 use command::bytes;
 use declared::count_of;
+use job::buffers::WORK;
 use job::decode;
 use run::answer::Answer;
 use std::num::wrapping_add_u8;
@@ -13,7 +14,7 @@ ghost use Rattle.conformance.specs.Keeping.{fillByte, filling, isKept, i
 ghost use Rattle.conformance.specs.Keeping.{changedAt, changedLast, changedTrace, changedSnapshot, changedWork};
 
 // The bytes at the front of the work buffer that are 0 after a run.
-const CLEARED: usize = 16384;
+const CLEARED: usize = WORK;
 
 // From one byte of a buffer to the next, the value grows by this, modulo 256.
 const STEP: usize = 31;

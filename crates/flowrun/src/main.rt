@@ -8,7 +8,7 @@ use printing::TEXT;
 use printing::run_to_text;
 ghost use Prim.Native.Nat.{_≤_};
 ghost use lib.ListN.{length};
-ghost use Rattle.model.specs.Refusal.{sizes};
+ghost use Rattle.model.specs.Refusal.{sizes, snapshotSize, workSize};
 ghost use Rattle.writing.specs.Writing.{Writes};
 ghost use Rattle.run.specs.Answers.{resultFor};
 ghost use Rattle.flowrun.specs.Reading.{ReadWithin};
@@ -22,7 +22,7 @@ const TRACE: usize = 28672;
 
 const SNAPSHOT: usize = 2624;
 
-const WORK: usize = 16384;
+const WORK: usize = 4096;
 
 // What the program is started for.
 enum Order {
@@ -93,7 +93,7 @@ fn put_lines(text: &mut [u8], job: &[u8], monitored: bool) -> usize
     requires { ⌜ textSize ≤ length (now text) ⌝ }
     ensures end { λ r. ⌜ r ≤ textSize ⌝ }
     ensures text { λ r. ⌜ Writes
-        (resultLines (now (job .entry)) (resultFor monitored (now (job .entry)) (sizes 28672 2624 16384)))
+        (resultLines (now (job .entry)) (resultFor monitored (now (job .entry)) (sizes 28672 snapshotSize workSize)))
         (now (text .entry)) 0 (now (text .exit)) r ⌝ }
 {
     let mut trace = [0u8; TRACE];

@@ -8,16 +8,17 @@ use lib.ListN.{getD}
 use denote.Ref.{now}
 use borrow.Author.Needs.{needs}
 use borrow.Author.Tests.{eq-eqb, ne-eqb}
+use Rattle.model.specs.Refusal.{workSize}
 use Rattle.conformance.specs.Keeping.{allBelow}
 use Rattle.conformance.proofs.Keeping.{all-none, all-more, all-fails}
 use Rattle.conformance.proofs.buffers.is_cleared.Statement.{statement}
 use Rattle.conformance.proofs.buffers.is_cleared.Tie as tie
 
 abbrev Inv-loop : tie.InvT-loop
-Inv-loop work i₀ i = (i ≤ 16384) × (allBelow (λ k. eqb (getD work k 0) 0) i ≡ true)
+Inv-loop work i₀ i = (i ≤ workSize) × (allBelow (λ k. eqb (getD work k 0) 0) i ≡ true)
 
 abbrev μ-loop : tie.MeasureT-loop
-μ-loop work i₀ i = 16384 - i
+μ-loop work i₀ i = workSize - i
 
 loop-holds : tie.Need-loop-holds Inv-loop μ-loop
 loop-holds c = (search needs, all-none _)
@@ -29,7 +30,7 @@ returns : tie.Need-returns Inv-loop μ-loop
 returns c =
     let work = now (c .before .before .before .before .before .args .work) in
     let i = c .before .before .before .loop .i in
-    sym (all-fails (λ k. eqb (getD work k 0) 0) 16384 i (omega arith) (ne-eqb (getD work i 0) 0 (λ e. c .if1 .taken (c .before .byte-at
+    sym (all-fails (λ k. eqb (getD work k 0) 0) workSize i (omega arith) (ne-eqb (getD work i 0) 0 (λ e. c .if1 .taken (c .before .byte-at
     .ensures .0 ∙ e))))
 
 add-i : tie.Need-add-i Inv-loop μ-loop
@@ -50,7 +51,7 @@ loop-again c =
 returns-2 : tie.Need-returns-2 Inv-loop μ-loop
 returns-2 c =
     let l = c .before .loop in
-    let end : 16384 ≡ l .i = omega arith in
+    let end : workSize ≡ l .i = omega arith in
     sym (rw end (l .inv .1))
 
 pub is-cleared-spec : {M : Type 1} → statement M
