@@ -26,9 +26,9 @@ extern "C" {
  *   snapshot  2,624 bytes
  *   work      4,096 bytes
  *   answer    64 bytes
- *   stack     a call takes less than 20,000 bytes of stack; XX,XXX were measured, on x86-64. The tables of the decoded job and the
+ *   stack     a call takes less than 20,000 bytes of stack; 15,960 were measured, on x86-64. The tables of the decoded job and the
  *             state of the run lie there, in no other memory.
- *   code      XX,XXX bytes with constants, on x86-64, and memcpy and memset of the C library; no variables of its own
+ *   code      10,026 bytes with constants, on x86-64, and memcpy and memset of the C library; no variables of its own
  *
  * A call takes no heap. */
 

@@ -1,15 +1,14 @@
 -- The handler command at a place of a job, in the order of the code's tests.
 use Prim.Native.Nat.{ℕ, _+_, _≤_, _<_}
-use mathlib.Core.Path.{_≡_, refl, sym, _∙_}
+use mathlib.Core.Path.{_≡_, refl}
 use mathlib.Core.Bool.{Bool, true, false, _&&_}
 use mathlib.Core.List.{List}
 use mathlib.Core.Logic.{inl, inr}
-use mathlib.Core.Option.{none}
 use native.Mathlib.Omega.{arith}
 use lib.Dec.{leb}
 use lib.ListN.{length, getD, List·getD-eq-default}
-use borrow.Author.Tests.{leb-true, leb-false, lt-leb, ne-eqb}
-use Rattle.model.specs.Table.{SET, TAKE, CALL, SKIP, width, operandsIn, operandsOf, listOf, kindAt}
+use borrow.Author.Tests.{leb-false, lt-leb, ne-eqb}
+use Rattle.model.specs.Table.{SET, TAKE, CALL, SKIP, operandsIn, operandsOf, listOf, kindAt}
 use Rattle.model.specs.Command.{Parsed, whole, unknown, cutShort, numberAt, endAt, readCommand}
 use Rattle.model.specs.Declared.{instruction}
 use Rattle.model.proofs.Logic.{true-false}

@@ -1,13 +1,12 @@
 -- Rows that agree with the table of the model say what it says. That those of the code agree is computed where they are searched.
-use Prim.Native.Nat.{ℕ, zero, suc, _+_, _<_}
-use mathlib.Core.Path.{_≡_, refl, sym, ap, _∙_}
-use mathlib.Core.List.{List, [], _∷_, map}
+use Prim.Native.Nat.{ℕ, _+_, _<_}
+use mathlib.Core.Path.{_≡_, sym, ap, _∙_}
+use mathlib.Core.List.{List, [], map}
 use mathlib.Core.Logic.{inl, inr}
-use mathlib.Core.Option.{none, some}
-use native.Mathlib.Omega.{arith}
+use mathlib.Core.Option.{none}
 use lib.ListN.{length, getD, drop, List·getD-map}
 use Rattle.model.specs.Table.{OperandKind, scope, owner, start, answer, node, port, target, function, value, variable, jump, absent, width}
-use Rattle.model.specs.Table.{Row, row, table, operandsIn, operandsOf, kindAt}
+use Rattle.model.specs.Table.{Row, row, table, operandsIn, operandsOf}
 use Rattle.model.specs.Command.{numberAt}
 use Rattle.model.proofs.Lists.{getD-default}
 use Rattle.model.proofs.Reading.{rowAt, search-miss, number-none}

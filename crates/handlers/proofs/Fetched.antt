@@ -2,7 +2,7 @@
 use Prim.Native.Nat.{ℕ, _+_, _*_, _≤_, _<_}
 use mathlib.Core.Path.{_≡_, refl, sym, ap, _∙_}
 use mathlib.Core.Bool.{Bool, true, false}
-use mathlib.Core.List.{List, [], _∷_, _++_, map, map-append}
+use mathlib.Core.List.{List, _++_, map, map-append}
 use mathlib.Core.Option.{none, some}
 use native.Mathlib.Omega.{arith}
 use lib.Dec.{ltb}
@@ -10,7 +10,7 @@ use lib.ListN.{length, getD, List·getD-map}
 use borrow.Author.Tests.{ltb-true, ltb-false, le-leb, lt-leb}
 use Rattle.model.specs.Table.{SKIP}
 use Rattle.model.specs.Command.{Command, whole, readCommand}
-use Rattle.model.specs.Declared.{Instruction, instruction, isHandler, belongs, bodyLength, handlerOf, only}
+use Rattle.model.specs.Declared.{Instruction, instruction, isHandler, belongs, handlerOf, only}
 use Rattle.model.specs.Conclusion.{Reads, begin, further}
 use Rattle.model.specs.Valid.{Valid}
 use Rattle.model.proofs.Logic.{and-left}

@@ -5,10 +5,10 @@ use mathlib.Core.Bool.{Bool, true, false, cond}
 use mathlib.Core.List.{List, [], _∷_}
 use native.Mathlib.Omega.{arith}
 use mathlib.Core.Logic.{_⊎_, inl, inr, ⊎-elim}
-use lib.Dec.{eqb, leb, ltb}
+use lib.Dec.{leb, ltb}
 use lib.ListN.{length, getD}
 use borrow.Author.Tests.{eqb-true, eq-eqb, leb-true, le-leb, lt-leb, ltb-true, ltb-false}
-use Rattle.model.specs.Command.{Command, numberAt, readCommand}
+use Rattle.model.specs.Command.{Command, numberAt}
 use Rattle.model.specs.Declared.{isHandler, openBody, belongs, bodyLength}
 use Rattle.model.specs.Conclusion.{Reads, begin, further}
 use Rattle.model.specs.Valid.{Valid}

@@ -10,14 +10,13 @@ use lib.Dec.{ltb}
 use lib.ListN.{length}
 use borrow.Author.Tests.{le-ltb, ltb-false}
 use Rattle.model.specs.Table.{TURN}
-use Rattle.model.specs.Command.{Command}
 use Rattle.model.specs.Declared.{countOf}
 use Rattle.model.specs.Program.{Program}
 use Rattle.model.specs.Run.{Run, monitoredRun, unmonitoredRun}
 use Rattle.model.specs.Refusal.{refuse, Decoded, accepted, rejected, acceptUnless, andThen, decodeJob, Sizes, snapshotSize, workSize}
 use Rattle.model.specs.Refusal.{shortBuffer, shortBufferAsking, decodeFor}
 use Rattle.model.specs.Result.{refused, resultOf, monitored, unmonitored}
-use Rattle.model.specs.WorkSize.{formerWorkSize, formerly, SameAsFormerly, LittleMemoryHolds}
+use Rattle.model.specs.WorkSize.{formerWorkSize, SameAsFormerly, LittleMemoryHolds}
 
 module _ (run : Program → List ℕ → Run) (job : List ℕ) where
   -- test 12 passes, before and now
