@@ -1,17 +1,54 @@
 -- Rows that agree with the table of the model say what it says. That those of the code agree is computed where they are searched.
-use Prim.Native.Nat.{ℕ, _+_, _<_}
-use mathlib.Core.Path.{_≡_, sym, ap, _∙_}
-use mathlib.Core.List.{List, [], map}
-use mathlib.Core.Logic.{inl, inr}
-use mathlib.Core.Option.{none}
-use lib.ListN.{length, getD, drop, List·getD-map}
+use Prim.Native.Nat.{ℕ, _+_, _≤_, _<_}
+use mathlib.Core.Path.{_≡_, refl, sym, ap, _∙_}
+use mathlib.Core.Bool.{Bool, true, false, cond}
+use mathlib.Core.List.{List, [], _∷_, map}
+use mathlib.Core.Logic.{_⊎_, inl, inr}
+use mathlib.Core.Option.{Option, none, some}
+use native.Mathlib.Omega.{arith}
+use native.Mathlib.Numerals.{add-one}
+use lib.Dec.{eqb}
+use lib.ListN.{length, getD, drop, drop-of-length-le}
+use lib.Seq.{drop-cons}
+use borrow.Author.Tests.{eqb-true, eq-eqb, ne-eqb}
 use Rattle.model.specs.Table.{OperandKind, scope, owner, start, answer, node, port, target, function, value, variable, jump, absent, width}
-use Rattle.model.specs.Table.{Row, row, table, operandsIn, operandsOf}
+use Rattle.model.specs.Table.{Row, table, operandsIn, operandsOf, listOf, kindAt, groupOf, Limit, largestOf}
 use Rattle.model.specs.Command.{numberAt}
-use Rattle.model.proofs.Lists.{getD-default}
-use Rattle.model.proofs.Reading.{rowAt, search-miss, number-none}
-use Rattle.command.specs.Rows.{unpacked, Says, Said, given, wanted, Agree, IsRow}
+use Rattle.model.proofs.Reading.{number-none}
+use Rattle.command.specs.Rows.{unpacked, kindOf, limitOf, Says, rowIn, IsRow}
 use Rattle.command.specs.Reading.{IsWidth}
+
+-- what a row says, all columns together: byte, group and widths; kinds; largest count; that its byte is a command
+pub record Said : Type 0 where
+  pub numbers : List ℕ
+  pub kinds : List OperandKind
+  pub most : Option Limit
+  pub operands : Option (List OperandKind)
+
+-- a packed row says this
+abbrev pub given : ℕ → Said
+given p =
+    let s = unpacked p in
+    record {
+      numbers = s .byte ∷ s .group ∷ s .«first_width» ∷ s .«second_width» ∷ s .«third_width» ∷ [];
+      kinds = kindOf (s .«first_kind») ∷ kindOf (s .«second_kind») ∷ kindOf (s .«third_kind») ∷ [];
+      most = limitOf (s .byte) (s .most);
+      operands = some (listOf (operandsOf (s .byte)));
+    }
+
+-- the model says this of a byte
+abbrev pub wanted : ℕ → Said
+wanted b =
+    record {
+      numbers = b ∷ groupOf b ∷ width (kindAt b 0) ∷ width (kindAt b 1) ∷ width (kindAt b 2) ∷ [];
+      kinds = kindAt b 0 ∷ kindAt b 1 ∷ kindAt b 2 ∷ [];
+      most = largestOf b;
+      operands = operandsOf b;
+    }
+
+-- the packed rows say what the model says of the bytes of its rows
+pub record Agree (rows : List ℕ) : Type 0 where
+  pub same : map given rows ≡ map (λ (r : Row). wanted (r .byte)) table
 
 says-as : (b p : ℕ) → given p ≡ wanted b → Says b (unpacked p)
 says-as b p e =
@@ -29,26 +66,47 @@ says-as b p e =
       most = rw same at (ap (λ (x : Said). x .most) e);
     }
 
-module _ {rows : List ℕ} (agree : Agree rows) (i : ℕ) (h : i < length table) where
-  -- row i
-  shaped : given (getD rows i 0) ≡ wanted (rowAt i .byte)
-  shaped =
-      sym (List·getD-map given rows i 0)
-      ∙ ap (λ (l : List Said). getD l i (given 0)) (agree .same)
-      ∙ getD-default (map (λ (r : Row). wanted (r .byte)) table) i (given 0) (wanted 0) h
-      ∙ List·getD-map (λ (r : Row). wanted (r .byte)) table i (row 0 [])
+-- of rows that agree with those of a table, the first with a byte is the row of that byte; if none has it, the byte is not in the table
+found-in :
+    (b : ℕ) (rows : List ℕ) (of : List Row) → map given rows ≡ map (λ (r : Row). wanted (r .byte)) of
+    → Says b (unpacked (rowIn rows b)) ⊎ ((operandsIn of b ≡ none) × (rowIn rows b ≡ 0))
+unfolding rowIn operandsIn
+found-in b [] [] e = inr (refl, refl)
+found-in b [] (r ∷ of) e = let z = ap length e in absurd (omega arith)
+found-in b (p ∷ rows) [] e = let z = ap length e in absurd (omega arith)
+found-in b (p ∷ rows) (r ∷ of) e =
+    by-byte (eqb (unpacked p .byte) b) refl (found-in b rows of (ap (λ (l : List Said). drop 1 l) e))
+  where
+    said : given p ≡ wanted (r .byte)
+    said = ap (λ (l : List Said). getD l 0 (given p)) e
 
-  same-byte : unpacked (getD rows i 0) .byte ≡ rowAt i .byte
-  same-byte = ap (λ (x : Said). getD (x .numbers) 0 0) shaped
+    same : unpacked p .byte ≡ r .byte
+    same = ap (λ (x : Said). getD (x .numbers) 0 0) said
 
-  -- it has the byte that is looked up
-  pub row-found : (b : ℕ) → unpacked (getD rows i 0) .byte ≡ b → Says b (unpacked (getD rows i 0))
-  row-found b e = says-as b (getD rows i 0) (rw (sym same-byte ∙ e) at shaped)
+    by-byte :
+        (t : Bool) → eqb (unpacked p .byte) b ≡ t → Says b (unpacked (rowIn rows b)) ⊎ ((operandsIn of b ≡ none) × (rowIn rows b ≡ 0))
+        → Says b (unpacked (cond t p (rowIn rows b)))
+        ⊎ ((cond (eqb (r .byte) b) (some (r .operands)) (operandsIn of b) ≡ none) × (cond t p (rowIn rows b) ≡ 0))
+    by-byte true t ih = inl (says-as b p (rw (sym same ∙ eqb-true (unpacked p .byte) b t) at said))
+    by-byte false t ih = rw (← same, t) ih
 
-  -- it has not
-  pub row-passed : (b : ℕ) → operandsOf b ≡ operandsIn (drop i table) b → ¬ (unpacked (getD rows i 0) .byte ≡ b)
-      → operandsOf b ≡ operandsIn (drop (i + 1) table) b
-  row-passed b e n = search-miss b i e h (λ q. n (same-byte ∙ q))
+pub row-found : (b p : ℕ) (rows : List ℕ) → p ≡ rowIn rows b → Agree rows → IsRow b p
+unfolding operandsOf
+row-found b p rows e agree = rw e (found-in b rows table (agree .same))
+
+-- the search for a byte, from row i on: row i has it, or has not; none is left
+module _ (rows : List ℕ) (b i : ℕ) where
+  pub row-here : i < length rows → unpacked (getD rows i 0) .byte ≡ b → rowIn (drop i rows) b ≡ getD rows i 0
+  unfolding rowIn
+  row-here h e = rw (drop-cons rows i 0 h, eq-eqb (unpacked (getD rows i 0) .byte) b e)
+
+  pub row-passed : i < length rows → ¬ (unpacked (getD rows i 0) .byte ≡ b) → rowIn (drop i rows) b ≡ rowIn (drop (i + 1) rows) b
+  unfolding rowIn
+  row-passed h n = rw (drop-cons rows i 0 h, add-one, ne-eqb (unpacked (getD rows i 0) .byte) b n)
+
+  pub row-missing : length rows ≤ i → rowIn (drop i rows) b ≡ 0
+  unfolding rowIn
+  row-missing h = ap (λ (l : List ℕ). rowIn l b) (drop-of-length-le rows h)
 
 -- a row that is not 0 is that of its byte, and 0 stands for no command
 pub row-there : (b p : ℕ) → IsRow b p → ¬ (p ≡ 0) → Says b (unpacked p)

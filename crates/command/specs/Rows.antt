@@ -1,14 +1,14 @@
 -- The rows of the code's table, and what they say in the model's words.
 use Prim.Native.Nat.{ℕ, zero, suc, _/_, _%_}
 use mathlib.Core.Path.{_≡_}
-use mathlib.Core.Bool.{Bool, _&&_}
-use mathlib.Core.List.{List, [], _∷_, map}
+use mathlib.Core.Bool.{Bool, cond, _&&_}
+use mathlib.Core.List.{List, [], _∷_}
 use mathlib.Core.Logic.{_⊎_}
 use mathlib.Core.Option.{Option, none, some}
-use lib.Dec.{leb}
+use lib.Dec.{leb, eqb}
 use lib.ListN.{getD}
 use Rattle.model.specs.Table.{SET, SKIP, OperandKind, scope, owner, start, answer, node, port, target, function, value, variable, jump}
-use Rattle.model.specs.Table.{absent, width, Row, table, operandsOf, listOf, kindAt, groupOf, Limit, limit, largestOf}
+use Rattle.model.specs.Table.{absent, width, operandsOf, listOf, kindAt, groupOf, Limit, limit, largestOf}
 use Rattle.command.specs.declared.table.Row.{Row as Shape}
 use Rattle.command.specs.declared.table.Lookup.{Lookup}
 use Rattle.command.specs.declared.table.Lookup.the-variants.{Found, Missing}
@@ -50,37 +50,10 @@ pub record Says (b : ℕ) (s : Shape) : Type 0 where
   pub kind₃ : kindOf (s .«third_kind») ≡ kindAt b 2
   pub most : limitOf b (s .most) ≡ largestOf b
 
--- what a row says, all columns together: byte, group and widths; kinds; largest count; that its byte is a command
-pub record Said : Type 0 where
-  pub numbers : List ℕ
-  pub kinds : List OperandKind
-  pub most : Option Limit
-  pub operands : Option (List OperandKind)
-
--- a packed row says this
-abbrev pub given : ℕ → Said
-given p =
-    let s = unpacked p in
-    record {
-      numbers = s .byte ∷ s .group ∷ s .«first_width» ∷ s .«second_width» ∷ s .«third_width» ∷ [];
-      kinds = kindOf (s .«first_kind») ∷ kindOf (s .«second_kind») ∷ kindOf (s .«third_kind») ∷ [];
-      most = limitOf (s .byte) (s .most);
-      operands = some (listOf (operandsOf (s .byte)));
-    }
-
--- the model says this of a byte
-abbrev pub wanted : ℕ → Said
-wanted b =
-    record {
-      numbers = b ∷ groupOf b ∷ width (kindAt b 0) ∷ width (kindAt b 1) ∷ width (kindAt b 2) ∷ [];
-      kinds = kindAt b 0 ∷ kindAt b 1 ∷ kindAt b 2 ∷ [];
-      most = largestOf b;
-      operands = operandsOf b;
-    }
-
--- the packed rows say what the model says of the bytes of its rows
-pub record Agree (rows : List ℕ) : Type 0 where
-  pub same : map given rows ≡ map (λ (r : Row). wanted (r .byte)) table
+-- the first of some packed rows with this byte; 0 if none has it
+unfoldable pub rowIn : List ℕ → ℕ → ℕ
+rowIn [] b = 0
+rowIn (p ∷ rows) b = cond (eqb (unpacked p .byte) b) p (rowIn rows b)
 
 -- the packed row of a byte; 0 if the byte is no command
 abbrev pub IsRow : ℕ → ℕ → Type 0

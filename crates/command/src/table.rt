@@ -1,6 +1,6 @@
 // The command table: each command byte with its group, the widths and kinds of its operands, and its largest count.
 ghost use mathlib.Core.Path.{_≡_};
-ghost use Rattle.command.specs.Rows.{unpacked, Agree, IsRow, Finds};
+ghost use Rattle.command.specs.Rows.{unpacked, rowIn, IsRow, Finds};
 
 // What an operand is, by the name in its column of the paper's table; NO_OPERAND where the command has none.
 pub const NO_OPERAND: u8 = 0;
@@ -88,13 +88,12 @@ pub fn unpack(row: u64) -> Row
     }
 }
 
-// The row of a byte among those of the table; 0 if it is no command.
-fn row_in(rows: &[u64; ROW_COUNT], byte: u8) -> u64
-    requires { ⌜ Agree (now rows) ⌝ }
-    ensures { λ r. ⌜ IsRow byte r ⌝ }
+// The first of some rows with this byte; 0 if none has it.
+fn row_in(rows: &[u64], byte: u8) -> u64
+    ensures { λ r. ⌜ r ≡ rowIn (now (rows .entry)) byte ⌝ }
 {
-    let mut i = 0;
-    while i < ROW_COUNT {
+    let mut i: usize = 0;
+    while i < rows.len() {
         let row = rows[i];
         if (row % 0x100) as u8 == byte {
             return row;

@@ -1,37 +1,17 @@
--- Looking a byte up in the table by a loop over its rows, and reading one command, in the order of a program's tests.
+-- Reading one command, in the order of a program's tests.
 use Prim.Native.Nat.{ℕ, _+_, _*_, _≤_, _<_}
-use mathlib.Core.Path.{_≡_, refl, ap, _∙_}
+use mathlib.Core.Path.{_≡_, refl}
 use mathlib.Core.Bool.{Bool, true, false, cond}
-use mathlib.Core.List.{List, []}
+use mathlib.Core.List.{List}
 use mathlib.Core.Option.{Option, none, some}
 use native.Mathlib.Omega.{arith}
-use native.Mathlib.Numerals.{add-one}
 use lib.Dec.{leb}
-use lib.ListN.{length, getD, drop, drop-of-length-le}
-use lib.Seq.{drop-cons}
-use borrow.Author.Tests.{ne-eqb, le-leb, lt-leb, leb-true}
-use Rattle.model.specs.Table.{OperandKind, absent, width, Row, row, table, operandsIn, operandsOf}
+use lib.ListN.{length, getD}
+use borrow.Author.Tests.{le-leb, lt-leb, leb-true}
+use Rattle.model.specs.Table.{OperandKind, absent, width, operandsOf}
 use Rattle.model.specs.Command.{Command, numberAt, whole, unknown, cutShort, endAt, firstAt, secondAt, thirdAt, commandAt, readAs}
 use Rattle.model.specs.Command.{readCommand}
 use Rattle.model.specs.Valid.{Plain}
-
--- row i of the table, counted from 0
-abbrev pub rowAt : ℕ → Row
-rowAt i = getD table i (row 0 [])
-
--- the search for a byte, from row i on
-pub search-start : (b : ℕ) → operandsOf b ≡ operandsIn (drop 0 table) b
-unfolding operandsOf
-search-start b = refl
-
-module _ (b i : ℕ) (e : operandsOf b ≡ operandsIn (drop i table) b) where
-  pub search-miss : i < length table → ¬ (rowAt i .byte ≡ b) → operandsOf b ≡ operandsIn (drop (i + 1) table) b
-  unfolding operandsIn
-  search-miss h t = e ∙ rw (drop-cons table i (row 0 []) h, add-one, ne-eqb (rowAt i .byte) b t)
-
-  pub search-end : length table ≤ i → operandsOf b ≡ none
-  unfolding operandsIn
-  search-end h = e ∙ ap (λ (l : List Row). operandsIn l b) (drop-of-length-le table h)
 
 -- an operand of 4 bytes, of 1 byte, and of none
 pub number-four : (job : List ℕ) (at : ℕ) → numberAt job at 4 ≡ getD job at 0 + getD job (at + 1) 0 * 256 + getD job

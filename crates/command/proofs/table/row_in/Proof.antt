@@ -1,54 +1,46 @@
 -- `command::table::row_in` meets its contract.
 use Prim.Native.Nat.{_≤_, _-_}
-use mathlib.Core.Path.{_≡_, refl}
-use mathlib.Core.Logic.{inl, inr}
+use mathlib.Core.Path.{_≡_, refl, sym, _∙_}
 use native.Mathlib.Omega.{arith}
 use lib.ListN.{length, drop}
 use borrow.Author.Needs.{needs}
-use Rattle.model.specs.Table.{table, operandsIn, operandsOf}
-use Rattle.model.proofs.Reading.{search-start, search-end}
-use Rattle.command.specs.Rows.{Agree}
-use Rattle.command.proofs.Shaped.{row-found, row-passed}
+use Rattle.command.specs.Rows.{rowIn}
+use Rattle.command.proofs.Shaped.{row-here, row-passed, row-missing}
 use Rattle.command.proofs.table.row_in.Statement.{statement}
 use Rattle.command.proofs.table.row_in.Tie as tie
 
 abbrev Inv-loop : tie.InvT-loop
-Inv-loop rows byte i₀ i = (i ≤ length table) × Agree rows × (operandsOf byte ≡ operandsIn (drop i table) byte)
+Inv-loop rows byte i₀ i = (i ≤ length rows) × (rowIn rows byte ≡ rowIn (drop i rows) byte)
 
 abbrev μ-loop : tie.MeasureT-loop
-μ-loop rows byte i₀ i = length table - i
+μ-loop rows byte i₀ i = length rows - i
 
 loop-holds : tie.Need-loop-holds Inv-loop μ-loop
-loop-holds c = (omega arith, c .pre, search-start (c .args .byte))
+loop-holds c = (omega arith, refl)
 
 mul-row : tie.Need-mul-row Inv-loop μ-loop
 mul-row c = search needs
 
-element-copy-out-row : tie.Need-element-copy-out-row Inv-loop μ-loop
-element-copy-out-row c = search needs
+shared-slice-read-row : tie.Need-shared-slice-read-row Inv-loop μ-loop
+shared-slice-read-row c = search needs
 
 cast-if1 : tie.Need-cast-if1 Inv-loop μ-loop
 cast-if1 c = search needs
 
 returns : tie.Need-returns Inv-loop μ-loop
-returns c = inl (row-found (c .before .before .before .loop .inv .1) _ (c .before .before .loop-test .taken) _ (c .if1 .taken))
+returns c = sym (c .before .before .before .loop .inv .1 ∙ row-here _ _ _ (c .before .before .loop-test .taken) (c .if1 .taken))
 
 add-i : tie.Need-add-i Inv-loop μ-loop
-add-i c = omega arith
+add-i c = search needs
 
 loop-less : tie.Need-loop-less Inv-loop μ-loop
-loop-less c = omega arith
+loop-less c = search needs
 
 loop-again : tie.Need-loop-again Inv-loop μ-loop
-loop-again c =
-    let kept = c .before .before .before .loop .inv in (
-      omega arith,
-      kept .1,
-      row-passed (kept .1) _ (c .before .before .loop-test .taken) _ (kept .2) (c .if1 .left),
-    )
+loop-again c = (search needs, c .before .before .before .loop .inv .1 ∙ row-passed _ _ _ (c .before .before .loop-test .taken) (c .if1 .left))
 
 returns-2 : tie.Need-returns-2 Inv-loop μ-loop
-returns-2 c = inr (search-end _ _ (c .before .loop .inv .2) (c .loop-test .left), refl)
+returns-2 c = sym (c .before .loop .inv .1 ∙ row-missing _ _ _ (c .loop-test .left))
 
 pub row-in-spec : {M : Type 1} → statement M
 row-in-spec =
@@ -58,7 +50,7 @@ row-in-spec =
     μ-loop
     loop-holds
     mul-row
-    element-copy-out-row
+    shared-slice-read-row
     cast-if1
     returns
     add-i
