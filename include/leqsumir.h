@@ -1,7 +1,7 @@
 /* Running a job, monitored or not: the C functions of the static library librun.a.
  *
- * Document 01 says what a job is, what a run does and when a job is refused. "Monitored" is 01's "watched", "unmonitored" its "bare",
- * "snapshot" its "end picture". Both functions are proved to do what the definitions of 01 say, for any bytes and any lengths. */
+ * Document 01, with request S-9 of document 02, says what a job is, what a run does and when a job is refused. "Monitored" is 01's "watched", "unmonitored" its "bare",
+ * "snapshot" its "end picture". Both functions are proved to do what the definitions of 01 and S-9 say, for any bytes and any lengths. */
 #ifndef LEQSUMIR_H
 #define LEQSUMIR_H
 
@@ -26,7 +26,7 @@ extern "C" {
  *   snapshot  2,624 bytes
  *   work      4,096 bytes
  *   answer    64 bytes
- *   stack     a call takes less than 20,000 bytes of stack; 15,960 were measured, on x86-64. The tables of the decoded job and the
+ *   stack     a call takes less than 20,000 bytes of stack; 15,960 were measured, on x86-64, with less than 300 of the caller. The tables of the decoded job and the
  *             state of the run lie there, in no other memory.
  *   code      10,026 bytes with constants, on x86-64, and memcpy and memset of the C library; no variables of its own
  *

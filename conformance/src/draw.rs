@@ -1,5 +1,5 @@
-//! Fresh runs: a generated job in both modes, with seeds and buffer lengths of their own. Of a tenth of the jobs the
-//! handlers are moved to later places.
+//! Fresh runs: a generated job in both modes, with seeds and buffer lengths of their own. A tenth of the jobs is
+//! drawn to have its handlers moved to later places: those of them that are accepted and stay short enough.
 
 use flow_reference::corpus::{Change, Run};
 use flow_reference::generate::buffers::{self, Lengths};

@@ -31,13 +31,13 @@ instructionOf i.Skip = instruction SKIP 0
 abbrev pub recognised : ℕ → ℕ → Meant
 recognised b x = cond (eqb b TAKE) (instruction TAKE 0) (cond (leb SET b && leb b CALL) (instruction b x) (instruction SKIP 0))
 
--- the handler command in what is read; SKIP if that is no command
+-- the handler command in what is read; SKIP if that is none
 abbrev pub instructionIn : Parsed → Meant
 instructionIn (whole c next) = recognised (c .byte) (c .operands .first)
 instructionIn unknown = instruction SKIP 0
 instructionIn cutShort = instruction SKIP 0
 
--- the handler command at a place of a job
+-- the handler command at a place of a job; SKIP if there is none
 abbrev pub instructionFrom : List ℕ → ℕ → Meant
 instructionFrom job place = instructionIn (readCommand job place)
 

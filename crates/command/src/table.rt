@@ -117,8 +117,8 @@ pub enum Lookup {
     Missing,
 }
 
-// The row of a command byte, for a reader that takes the answer apart. It searches the rows itself: a function that has them is compiled
-// into one caller only.
+// The row of a command byte, for a reader that takes the answer apart. It does not call `row_of`: the compiler inlines a function that has
+// the rows into one caller only.
 pub fn look_up(byte: u8) -> Lookup
     ensures { λ r. ⌜ Finds byte r ⌝ }
 {

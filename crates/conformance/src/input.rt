@@ -24,13 +24,13 @@ pub enum Record {
 }
 
 // The largest lengths.
-pub const JOB: usize = 16400;
+pub const LONGEST_JOB: usize = 16400;
 
-pub const TRACE: usize = 28800;
+pub const LONGEST_TRACE: usize = 28800;
 
-pub const SNAPSHOT: usize = 2700;
+pub const LONGEST_SNAPSHOT: usize = 2700;
 
-pub const WORK: usize = 16500;
+pub const LONGEST_WORK: usize = 16500;
 
 // A byte as a number, which is below 256.
 pub fn wide(x: u8) -> usize
@@ -65,16 +65,16 @@ fn read_head() -> Record {
 fn is_short(head: Head) -> bool
     ensures { λ r. ⌜ Short head r ⌝ }
 {
-    if JOB < head.job {
+    if LONGEST_JOB < head.job {
         return false;
     }
-    if TRACE < head.trace {
+    if LONGEST_TRACE < head.trace {
         return false;
     }
-    if SNAPSHOT < head.snapshot {
+    if LONGEST_SNAPSHOT < head.snapshot {
         return false;
     }
-    if WORK < head.work {
+    if LONGEST_WORK < head.work {
         return false;
     }
     true

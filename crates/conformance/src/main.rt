@@ -8,11 +8,11 @@ use buffers::change_one;
 use buffers::fill_all;
 use buffers::kept;
 use input::Head;
-use input::JOB;
+use input::LONGEST_JOB;
+use input::LONGEST_SNAPSHOT;
+use input::LONGEST_TRACE;
+use input::LONGEST_WORK;
 use input::Record;
-use input::SNAPSHOT;
-use input::TRACE;
-use input::WORK;
 use input::read_run;
 use libc::STDOUT_FILENO;
 use printing::Printed;
@@ -100,10 +100,10 @@ fn conform_all(text: &mut [u8]) -> usize
     requires { ⌜ length (now text) ≡ 262144 ⌝ }
     ensures { λ r. ⌜ r ≤ 262144 ⌝ }
 {
-    let mut job = [0u8; JOB];
-    let mut trace = [0u8; TRACE];
-    let mut snapshot = [0u8; SNAPSHOT];
-    let mut work = [0u8; WORK];
+    let mut job = [0u8; LONGEST_JOB];
+    let mut trace = [0u8; LONGEST_TRACE];
+    let mut snapshot = [0u8; LONGEST_SNAPSHOT];
+    let mut work = [0u8; LONGEST_WORK];
     let mut at: usize = 0;
     let mut left = u64::MAX;
     while left > 0 {

@@ -30,8 +30,8 @@ pub record EngineMeets (job t w : List ℕ) (past : List Command) : Type 0 where
       → Comes (view s) (ruleOf monitored (programOf past) (view s) n) (turned .outcome) (view (turned .state))
   pub nodes : (k : ℕ) → k < length (turnsOf past) → turnIn job t k < maxNodes
 
--- the claim: for every accepted job, with tables that stand for its commands, as decoding leaves them, and a work buffer with its
--- handlers, as loading leaves it
+-- the claim: for every accepted job, with tables that stand for its commands, as decoding leaves them, and a work buffer with the places of
+-- its handler commands, as loading leaves it
 abbrev pub EngineHolds : Type 0
 EngineHolds =
     (job t w : List ℕ) (past : List Command) → decodeJob job ≡ accepted past → Stands t past → workSize ≤ length w

@@ -23,8 +23,8 @@ fn store(work: &mut [u8], n: NodeNum, i: u32, place: usize)
 {
     let at = slot_of(n, i);
     if at + 2 <= work.len() {
-        let high = put_byte(work, at, (place % 256) as u8);
-        put_byte(work, high, (place / 256 % 256) as u8);
+        let second = put_byte(work, at, (place % 256) as u8);
+        put_byte(work, second, (place / 256 % 256) as u8);
     }
 }
 

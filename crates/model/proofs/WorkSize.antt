@@ -16,7 +16,7 @@ use Rattle.model.specs.Run.{Run, monitoredRun, unmonitoredRun}
 use Rattle.model.specs.Refusal.{refuse, Decoded, accepted, rejected, acceptUnless, andThen, decodeJob, Sizes, snapshotSize, workSize}
 use Rattle.model.specs.Refusal.{shortBuffer, shortBufferAsking, decodeFor}
 use Rattle.model.specs.Result.{refused, resultOf, monitored, unmonitored}
-use Rattle.model.specs.WorkSize.{formerWorkSize, SameAsFormerly, LittleMemoryHolds}
+use Rattle.model.specs.WorkSize.{formerWorkSize, SameAsFormerly, WorkSizeHolds}
 
 module _ (run : Program → List ℕ → Run) (job : List ℕ) where
   -- test 12 passes, before and now
@@ -52,9 +52,9 @@ unfolding decodeFor
 same-as run =
     record {
       longEnough = λ job b b′ t s h k. long-enough run job b b′ t s h k (decodeJob job);
-      aside = λ job b. aside run job b (decodeJob job);
+      sameBuffers = λ job b. aside run job b (decodeJob job);
     }
 
-pub little-memory-holds : LittleMemoryHolds
+pub work-size-holds : WorkSizeHolds
 unfolding monitored unmonitored
-little-memory-holds = record { ofMonitored = same-as monitoredRun; ofUnmonitored = same-as unmonitoredRun }
+work-size-holds = record { ofMonitored = same-as monitoredRun; ofUnmonitored = same-as unmonitoredRun }

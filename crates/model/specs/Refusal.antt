@@ -204,7 +204,7 @@ pub record Sizes : Type 0 where
 abbrev pub sizes : ℕ → ℕ → ℕ → Sizes
 sizes trace snapshot work = record { trace = trace; snapshot = snapshot; work = work }
 
--- the lengths that the snapshot buffer ("picture buffer") and the work buffer must have; of the latter two bytes for each of 64 commands of
+-- the lengths that the snapshot buffer ("picture buffer") and the work buffer must have; the latter has two bytes for each of 64 commands of
 -- 32 nodes (S-9)
 abbrev pub snapshotSize : ℕ
 snapshotSize = 2624
@@ -212,8 +212,7 @@ snapshotSize = 2624
 abbrev pub workSize : ℕ
 workSize = 4096
 
--- 10 to 12: the trace, snapshot or work buffer is too short; the place is the job's length. The first number is what is asked of the work
--- buffer
+-- the trace, snapshot or work buffer is too short, with a given length asked of the work buffer; the place is the job's length
 abbrev pub shortBufferAsking : ℕ → List ℕ → Sizes → List Command → Option Refusal
 shortBufferAsking asked job b past =
     cond (ltb (b .trace) (7 * countOf TURN past)) (some (refuse 10 (length job)))
@@ -221,6 +220,7 @@ shortBufferAsking asked job b past =
     (cond (ltb (b .work) asked) (some (refuse 12 (length job)))
     none))
 
+-- 10 to 12
 abbrev pub shortBuffer : List ℕ → Sizes → List Command → Option Refusal
 shortBuffer = shortBufferAsking workSize
 

@@ -1,5 +1,5 @@
 -- Request S-9: "Refusal 12 aside, all answers, traces and pictures are equal to those before." Only test 12 and the zeros afterwards name the
--- length of the work buffer; what a run hands over does not depend on it.
+-- length of the work buffer; what an accepted job hands over does not depend on it.
 use Prim.Native.Nat.{ℕ, _≤_}
 use mathlib.Core.Path.{_≡_}
 use mathlib.Core.Logic.{_⊎_}
@@ -20,15 +20,15 @@ formerly run job b = resultOf run (andThen (shortBufferAsking formerWorkSize job
 
 -- what is handed over now is what was handed over before
 pub record SameAsFormerly (run : Program → List ℕ → Run) (result : List ℕ → Sizes → Result) : Type 0 where
-  -- with work buffers that are long enough, before and now, whatever their lengths
+  -- with trace and snapshot buffers of the same lengths, and work buffers that are long enough, before and now
   pub longEnough :
       (job : List ℕ) (b b′ : Sizes) → b .trace ≡ b′ .trace → b .snapshot ≡ b′ .snapshot → formerWorkSize ≤ b .work → workSize ≤ b′ .work
       → formerly run job b ≡ result job b′
   -- with the same buffers, refusal 12 aside
-  pub aside :
+  pub sameBuffers :
       (job : List ℕ) (b : Sizes) → (formerly run job b ≡ refused (refuse 12 (length job))) ⊎ (formerly run job b ≡ result job b)
 
 -- the claim on the monitored ("watched") and on the unmonitored ("bare") run
-pub record LittleMemoryHolds : Type 0 where
+pub record WorkSizeHolds : Type 0 where
   pub ofMonitored : SameAsFormerly monitoredRun monitored
   pub ofUnmonitored : SameAsFormerly unmonitoredRun unmonitored

@@ -12,7 +12,7 @@ use Rattle.command.specs.Reading.{commandOf}
 use Rattle.command.specs.Rows.{isHandlerByte}
 use Rattle.tables.specs.Cells.{putIn}
 use Rattle.tables.specs.Tables.{openIn, lengthIn, lengthCells}
-use Rattle.notes.specs.Writes.{oneMore, Write, made, written, handlerWrite, declaredWrites, commandWrites}
+use Rattle.tables.specs.Writes.{oneMore, Write, made, written, handlerWrite, declaredWrites, commandWrites}
 
 -- a write, if it is made
 made-if : (t : List ℕ) (w : Write) → cond (w .on) (putIn t (w .section) (w .cell) (w .value)) t ≡ made t w
@@ -20,11 +20,11 @@ unfolding made
 made-if t w = refl
 
 -- writes of which none is made
-abbrev noneOn : List Write → Bool
+abbrev pub noneOn : List Write → Bool
 noneOn [] = true
 noneOn (w ∷ ws) = not (w .on) && noneOn ws
 
-none-made : (t : List ℕ) (ws : List Write) → noneOn ws ≡ true → written t ws ≡ t
+pub none-made : (t : List ℕ) (ws : List Write) → noneOn ws ≡ true → written t ws ≡ t
 unfolding made
 none-made t [] e = refl
 none-made t (w ∷ ws) e = by-test (w .on) refl e (none-made t ws)

@@ -28,16 +28,10 @@ use Rattle.tables.specs.Tables.{bodyCells, startedCells, firstCells, messageCel
 use Rattle.tables.specs.Tables.{writeCells, anyCells, wireCells, countIn, groupIn, openIn, flowIn, lengthIn, listedIn, wiredIn}
 use Rattle.tables.specs.Stands.{Stands}
 use Rattle.notes.specs.Notes.{Notes}
-use Rattle.notes.specs.Writes.{oneMore, Write, write, made, written, commandWrites}
+use Rattle.tables.specs.Writes.{oneMore, made, written, commandWrites, noteWrites, tablesOf}
 use Rattle.notes.proofs.Sections.{sorted, left, length-written, entry-written}
 use Rattle.command.proofs.Known.{byte-low}
 use Rattle.notes.proofs.Cases.{column, flag, marking, wire}
-
--- the writes for a command, by the cells before
-abbrev noteWrites : List ℕ → Command → List Write
-noteWrites t c =
-    commandWrites t c
-    ++ (write true countCells (c .byte) (oneMore (countIn t (c .byte))) ∷ write true progressCells 0 (groupOf (c .byte)) ∷ [])
 
 -- one more, where that is counted
 more : (n : ℕ) → n < 65536 → oneMore n ≡ n + 1
@@ -369,7 +363,7 @@ module _ (t : List ℕ) (past : List Command) (c : Command) (s : Stands t past) 
 
   -- the tables stand for one command more
   pub stands-next : Stands (written t (noteWrites t c)) (c ∷ past)
-  unfolding after
+  unfolding after tablesOf
   stands-next =
       record {
         size = length-written t (noteWrites t c) ∙ s .size;
@@ -390,6 +384,7 @@ module _ (t : List ℕ) (past : List Command) (c : Command) (s : Stands t past) 
         writes = writes-next;
         anys = anys-next;
         arguments = arguments-next;
+        cells = ap (λ (u : List ℕ). written u (noteWrites u c)) (s .cells);
       }
 
 -- the tables after the writes as the code makes them, one after the other

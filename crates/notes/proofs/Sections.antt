@@ -11,7 +11,7 @@ use borrow.Author.Tests.{ltb-true, ltb-false, leb-true, eqb-true, eqb-false}
 use Rattle.model.proofs.Logic.{and-left, and-right}
 use Rattle.tables.specs.declared.cells.Section.{Section}
 use Rattle.tables.specs.Cells.{entryIn, putIn}
-use Rattle.notes.specs.Writes.{Write, made, written}
+use Rattle.tables.specs.Writes.{Write, made, written}
 use Rattle.tables.proofs.Writing.{entry-inside, entry-outside, put-inside, put-outside}
 
 -- the length stays

@@ -1,2 +1,2 @@
 pub mod Notes
-pub mod Writes
+pub mod Forgotten

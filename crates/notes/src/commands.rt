@@ -7,7 +7,7 @@ ghost use Rattle.command.specs.Rows.{isHandlerByte};
 ghost use Rattle.tables.specs.Cells.{cellCount, putIn};
 ghost use Rattle.tables.specs.Tables.{countIn, openIn, flowIn, lengthIn, flowCells, answerCells, lengthCells, progressCells, bodyCells};
 ghost use Rattle.tables.specs.Tables.{startedCells, firstCells, messageCells};
-ghost use Rattle.notes.specs.Writes.{oneMore};
+ghost use Rattle.tables.specs.Writes.{oneMore};
 use crate::one_less;
 use crate::one_more;
 use command::bytes;

@@ -5,7 +5,7 @@ ghost use mathlib.Core.Path.{_≡_};
 ghost use Prim.Native.Nat.{_-_};
 ghost use Rattle.command.specs.Reading.{commandOf};
 ghost use Rattle.notes.specs.Notes.{Notes};
-ghost use Rattle.notes.specs.Writes.{commandWrites, oneMore, written};
+ghost use Rattle.tables.specs.Writes.{commandWrites, oneMore, written};
 use command::bytes;
 use command::numbers::NodeNum;
 use command::read::Command;

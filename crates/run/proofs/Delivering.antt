@@ -101,7 +101,7 @@ module _ (job t : List ℕ) (b : Sizes) (f : AcceptedWith job t b) where
   is-ready w after long e =
       record { past = past; decoded = both .0; stands = f .stands; before = w; long = long; holds = e ∙ loads w }
 
-  -- zeros over the loaded handlers are zeros over what was there before
+  -- zeros over the loaded places are zeros over what was there before
   zeros-over : (w : List ℕ) → written (replicate workSize 0) (loaded w past) ≡ written (replicate workSize 0) w
   zeros-over w = over-same workSize (loaded w past) w (length-loaded w past) (beyond-loaded w past (valid .commands))
 

@@ -13,6 +13,7 @@ use Rattle.model.specs.Refusal.{groupFalls}
 use Rattle.tables.specs.declared.cells.Section.{Section}
 use Rattle.tables.specs.Cells.{cellCount, entryIn, flagIn, isMarkPlace, markCell, markIn, blank}
 use Rattle.tables.specs.Tables.{countCells, progressCells, firstCells, wireCells, countIn, listedIn}
+use Rattle.tables.specs.Writes.{tablesOf}
 use Rattle.tables.specs.Stands.{Stands}
 use Rattle.tables.proofs.Setting.{bit-zero}
 use Rattle.tables.proofs.Writing.{entry-inside, entry-outside}
@@ -41,7 +42,7 @@ unfolding listedIn
 listed-blank k n f v e = rw e
 
 pub stands-blank : Stands blank []
-unfolding groupFalls countOf occurs declared openBody bodyLength startsOf startedIn blank
+unfolding groupFalls countOf occurs declared openBody bodyLength startsOf startedIn blank tablesOf
 stands-blank =
     record {
       size = length-replicate {A = ℕ} cellCount 0;
@@ -62,4 +63,5 @@ stands-blank =
       writes = λ n x. mark-blank _ n x (omega arith);
       anys = λ n f. mark-blank _ n f (omega arith);
       arguments = λ n f v. listed-blank (countIn blank ARG) n f v (entry-blank countCells ARG (omega arith));
+      cells = refl;
     }

@@ -1,5 +1,6 @@
 pub mod Bits
 pub mod Cells
 pub mod Tables
+pub mod Writes
 pub mod Stands
 pub mod Programs

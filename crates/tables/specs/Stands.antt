@@ -1,6 +1,5 @@
 -- The tables stand for the commands read so far: each name in `Tables` has the value that the model gives it, also where nothing is
--- declared.
--- What this leaves open of the cells: docs/DECISIONS.md.
+-- declared; and no cell holds anything else than what is written for these commands.
 use Prim.Native.Nat.{ℕ, _<_}
 use mathlib.Core.Path.{_≡_}
 use mathlib.Core.List.{List}
@@ -13,6 +12,7 @@ use Rattle.model.specs.Refusal.{groupFalls}
 use Rattle.tables.specs.Cells.{cellCount}
 use Rattle.tables.specs.Tables.{countIn, groupIn, openIn, flowIn, scopeIn, ownerIn, startIn, funAnswerIn, lengthIn, bodyIn, startedAt}
 use Rattle.tables.specs.Tables.{firstsIn, wiredIn, readIn, writeIn, anyIn, listedIn}
+use Rattle.tables.specs.Writes.{tablesOf}
 
 pub record Stands (t : List ℕ) (past : List Command) : Type 0 where
   pub size : length t ≡ cellCount
@@ -33,3 +33,4 @@ pub record Stands (t : List ℕ) (past : List Command) : Type 0 where
   pub writes : (n x : ℕ) → writeIn t n x ≡ occurs WRITE (binary n x) past
   pub anys : (n f : ℕ) → anyIn t n f ≡ occurs ANY (binary n f) past
   pub arguments : (n f v : ℕ) → listedIn t (countIn t ARG) n f v ≡ occurs ARG (ternary n f v) past
+  pub cells : t ≡ tablesOf past

@@ -3,7 +3,7 @@ use mathlib.Core.Path.{_∙_}
 use denote.Ref.{now}
 use borrow.Author.Needs.{needs}
 use Rattle.tables.specs.Cells.{markAt}
-use Rattle.notes.specs.Writes.{made}
+use Rattle.tables.specs.Writes.{made}
 use Rattle.notes.proofs.Arms.{known-arm, rest-arm}
 use Rattle.notes.proofs.note_content.Statement.{statement}
 use Rattle.notes.proofs.note_content.Tie as tie

@@ -1,7 +1,7 @@
 -- `notes::one_more` meets its contract.
 use borrow.Author.Tests.{lt-ltb, le-ltb}
 use borrow.Author.Needs.{needs}
-use Rattle.notes.specs.Writes.{oneMore}
+use Rattle.tables.specs.Writes.{oneMore}
 use Rattle.notes.proofs.one_more.Statement.{statement}
 use Rattle.notes.proofs.one_more.Tie as tie
 

@@ -35,7 +35,9 @@ add-if3-2 c = search needs
 
 returns-3 : tie.Need-returns-3
 returns-3 c =
-    read-cut-off _ _ _ (c .before .before .row-of .ensures) (sym (c .before .before .before .before .is-handler .ensures) ∙ not-false _ (c .before .before .before .if2 .left)) _ (c .before .unpack .ensures) (c .if3 .taken)
+    let p2 = c .before .before in
+    let handler = sym (p2 .before .before .is-handler .ensures) ∙ not-false _ (p2 .before .if2 .left) in
+    read-cut-off _ _ _ (p2 .row-of .ensures) handler _ (c .before .unpack .ensures) (c .if3 .taken)
 
 add-operand : tie.Need-add-operand
 add-operand c = search needs
@@ -43,8 +45,9 @@ add-operand c = search needs
 operand-requires : tie.Need-operand-requires
 operand-requires c κs =
     let a = c .before .before .before .before .before .before .before .before .args in
-    operand-inside (a .job .now) (a .at) _ (c .before .before .row-of .ensures) (sym (c .before .before .before .before .is-handler .ensures) ∙ not-false _ (c .before .before .before .if2 .left)) _
-    (c .before .unpack .ensures) (c .if3 .left)
+    let p2 = c .before .before in
+    let handler = sym (p2 .before .before .is-handler .ensures) ∙ not-false _ (p2 .before .if2 .left) in
+    operand-inside (a .job .now) (a .at) _ (p2 .row-of .ensures) handler _ (c .before .unpack .ensures) (c .if3 .left)
 
 instruction-of-requires : tie.Need-instruction-of-requires
 instruction-of-requires c κs = search needs
@@ -53,7 +56,8 @@ returns-4 : tie.Need-returns-4
 returns-4 c =
     let p3 = c .before .before .before in
     let handler = sym (p3 .before .before .before .is-handler .ensures) ∙ not-false _ (p3 .before .before .if2 .left) in
-    c .instruction-of .ensures ∙ read-instructed _ _ _ (p3 .before .row-of .ensures) handler _ (p3 .unpack .ensures) (c .before .before .if3 .left) _
+    c .instruction-of .ensures
+    ∙ read-instructed _ _ _ (p3 .before .row-of .ensures) handler _ (p3 .unpack .ensures) (c .before .before .if3 .left) _
     (c .before .operand .ensures)
 
 pub read-instruction-spec : {M : Type 1} → statement M

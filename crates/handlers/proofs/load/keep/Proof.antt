@@ -14,7 +14,9 @@ same-length : tie.Need-same-length
 same-length c = search needs
 
 returns : tie.Need-returns
-returns c = rw (sym (c .before .before .before .before .before .is-handler .ensures) ∙ c .before .before .before .before .if1 .taken) (c .before .before .store .ensures)
+returns c =
+    let p4 = c .before .before .before .before in
+    rw (sym (p4 .before .is-handler .ensures) ∙ p4 .if1 .taken) (c .before .before .store .ensures)
 
 returns-2 : tie.Need-returns-2
 returns-2 c = rw (sym (c .before .is-handler .ensures) ∙ c .if1 .left)

@@ -29,8 +29,9 @@ same-length c = search needs
 returns : tie.Need-returns
 returns c =
     let a = c .before .before .before .before .before .before .before .before .before .before .before .args in
-    store-writes (now (a .work)) (a .n .0) (a .i) (a .place) _ (c .before .before .before .before .before .before .before .before .before .slot-of .ensures) _ _ _ _ (c .before .before .before .before .before .before .before .before .if1 .taken) (c .before .before .before .before .before .before .put-byte .ensures)
-    (c .before .before .put-byte2 .ensures)
+    let p6 = c .before .before .before .before .before .before in
+    store-writes (now (a .work)) (a .n .0) (a .i) (a .place) _ (p6 .before .before .before .slot-of .ensures) _ _ _ _
+    (p6 .before .before .if1 .taken) (p6 .put-byte .ensures) (c .before .before .put-byte2 .ensures)
 
 returns-2 : tie.Need-returns-2
 returns-2 c =

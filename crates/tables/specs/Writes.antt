@@ -1,16 +1,16 @@
--- How a command is noted inside this crate: what is written to the tables for it. What that means is said by `Notes`.
+-- What is written to the tables for a command, and so the cells that a job's commands leave. What the cells say is said by `Stands`.
 use Prim.Native.Nat.{ℕ, _+_, _-_, _*_}
-use mathlib.Core.Bool.{Bool, cond, _&&_}
-use mathlib.Core.List.{List, [], _∷_}
+use mathlib.Core.Bool.{Bool, true, cond, _&&_}
+use mathlib.Core.List.{List, [], _∷_, _++_}
 use lib.Dec.{ltb}
-use Rattle.model.specs.Table.{FLOW, NODE, VAR, FUN, WIRE, ANY, ARG, READ, WRITE, BODY, START}
+use Rattle.model.specs.Table.{FLOW, NODE, VAR, FUN, WIRE, ANY, ARG, READ, WRITE, BODY, START, groupOf}
 use Rattle.model.specs.Command.{Command, is}
 use Rattle.model.specs.Declared.{isHandler}
 use Rattle.tables.specs.declared.cells.Section.{Section}
-use Rattle.tables.specs.Cells.{putIn, isMarkPlace, markCell, marksWith}
+use Rattle.tables.specs.Cells.{putIn, isMarkPlace, markCell, marksWith, blank}
 use Rattle.tables.specs.Tables.{countIn, openIn, flowIn, lengthIn, flowCells, scopeCells, ownerCells, startCells, answerCells, lengthCells}
-use Rattle.tables.specs.Tables.{progressCells, bodyCells, startedCells, firstCells, messageCells, argNodeCells, argFunctionCells}
+use Rattle.tables.specs.Tables.{countCells, progressCells, bodyCells, startedCells, firstCells, messageCells, argNodeCells, argFunctionCells}
 use Rattle.tables.specs.Tables.{argValueCells, readCells, writeCells, anyCells, wireCells}
 
 -- one more, for a number below 65,536; others stay
 unfoldable pub oneMore : ℕ → ℕ
@@ -66,6 +66,20 @@ declaredWrites t c =
     ∷ write (is START c) messageCells (c .operands .first) (c .operands .second)
     ∷ []
 
--- the writes for a command: one command more in the open handler, or what it declares or permits; none is made for FLOW and TURN
+-- the writes for what a command says besides its byte: one command more in the open handler, or what it declares or permits; none is made
+-- for FLOW and TURN
 abbrev pub commandWrites : List ℕ → Command → List Write
 commandWrites t c = handlerWrite t c ∷ declaredWrites t c
+
+-- the writes for its byte: its count and its group
+abbrev pub byteWrites : List ℕ → Command → List Write
+byteWrites t c = write true countCells (c .byte) (oneMore (countIn t (c .byte))) ∷ write true progressCells 0 (groupOf (c .byte)) ∷ []
+
+-- all writes for a command
+abbrev pub noteWrites : List ℕ → Command → List Write
+noteWrites t c = commandWrites t c ++ byteWrites t c
+
+-- the cells of a job's commands, the latest first: blank ones after the writes for each
+unfoldable pub tablesOf : List Command → List ℕ
+tablesOf [] = blank
+tablesOf (c ∷ past) = written (tablesOf past) (noteWrites (tablesOf past) c)
