@@ -20,11 +20,11 @@ unfolding made
 made-if t w = refl
 
 -- writes of which none is made
-abbrev pub noneOn : List Write → Bool
+abbrev noneOn : List Write → Bool
 noneOn [] = true
 noneOn (w ∷ ws) = not (w .on) && noneOn ws
 
-pub none-made : (t : List ℕ) (ws : List Write) → noneOn ws ≡ true → written t ws ≡ t
+none-made : (t : List ℕ) (ws : List Write) → noneOn ws ≡ true → written t ws ≡ t
 unfolding made
 none-made t [] e = refl
 none-made t (w ∷ ws) e = by-test (w .on) refl e (none-made t ws)
