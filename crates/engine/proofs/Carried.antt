@@ -81,6 +81,7 @@ module _ (t : List ℕ) (fetched : Fetched) (s : State) (n : NodeNum) (monitored
         } in
         record {
           bounded = changes .holds .bounded;
+          slots = changes .brings;
           comes = λ hs f. subst (Comes (view s) (ruleOf monitored (programIn t hs) (view s) (n .0)) (p .outcome))
               (sym (ap₂ afterwards (changes .holds .same) stored)) (planned hs f .comes);
           kept = λ h.

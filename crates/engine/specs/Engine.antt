@@ -3,12 +3,14 @@ use Prim.Native.Nat.{ℕ}
 use mathlib.Core.Path.{_≡_}
 use mathlib.Core.Bool.{Bool, true}
 use mathlib.Core.List.{List}
-use Rattle.model.specs.State.{State as Meant, positionAt, initialState}
+use lib.ListN.{getD, replicate}
+use Rattle.model.specs.State.{State as Meant, positionAt, accumulatorAt, initialState}
 use Rattle.command.specs.declared.instruction.Fetched.{Fetched}
 use Rattle.command.specs.Instructions.{fetchedOf, commandIn}
+use Rattle.tables.specs.Tables.{firstsIn}
 use Rattle.tables.specs.Programs.{Handlers, programIn}
 use Rattle.entries.specs.Entries.{Comes, isStop, ruleOf}
-use Rattle.memory.specs.Queues.{queues, BoundedCounts}
+use Rattle.memory.specs.Queues.{queues, BoundedCounts, BringsOnly}
 use Rattle.engine.specs.declared.State.{State}
 use Rattle.engine.specs.declared.Turned.{Turned}
 
@@ -23,17 +25,19 @@ view s =
       variable = s .variable;
     }
 
--- no more messages wait at a node than it has slots, and the state stands for the start of the program in the tables, whatever its handlers
--- are
+-- no more messages wait at a node than it has slots; all slots, free ones too, hold first messages or 0; and the state stands for the start
+-- of the program in the tables, whatever its handlers are
 pub record Starts (t : List ℕ) (s : State) : Type 0 where
   pub bounded : BoundedCounts (s .waiting)
+  pub slots : BringsOnly (λ n. getD (firstsIn t n) 0 0) (replicate 512 0) (s .queue)
   pub start : (hs : Handlers) → view s ≡ initialState (programIn t hs)
 
--- a turn of node n: no more messages wait at a node than it has slots; outcome and state are what the turn of the program in the tables
--- comes to, whatever its handlers are, if `fetched` stands in the node's own at its position; and a stop leaves the whole state, free slots
--- included
+-- a turn of node n: no more messages wait at a node than it has slots; nothing but its accumulator is brought into a slot, free ones too;
+-- outcome and state are what the turn of the program in the tables comes to, whatever its handlers are, if `fetched` stands in the node's own
+-- at its position; and a stop leaves the whole state, free slots included
 pub record Turns (t : List ℕ) (fetched : Fetched) (n : ℕ) (monitored : Bool) (before : State) (turned : Turned) : Type 0 where
   pub bounded : BoundedCounts (turned .state .waiting)
+  pub slots : BringsOnly (λ k. accumulatorAt (view before) n) (before .queue) (turned .state .queue)
   pub comes :
       (hs : Handlers) → fetchedOf fetched ≡ commandIn (hs n) (positionAt (view before) n)
       → Comes (view before) (ruleOf monitored (programIn t hs) (view before) n) (turned .outcome) (view (turned .state))

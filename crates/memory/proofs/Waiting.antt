@@ -1,6 +1,7 @@
 -- Slots read as queues: what queue n is, and what it becomes when a message comes or the oldest leaves.
 use Prim.Native.Nat.{ℕ, zero, suc, _+_, _-_, _*_, _≤_, _<_}
 use mathlib.Core.Path.{_≡_, refl, sym, _∙_, ap}
+use mathlib.Core.Bool.{true}
 use mathlib.Core.List.{List, [], _∷_, _++_, append-assoc}
 use mathlib.Core.Logic.{_⊎_, inl, inr, ⊎-elim}
 use native.Mathlib.Omega.{arith}
@@ -9,7 +10,8 @@ use native.Mathlib.Decide.{ℕ-discrete, decLt}
 use lib.ListN.{length, getD, take, drop, set, length-set, length-drop}
 use lib.Seq.{ext-getD, getD-set-same, getD-set-other, drop-drop, drop-set-lt, drop-set-add, take-set-le, take-suc-set, length-take-le}
 use lib.Seq.{getD-take, getD-drop, paste, paste-zero, paste-suc, drop-paste, drop-at, take-append-le, take-take, take-nil}
-use Rattle.memory.specs.Queues.{queues, BoundedCounts, shifted}
+use Rattle.model.proofs.Lists.{set-each}
+use Rattle.memory.specs.Queues.{queues, BoundedCounts, BringsOnly, shifted}
 
 pub length-queues : (ws slots : List ℕ) → length (queues ws slots) ≡ length ws
 length-queues [] slots = refl
@@ -198,3 +200,21 @@ shifted-more slots base k h =
               (base + 1) slots k 0,
           e,
         )
+
+-- a slot that is set to one of the values
+pub brings-set :
+    (values : ℕ → ℕ) (slots slots′ : List ℕ) (at x k : ℕ) → x ≡ values k → BringsOnly values slots slots′
+    → BringsOnly values slots (set slots′ at x)
+brings-set values slots slots′ at x k e h test own all =
+    set-each (λ i y. test y ≡ true) 0 slots′ at x (rw e (own k)) (h test own all)
+
+-- slots that move down
+pub brings-shifted : (slots : List ℕ) (base k : ℕ) → base + k < length slots → (values : ℕ → ℕ)
+    → BringsOnly values slots (shifted slots base k)
+brings-shifted slots base zero h values test own all = rw (← shifted-none slots base) all
+brings-shifted slots base (suc k) h values test own all =
+    let before = brings-shifted slots base k (omega arith) values test own all in
+    let e : suc k ≡ k + 1 = omega arith in
+    rw (e, ← shifted-more slots base k (omega arith))
+    (set-each (λ i x. test x ≡ true) 0 (shifted slots base k) (base + k) (getD (shifted slots base k) (base + k + 1) 0)
+    (before (base + k + 1)) before)

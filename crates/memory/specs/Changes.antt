@@ -11,7 +11,7 @@ use Rattle.model.specs.Turn.{delivered}
 use Rattle.memory.specs.declared.Registers.{Registers}
 use Rattle.memory.specs.declared.Change.{Change}
 use Rattle.memory.specs.declared.Change.the-variants as c
-use Rattle.memory.specs.Queues.{queues, full, withoutOldest, Holds}
+use Rattle.memory.specs.Queues.{queues, full, withoutOldest, Holds, BringsOnly}
 
 -- registers: position, accumulator and message
 abbrev pub registers : ℕ → ℕ → ℕ → Registers
@@ -60,8 +60,9 @@ carried P s n l x =
       variable = variablesAfter (accumulatorAt s n) (s .variable) x;
     }
 
--- the arrays afterwards (`ws′`, `slots′`) hold the queues after the change; where nothing is changed they are the arrays before, free slots
--- included
+-- the arrays afterwards (`ws′`, `slots′`) hold the queues after the change, and nothing but the value is brought in; where nothing is changed
+-- they are the arrays before, free slots included
 pub record Changes (wired : ℕ → ℕ → Bool) (n value : ℕ) (change : Change) (ws slots ws′ slots′ : List ℕ) : Type 0 where
   pub holds : Holds ws′ slots′ (queuesAfter wired n value (queues ws slots) change)
+  pub brings : BringsOnly (λ k. value) slots slots′
   pub kept : isNothing change ≡ true → (ws′ ≡ ws) × (slots′ ≡ slots)

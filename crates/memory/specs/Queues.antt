@@ -1,7 +1,7 @@
 -- All queues in one flat array, 16 slots a node.
 use Prim.Native.Nat.{ℕ, _+_, _≤_}
 use mathlib.Core.Path.{_≡_}
-use mathlib.Core.Bool.{Bool, _&&_}
+use mathlib.Core.Bool.{Bool, true, _&&_}
 use mathlib.Core.List.{List, [], _∷_}
 use lib.Dec.{leb}
 use lib.ListN.{take, drop, getD, set}
@@ -26,6 +26,12 @@ BoundedCounts ws = (n : ℕ) → countAt ws n ≤ maxWaiting
 pub record Holds (ws slots : List ℕ) (qs : List (List ℕ)) : Type 0 where
   pub bounded : BoundedCounts ws
   pub same : queues ws slots ≡ qs
+
+-- only these values are brought into slots, free ones too: a test that they and all slots before pass, all slots afterwards pass
+abbrev pub BringsOnly : (ℕ → ℕ) → List ℕ → List ℕ → Type 0
+BringsOnly values slots slots′ =
+    (test : ℕ → Bool) → ((k : ℕ) → test (values k) ≡ true) → ((i : ℕ) → test (getD slots i 0) ≡ true)
+    → (i : ℕ) → test (getD slots′ i 0) ≡ true
 
 -- at some target 16 messages wait, where `waiting` says how many wait at each node
 abbrev pub full : (ℕ → Bool) → (ℕ → ℕ) → Bool

@@ -1,13 +1,13 @@
 // The waiting messages of all nodes: one flat array of 16 slots a node, and how many messages wait at each.
 ghost use mathlib.Core.Path.{_≡_};
 ghost use mathlib.Core.Bool.{false};
-ghost use Prim.Native.Nat.{_+_, _≤_, _<_};
-ghost use lib.ListN.{length};
+ghost use Prim.Native.Nat.{ℕ, _+_, _≤_, _<_};
+ghost use lib.ListN.{length, getD};
 ghost use Rattle.model.specs.Table.{maxNodes};
 ghost use Rattle.model.specs.State.{tabulate};
 ghost use Rattle.model.specs.Turn.{delivered};
 ghost use Rattle.tables.specs.Tables.{wiredIn, firstsIn};
-ghost use Rattle.memory.specs.Queues.{queues, countAt, BoundedCounts, Holds, full, withoutOldest, shifted};
+ghost use Rattle.memory.specs.Queues.{queues, countAt, BoundedCounts, Holds, BringsOnly, full, withoutOldest, shifted};
 ghost use Rattle.memory.specs.Changes.{Possible, Changes};
 use crate::Change;
 use command::numbers::NodeNum;
@@ -18,7 +18,8 @@ use declared::is_wired;
 // The queues hold the START values.
 pub fn fill_queues(queue: &mut [u32; 512], waiting: &mut [u8; 32], tables: &[u32])
     requires { ⌜ (length (now queue) ≡ 512) × (length (now waiting) ≡ 32) ⌝ }
-    ensures { λ _. ⌜ Holds (now (waiting .exit)) (now (queue .exit)) (tabulate maxNodes (firstsIn (now (tables .entry)))) ⌝ }
+    ensures queues { λ _. ⌜ Holds (now (waiting .exit)) (now (queue .exit)) (tabulate maxNodes (firstsIn (now (tables .entry)))) ⌝ }
+    ensures slots { λ _. ⌜ BringsOnly (λ n. getD (firstsIn (now (tables .entry)) n) 0 0) (now (queue .entry)) (now (queue .exit)) ⌝ }
 {
     let mut n: usize = 0;
     while n < 32 {
@@ -61,8 +62,9 @@ pub fn deliver(
     requires { ⌜ (length (now queue) ≡ 512) × (length (now waiting) ≡ 32) ⌝ }
     requires { ⌜ BoundedCounts (now waiting) ⌝ }
     requires { ⌜ full (wiredIn (now tables) (n .0) port) (countAt (now waiting)) ≡ false ⌝ }
-    ensures { λ _. ⌜ Holds (now (waiting .exit)) (now (queue .exit))
+    ensures queues { λ _. ⌜ Holds (now (waiting .exit)) (now (queue .exit))
         (delivered (wiredIn (now (tables .entry)) (n .0) port) value (queues (now (waiting .entry)) (now (queue .entry))) maxNodes) ⌝ }
+    ensures slots { λ _. ⌜ BringsOnly (λ k. value) (now (queue .entry)) (now (queue .exit)) ⌝ }
 {
     let mut target: usize = 0;
     while target < 32 {
@@ -94,8 +96,9 @@ pub fn take_oldest(queue: &mut [u32; 512], waiting: &mut [u8; 32], n: NodeNum)
     requires { ⌜ (length (now queue) ≡ 512) × (length (now waiting) ≡ 32) ⌝ }
     requires { ⌜ BoundedCounts (now waiting) ⌝ }
     requires { ⌜ (n .0 < 32) × (1 ≤ countAt (now waiting) (n .0)) ⌝ }
-    ensures { λ _. ⌜ Holds (now (waiting .exit)) (now (queue .exit))
+    ensures queues { λ _. ⌜ Holds (now (waiting .exit)) (now (queue .exit))
         (withoutOldest (queues (now (waiting .entry)) (now (queue .entry))) (n .0)) ⌝ }
+    ensures slots { λ _. ⌜ ((values : ℕ → ℕ) → BringsOnly values (now (queue .entry)) (now (queue .exit))) ⌝ }
 {
     let i = n.0 as usize;
     shift(queue, i * 16);

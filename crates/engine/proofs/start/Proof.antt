@@ -15,7 +15,7 @@ returns : tie.Need-returns
 unfolding initialState programIn
 returns c =
     let q = c .before .before .fill-queues .ensures in
-    record { bounded = q .bounded; start = λ hs. rw (q .same, c .fill-variables .ensures) }
+    record { bounded = q .0 .bounded; slots = q .1; start = λ hs. rw (q .0 .same, c .fill-variables .ensures) }
 
 pub start-spec : {M : Type 1} → statement M
 start-spec = tie.close (tie.spec fill-queues-requires fill-variables-requires returns)

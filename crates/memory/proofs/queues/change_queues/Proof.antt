@@ -23,11 +23,11 @@ deliver-requires c κs =
     (z .pre .0, (z .pre .1 .0, rw (c .before .before .before .change .given .1) at (z .pre .1 .1 .1)))
 
 returns : tie.Need-returns
-returns c = rw (c .before .before .before .enum-told .given .1) (record { holds = c .take-oldest .ensures; kept = λ h. true-false (sym h) })
+returns c = rw (c .before .before .before .enum-told .given .1) (record { holds = c .take-oldest .ensures .0; brings = c .take-oldest .ensures .1 _; kept = λ h. true-false (sym h) })
 
 returns-2 : tie.Need-returns-2
 returns-2 c = rw (c .before .before .before .before .change .given .1)
-    (record { holds = c .deliver .ensures; kept = λ h. true-false (sym h) })
+    (record { holds = c .deliver .ensures .0; brings = c .deliver .ensures .1; kept = λ h. true-false (sym h) })
 
 returns-3 : tie.Need-returns-3
 returns-3 c = record {
@@ -36,6 +36,7 @@ returns-3 c = record {
     same = queues-left _ _ _ _
         (c .before .before .args .change) (c .match .keys3);
   };
+  brings = λ test own all. all;
   kept = λ _. (refl, refl);
 }
 

@@ -1,21 +1,27 @@
 -- `memory::queues::fill_queues` meets its contract.
-use Prim.Native.Nat.{_-_}
+use Prim.Native.Nat.{ℕ, _-_}
+use mathlib.Core.Path.{ap}
+use mathlib.Core.List.{List}
 use mathlib.Core.Logic.{⊎-elim}
 use native.Mathlib.Omega.{arith}
+use lib.ListN.{getD}
+use denote.Ref.{now}
 use borrow.Author.Needs.{needs}
 use Rattle.tables.specs.Tables.{firstsIn}
+use Rattle.memory.specs.Queues.{BringsOnly}
+use Rattle.memory.proofs.Waiting.{brings-set}
 use Rattle.memory.proofs.Filled.{Queued, queued-none, queued-one, queued-empty, queued-all}
 use Rattle.memory.proofs.queues.fill_queues.Statement.{statement}
 use Rattle.memory.proofs.queues.fill_queues.Tie as tie
 
 abbrev Inv-loop : tie.InvT-loop
-Inv-loop queue₀ waiting₀ t n₀ queue waiting n = Queued (firstsIn t) n waiting queue
+Inv-loop queue₀ waiting₀ t n₀ queue waiting n = Queued (firstsIn t) n waiting queue × BringsOnly (λ k. getD (firstsIn t k) 0 0) queue₀ queue
 
 abbrev μ-loop : tie.MeasureT-loop
 μ-loop queue₀ waiting₀ t n₀ queue waiting n = 32 - n
 
 loop-holds : tie.Need-loop-holds Inv-loop μ-loop
-loop-holds c = queued-none _ _ _ (c .before .pre .0) (c .before .pre .1)
+loop-holds c = (queued-none _ _ _ (c .before .pre .0) (c .before .pre .1), λ test own all. all)
 
 cast-t8 : tie.Need-cast-t8 Inv-loop μ-loop
 cast-t8 c = search needs
@@ -52,14 +58,22 @@ loop-less c = search needs
 
 loop-again : tie.Need-loop-again Inv-loop μ-loop
 loop-again c =
-    let i = c .before .before .before .loop .inv in
+    let a = c .before .before .before .before .before .args in
+    let l = c .before .before .before .loop in
+    let i = l .inv in
     ⊎-elim
-    (λ w. rw (w .3, w .4) (queued-one i _ (omega arith) (rw (w .1 .given .1) at (c .before .first-message .ensures))))
-    (λ w. rw (w .2, w .3) (queued-empty i (omega arith) (rw (w .1 .given .1) at (c .before .first-message .ensures))))
+    (λ w.
+    let first = rw (w .1 .given .1) at (c .before .first-message .ensures) in
+    rw (w .3, w .4) (
+      queued-one (i .0) _ (omega arith) first,
+      brings-set (λ k. getD (firstsIn (now (a .tables)) k) 0 0) (now (a .queue)) (l .queue) _ _ (l .n) (ap (λ (m : List ℕ). getD m 0 0) first)
+          (i .1),
+    ))
+    (λ w. rw (w .2, w .3) (queued-empty (i .0) (omega arith) (rw (w .1 .given .1) at (c .before .first-message .ensures)), i .1))
     (c .match .came)
 
 returns : tie.Need-returns Inv-loop μ-loop
-returns c = queued-all (c .before .loop .inv) (omega arith)
+returns c = (queued-all (c .before .loop .inv .0) (omega arith), c .before .loop .inv .1)
 
 pub fill-queues-spec : {M : Type 1} → statement M
 fill-queues-spec =
