@@ -1,4 +1,4 @@
--- What a run hands over does not depend on the length that is asked of the work buffer (S-9).
+-- What an accepted job hands over does not depend on the length that is asked of the work buffer (S-9).
 use Prim.Native.Nat.{ℕ, _*_, _≤_}
 use mathlib.Core.Path.{_≡_, refl}
 use mathlib.Core.Logic.{_⊎_, inl, inr}
@@ -26,7 +26,7 @@ module _ (run : Program → List ℕ → Run) (job : List ℕ) where
   long-enough b b′ t s h k (accepted past) = rw (t, s, le-ltb (b .work) formerWorkSize h, le-ltb (b′ .work) workSize k)
   long-enough b b′ t s h k (rejected r) = refl
 
-  -- the tests up to 11 are the same, and what passes test 12 passed it before
+  -- the tests up to 11 are the same, and what passed test 12 before passes it now
   aside : (b : Sizes) (d : Decoded)
       → (resultOf run (andThen (shortBufferAsking formerWorkSize job b) d) ≡ refused (refuse 12 (length job)))
       ⊎ (resultOf run (andThen (shortBufferAsking formerWorkSize job b) d) ≡ resultOf run (andThen (shortBuffer job b) d))
