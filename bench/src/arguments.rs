@@ -7,7 +7,8 @@ use crate::runs::{Bench, Case, Engine};
 /// What the four words are.
 pub const WORDS: &str = "ENGINE: proved or reference; MODE: monitored or bare; RUNS: how often, above 0;
 CASE: turns (4,096 of them), stopped (as many, none of which is made), none,
-or large (the large job: 3,362 commands, no turns)";
+large (the large job: 3,362 commands, no turns),
+spread or single (256 ARG and SPAN commands, of 16 nodes or of one; 4,096 turns)";
 
 /// Reads the words: what to run, and how often.
 pub fn read(words: &[&str]) -> Option<(Bench, u32)> {
@@ -27,6 +28,8 @@ pub fn read(words: &[&str]) -> Option<(Bench, u32)> {
         "stopped" => Case::Stopped,
         "none" => Case::None,
         "large" => Case::Large,
+        "spread" => Case::Spread,
+        "single" => Case::Single,
         _ => return None,
     };
     let runs = runs.parse().ok().filter(|&runs| runs > 0)?;

@@ -30,7 +30,7 @@ pub fn compare() -> Result<(), String> {
 /// Stop and completed turns of a run, and the attempted node.
 fn expected(case: Case) -> [u64; 8] {
     let (stop, turns, node) = match case {
-        Case::Turns => (stop::TURNS_OUT, MAX_TURNS, 0),
+        Case::Turns | Case::Spread | Case::Single => (stop::TURNS_OUT, MAX_TURNS, 0),
         Case::Stopped => (stop::NOT_READY, 0, 1),
         Case::None | Case::Large => (stop::TURNS_OUT, 0, 0),
     };

@@ -23,11 +23,11 @@ impl Group {
     }
 }
 
-/// The example jobs, those of the cases, which the table is about, and the largest.
+/// The example jobs, those of the cases, which the tables are about, and the largest.
 pub fn all() -> io::Result<[Group; 3]> {
     Ok([
         Group { name: "examples", jobs: examples()? },
-        Group { name: "table", jobs: CASES.map(|case| case.job()).to_vec() },
+        Group { name: "tables", jobs: CASES.map(|case| case.job()).to_vec() },
         Group { name: "largest job", jobs: vec![largest::job()] },
     ])
 }

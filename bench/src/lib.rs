@@ -7,6 +7,7 @@ pub mod groups;
 pub mod job;
 pub mod large;
 pub mod largest;
+pub mod lists;
 pub mod proved;
 pub mod reference;
 pub mod runs;

@@ -1,5 +1,5 @@
-//! Runs a job, takes the time, compares both implementations, or tells what the script is and how much
-//! stack the runs take.
+//! Runs a job, takes the time, compares both implementations, or tells what the script is, how many calls the
+//! jobs with long lists make and how much stack the runs take.
 
 use std::process::ExitCode;
 
@@ -7,10 +7,10 @@ use flow_bench::compare::compare;
 use flow_bench::groups::{self, Group};
 use flow_bench::runs::Engine;
 use flow_bench::script::Script;
-use flow_bench::{arguments, stack};
+use flow_bench::{arguments, lists, stack};
 
 const USAGE: &str = "usage: bench ENGINE MODE CASE RUNS | bench time ENGINE MODE CASE RUNS |
-    bench compare | bench mix | bench stack";
+    bench compare | bench mix | bench calls | bench stack";
 
 /// The completed turns of all runs.
 fn print_turns(words: &[&str]) -> Option<()> {
@@ -35,6 +35,11 @@ fn print_mix() {
         print!(" {kind} {count}");
     }
     println!();
+}
+
+/// How many calls the jobs with long lists make: the spread ones, the single one.
+fn print_calls() {
+    println!("{} {}", lists::calls(&lists::spread()), lists::calls(&lists::single()));
 }
 
 /// Bytes of stack that a run by an engine takes: the most of all jobs, and of each group.
@@ -75,6 +80,7 @@ fn execute(words: &[&str]) -> Option<ExitCode> {
     match words {
         ["compare"] => return Some(print_comparison()),
         ["mix"] => print_mix(),
+        ["calls"] => print_calls(),
         ["stack"] => return Some(print_stack()),
         ["time", words @ ..] => print_time(words)?,
         _ => print_turns(words)?,

@@ -7,7 +7,7 @@ use flow_reference::Mode;
 
 use crate::buffers::Buffers;
 use crate::script::Script;
-use crate::{job, large, proved, reference};
+use crate::{job, large, lists, proved, reference};
 
 /// Which implementation runs.
 #[derive(Clone, Copy, Debug, PartialEq, Eq)]
@@ -27,9 +27,14 @@ pub enum Case {
     None,
     /// The large job, which has no TURN commands.
     Large,
+    /// 256 ARG and SPAN commands of 16 nodes with four functions each; 4,096 turns, each of which completes.
+    Spread,
+    /// The same number of one node and one function.
+    Single,
 }
 
-pub const CASES: [Case; 4] = [Case::Turns, Case::Stopped, Case::None, Case::Large];
+pub const CASES: [Case; 6] =
+    [Case::Turns, Case::Stopped, Case::None, Case::Large, Case::Spread, Case::Single];
 pub const MODES: [Mode; 2] = [Mode::Monitored, Mode::Unmonitored];
 
 /// Every case, monitored and bare.
@@ -43,6 +48,8 @@ impl Case {
         let mut job = match self {
             Case::None => job::without_turns(),
             Case::Large => large::job(),
+            Case::Spread => lists::spread(),
+            Case::Single => lists::single(),
             Case::Turns | Case::Stopped => Script::new().job,
         };
         if self == Case::Stopped {

@@ -19,6 +19,8 @@ fn every_case_has_a_word() {
     names("stopped", Case::Stopped);
     names("none", Case::None);
     names("large", Case::Large);
+    names("spread", Case::Spread);
+    names("single", Case::Single);
 }
 
 #[test]

@@ -7,7 +7,7 @@ use std::fmt;
 pub struct Tally {
     runs: u64,
     turns: u64,
-    refusals: [u64; 13],
+    refusals: [u64; 16],
     stops: [u64; 4],
     pub differences: u64,
 }
@@ -35,7 +35,9 @@ fn list(counts: &[u64], first: usize) -> String {
 impl fmt::Display for Tally {
     fn fmt(&self, f: &mut fmt::Formatter) -> fmt::Result {
         let Tally { runs, turns, refusals, stops, differences } = self;
-        let (refusals, stops) = (list(&refusals[1..], 1), list(stops, 0));
+        // There is no 13 or 14.
+        let refusals = list(&refusals[1..=12], 1) + &list(&refusals[15..], 15);
+        let stops = list(stops, 0);
         write!(f, "{runs} runs, {turns} turns, refusals{refusals}, stops{stops}, {differences} differences")
     }
 }

@@ -47,6 +47,7 @@ impl Builder {
             Command::Arg { node, function, value } => p.args.push(arg_key(node, function, value)),
             Command::Read { node, variable } => p.nodes[usize::from(node)].readable |= 1 << variable,
             Command::Write { node, variable } => p.nodes[usize::from(node)].writable |= 1 << variable,
+            Command::Span(span) => p.spans.push(span),
             Command::Body { node } => self.open_body(node),
             Command::Handler(command) => self.append(command, place),
             Command::Start { node, value } => {
@@ -98,6 +99,7 @@ impl Builder {
 
     pub fn finish(mut self) -> Program {
         self.program.args.sort_unstable();
+        self.program.spans.sort_unstable();
         self.program
     }
 }

@@ -1,9 +1,14 @@
-//! Refusals 4 to 8: the tests of one command against those before it.
+//! Refusals 4 to 8 and 15: the tests of one command, mostly against those before it.
 
 use crate::builder::Builder;
 use crate::command::{Command, HandlerCommand};
-use crate::program::arg_key;
+use crate::program::{arg_key, Span};
 use crate::table::*;
+
+/// A SPAN whose low is above its high.
+fn is_upside_down(command: &Command) -> bool {
+    matches!(command, Command::Span(span) if span.low > span.high)
+}
 
 impl Builder {
     /// The number of the first test that the command fails.
@@ -18,6 +23,8 @@ impl Builder {
             Some(7)
         } else if self.is_repeated(command) {
             Some(8)
+        } else if is_upside_down(command) {
+            Some(15)
         } else {
             None
         }
@@ -30,7 +37,7 @@ impl Builder {
             Command::Node => p.nodes.len() == MAX_NODES,
             Command::Var { .. } => p.variables.len() == MAX_VARIABLES,
             Command::Fun { .. } => p.functions.len() == MAX_FUNCTIONS,
-            Command::Arg { .. } => p.args.len() == MAX_ARGS,
+            Command::Arg { .. } | Command::Span(_) => p.args.len() + p.spans.len() == MAX_ARGS,
             Command::Turn { .. } => p.turns.len() == MAX_TURNS,
             Command::Handler(_) => match self.body {
                 Some(node) => usize::from(p.nodes[usize::from(node)].length) == MAX_BODY_COMMANDS,
@@ -68,7 +75,9 @@ impl Builder {
             Command::Wire { node, port, target } => {
                 !self.has_node(node) || !is_port(port) || !self.has_node(target)
             }
-            Command::Any { node, function } | Command::Arg { node, function, .. } => {
+            Command::Any { node, function }
+            | Command::Arg { node, function, .. }
+            | Command::Span(Span { node, function, .. }) => {
                 !self.has_node(node) || !self.has_function(function)
             }
             Command::Read { node, variable } | Command::Write { node, variable } => {
@@ -116,6 +125,7 @@ impl Builder {
             Command::Arg { node, function, value } => p.args.contains(&arg_key(node, function, value)),
             Command::Read { node, variable } => at(node).readable >> variable & 1 == 1,
             Command::Write { node, variable } => at(node).writable >> variable & 1 == 1,
+            Command::Span(span) => p.spans.contains(&span),
             Command::Body { node } => self.bodies >> node & 1 == 1,
             Command::Start { node, .. } => self.started >> at(node).flow & 1 == 1,
             _ => false,

@@ -1,5 +1,6 @@
 //! One command with its operands, as it stands in the job.
 
+use crate::program::Span;
 use crate::table::{self, *};
 
 #[derive(Clone, Copy, Debug, PartialEq, Eq)]
@@ -13,6 +14,7 @@ pub enum Command {
     Arg { node: u8, function: u8, value: u32 },
     Read { node: u8, variable: u8 },
     Write { node: u8, variable: u8 },
+    Span(Span),
     Body { node: u8 },
     Handler(HandlerCommand),
     Start { node: u8, value: u32 },
@@ -64,6 +66,9 @@ fn parse(byte: u8, o: &[u8]) -> Command {
         ARG => Command::Arg { node: o[0], function: o[1], value: number(&o[2..]) },
         READ => Command::Read { node: o[0], variable: o[1] },
         WRITE => Command::Write { node: o[0], variable: o[1] },
+        SPAN => {
+            Command::Span(Span { node: o[0], function: o[1], low: number(&o[2..]), high: number(&o[6..]) })
+        }
         BODY => Command::Body { node: o[0] },
         START => Command::Start { node: o[0], value: number(&o[1..]) },
         TURN => Command::Turn { node: o[0] },

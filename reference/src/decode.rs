@@ -1,4 +1,4 @@
-//! From a job's bytes to a program, or refusals 1 to 9.
+//! From a job's bytes to a program, or refusals 1 to 9 and 15.
 
 use crate::builder::Builder;
 use crate::command;
@@ -6,7 +6,8 @@ use crate::outcome::Refusal;
 use crate::program::Program;
 use crate::table::MAX_JOB_BYTES;
 
-/// Reads a job. Tests 2 to 8 run in this order at each command, front to back; 9 comes after all.
+/// Reads a job. Tests 2 to 8 and then 15 (02, S-5) run in this order at each command, front to back; 9 comes
+/// after all.
 pub fn decode(job: &[u8]) -> Result<Program, Refusal> {
     if job.is_empty() || job.len() > MAX_JOB_BYTES {
         return Err(Refusal { number: 1, place: 0 });

@@ -41,6 +41,21 @@ impl Node {
     }
 }
 
+/// A permission for the arguments from `low` to `high`, both included. The order is that of the fields.
+#[derive(Clone, Copy, Debug, PartialEq, Eq, PartialOrd, Ord)]
+pub struct Span {
+    pub node: u8,
+    pub function: u8,
+    pub low: u32,
+    pub high: u32,
+}
+
+impl Span {
+    fn call(&self) -> (u8, u8) {
+        (self.node, self.function)
+    }
+}
+
 /// A variable as an instruction names it.
 #[derive(Clone, Copy, Debug, PartialEq, Eq)]
 pub struct Reference {
@@ -73,6 +88,8 @@ pub struct Program {
     pub functions: Vec<u32>,
     /// ARG permissions as `arg_key`, sorted.
     pub args: Vec<u64>,
+    /// SPAN permissions, sorted.
+    pub spans: Vec<Span>,
     /// All handlers, one after another.
     pub code: Vec<Instruction>,
     /// First messages: node and value.
@@ -121,8 +138,17 @@ impl Program {
             kind::CALL => {
                 node.any >> entry.number & 1 == 1
                     || self.args.binary_search(&arg_key(entry.node, entry.number, entry.value)).is_ok()
+                    || self.spans_of(entry).any(|span| span.low <= entry.value && entry.value <= span.high)
             }
             _ => true,
         }
+    }
+
+    /// The SPAN permissions of a call's node and function, which stand side by side.
+    #[inline]
+    fn spans_of(&self, call: &Entry) -> impl Iterator<Item = &Span> {
+        let call = (call.node, call.number);
+        let first = self.spans.partition_point(|span| span.call() < call);
+        self.spans[first..].iter().take_while(move |span| span.call() == call)
     }
 }

@@ -1,4 +1,4 @@
-//! The 23 commands: byte, name and operands. Widths and groups follow from them.
+//! The 24 commands: byte, name and operands. Widths and groups follow from them.
 
 pub const FLOW: u8 = 0x01;
 pub const NODE: u8 = 0x02;
@@ -9,6 +9,7 @@ pub const ANY: u8 = 0x30;
 pub const ARG: u8 = 0x31;
 pub const READ: u8 = 0x32;
 pub const WRITE: u8 = 0x33;
+pub const SPAN: u8 = 0x34;
 pub const BODY: u8 = 0x40;
 pub const SET: u8 = 0x41;
 pub const TAKE: u8 = 0x42;
@@ -32,6 +33,7 @@ pub const MAX_VARIABLES: usize = 64;
 pub const MAX_FUNCTIONS: usize = 32;
 pub const PORTS: usize = 4;
 pub const MAX_BODY_COMMANDS: usize = 64;
+/// ARG and SPAN commands together.
 pub const MAX_ARGS: usize = 256;
 pub const MAX_TURNS: usize = 4_096;
 pub const QUEUE_CAPACITY: usize = 16;
@@ -49,7 +51,7 @@ pub enum Operand {
     Variable,
     /// A position in a body (01: `target` of a jump).
     Position,
-    /// `value`, `start` or `answer`: 32 bits.
+    /// `value`, `start`, `answer`, `low` or `high`: 32 bits.
     Number,
 }
 
@@ -86,7 +88,7 @@ impl Row {
 
 use Operand::*;
 
-pub const COMMANDS: [Row; 23] = [
+pub const COMMANDS: [Row; 24] = [
     Row::new(FLOW, "FLOW", &[]),
     Row::new(NODE, "NODE", &[]),
     Row::new(VAR, "VAR", &[Scope, Owner, Number]),
@@ -96,6 +98,7 @@ pub const COMMANDS: [Row; 23] = [
     Row::new(ARG, "ARG", &[Node, Function, Number]),
     Row::new(READ, "READ", &[Node, Variable]),
     Row::new(WRITE, "WRITE", &[Node, Variable]),
+    Row::new(SPAN, "SPAN", &[Node, Function, Number, Number]),
     Row::new(BODY, "BODY", &[Node]),
     Row::new(SET, "SET", &[Number]),
     Row::new(TAKE, "TAKE", &[]),
@@ -125,11 +128,16 @@ const fn row_index() -> [u8; 256] {
 }
 
 static ROW_INDEX: [u8; 256] = row_index();
-static ROWS: [Row; 23] = COMMANDS;
+static ROWS: [Row; 24] = COMMANDS;
 
 /// The command with this byte, if the table has one.
 pub fn row(byte: u8) -> Option<&'static Row> {
     ROWS.get(usize::from(ROW_INDEX[usize::from(byte)]))
+}
+
+/// The commands of 01 itself: all but SPAN, which request S-5 added.
+pub fn commands_of_01() -> impl Iterator<Item = &'static Row> {
+    ROWS.iter().filter(|row| row.byte != SPAN)
 }
 
 /// A command's group: its byte divided by 16, rounded down.

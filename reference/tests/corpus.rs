@@ -53,8 +53,8 @@ fn commands(holds: impl Fn(&Row) -> bool) -> BTreeSet<u8> {
 #[test]
 fn sizes() {
     let runs = all_runs();
-    assert!((5_000..=6_500).contains(&runs.len()), "{}", runs.len());
-    assert!(records(&runs).len() < 1_300_000);
+    assert_eq!(runs.len(), 6_755);
+    assert!(records(&runs).len() < 1_400_000);
     assert!(all_texts().len() < 2_000_000);
     assert!(runs.iter().all(|run| run.job.len() <= 16_400));
     let [trace, snapshot, work] = [0, 1, 2].map(|buffer| runs.iter().map(|run| run.lengths[buffer]).max());
@@ -76,12 +76,13 @@ fn every_command_of_each_refusal() {
     assert_eq!(bytes[&2], (0..=255).filter(|&byte| row(byte).is_none()).collect());
     assert_eq!(bytes[&3], commands(|row| row.width > 0));
     assert_eq!(bytes[&4], commands(|row| row.byte != TURN));
-    let counted = |byte| [FLOW, NODE, VAR, FUN, ARG, TURN].contains(&byte) || is_handler(byte);
+    let counted = |byte| [FLOW, NODE, VAR, FUN, ARG, SPAN, TURN].contains(&byte) || is_handler(byte);
     assert_eq!(bytes[&5], commands(|row| counted(row.byte)));
     assert_eq!(bytes[&6], commands(|row| names(row) || row.byte == NODE || is_handler(row.byte)));
     assert_eq!(bytes[&7], BTreeSet::from([WIRE, READ, WRITE, GET, PUT, PLUS]));
-    assert_eq!(bytes[&8], BTreeSet::from([WIRE, ANY, ARG, READ, WRITE, BODY, START]));
+    assert_eq!(bytes[&8], BTreeSet::from([WIRE, ANY, ARG, READ, WRITE, SPAN, BODY, START]));
     assert_eq!(bytes[&9], BTreeSet::from([JUMP, JUMPZ]));
+    assert_eq!(bytes[&15], BTreeSet::from([SPAN]));
 }
 
 #[test]
@@ -93,6 +94,7 @@ fn largest_counts_reached() {
     assert_eq!(most(|program| program.variables.len()), Some(64));
     assert_eq!(most(|program| program.functions.len()), Some(32));
     assert_eq!(most(|program| program.args.len()), Some(256));
+    assert_eq!(most(|program| program.args.len().min(program.spans.len())), Some(128));
     assert_eq!(most(|program| program.turns.len()), Some(4_096));
     let full_bodies = |program: &Program| program.nodes.iter().filter(|node| node.length == 64).count();
     assert!(accepted.iter().any(|program| full_bodies(program) == 1));
@@ -144,7 +146,11 @@ fn worked_jobs() {
 #[test]
 fn the_lowest_of_several_tests() {
     for number in 2..=6 {
-        let lines = verdicts_of(&format!("{number} before others"));
+        let mut lines = verdicts_of(&format!("{number} before others"));
+        if number == 2 {
+            // No command of 01: a SPAN without operands now.
+            assert_eq!(lines.remove(4), "refused 3 52");
+        }
         let start = format!("refused {number} ");
         assert!(lines.iter().all(|line| line.starts_with(&start)), "{number}: {lines:?}");
     }
@@ -158,6 +164,27 @@ fn the_first_of_several_commands() {
     let expected: Vec<String> =
         ["2", "4", "5", "6", "7", "8"].map(|number| number.repeat(8)).into_iter().collect();
     assert_eq!(numbers.into_iter().collect::<String>(), expected.concat() + "23456789");
+}
+
+/// The refusals of the jobs of a family, one after another; 0 for accepted ones.
+fn numbers_of(name: &str) -> Vec<u8> {
+    verdicts(&runs_of(name)).iter().map(|verdict| verdict.as_ref().map_or_else(|r| r.number, |_| 0)).collect()
+}
+
+/// Jobs about SPAN. Once: cut, with the most of ARG and SPAN, damaged. In both modes: groups, names, repeats, low and
+/// high, first goes.
+#[test]
+fn refusals_at_spans() {
+    let limits = [0, 5, 5, 5, 5, 5, 3, 8, 15, 5];
+    let damaged = [6, 6, 6, 6, 8, 8, 15, 15, 15, 15];
+    assert_eq!(numbers_of("spans once"), [&[3; 12][..], &limits, &damaged].concat());
+    let groups = [4, 4, 4, 4, 4, 4, 0];
+    let names = [0, 6, 6, 0, 6, 6, 6, 6, 6, 6, 6];
+    let repeats = [8, 8, 8, 8, 0, 0, 0, 0, 0, 0, 0, 0, 8];
+    let low_and_high = [0, 15].repeat(7);
+    let first_goes = [15, 15, 15, 15, 15, 15, 15, 15, 15, 7, 6, 8];
+    let jobs = [&groups[..], &names, &repeats, &low_and_high, &first_goes].concat();
+    assert_eq!(numbers_of("spans"), jobs.iter().flat_map(|&number| [number; 2]).collect::<Vec<u8>>());
 }
 
 /// The changes in the order of their numbers.

@@ -44,7 +44,7 @@ fn kept_or_changed() {
 fn texts_of_the_printing_program() {
     let mut same = 0;
     for Made { run, outcome, text } in all() {
-        if !matches!(outcome, Outcome::Refused(Refusal { number: 10.., .. })) {
+        if !matches!(outcome, Outcome::Refused(Refusal { number: 10..=12, .. })) {
             assert_eq!(*text, print(&run.job, run.mode) + last_line(run) + "\n");
             same += 1;
         }
@@ -62,11 +62,16 @@ fn refusals_and_places() {
             places.entry(number).or_default().insert(place);
         }
     }
-    assert_eq!(counts.len(), 24, "1 to 12 in both modes: {counts:?}");
-    let least = |number| if number == 1 { 8 } else { 60 };
+    assert_eq!(counts.len(), 26, "1 to 12 and 15 in both modes: {counts:?}");
+    let least = |number| match number {
+        1 => 8,
+        15 => 15,
+        _ => 60,
+    };
     assert!(counts.iter().all(|(&(number, _), &count)| count >= least(number)), "{counts:?}");
     assert_eq!(places[&1], BTreeSet::from([0]));
-    assert!(places.range(2..).all(|(_, places)| places.len() >= 35), "{places:?}");
+    assert!(places.range(2..=12).all(|(_, places)| places.len() >= 35), "{places:?}");
+    assert!(places[&15].len() >= 5, "{places:?}");
 }
 
 /// How often the runs stop so, by mode, stop and kind of the attempted entry.
@@ -105,6 +110,16 @@ fn ends_of_the_lists() {
     assert_eq!(monitored_ends("last numbers"), [all, (1, 2), (1, 3), (1, 5), calls, all, calls, calls]);
 }
 
+/// Beside ranges, calls in the order of the jobs: `+` is made, `-` stops the run. They are with 7; with others; beside
+/// several permissions; a read, a write and two calls; in a long list; of the last node.
+#[test]
+fn calls_beside_ranges() {
+    let expected = ["+++++-----", "---", "+-+-+-+++-+-", "++++--+-+-+++", "--+-", "++-", "+---"];
+    let signs: String =
+        monitored_ends("ranges").iter().map(|&(stop, _)| if stop == 1 { '-' } else { '+' }).collect();
+    assert_eq!(signs, expected.concat());
+}
+
 /// Sends that found a queue full, by their number of targets.
 #[test]
 fn full_queues_of_one_and_several_targets() {
@@ -133,6 +148,9 @@ fn modes_seeds_and_pairs() {
         ("long runs", 3),
         ("pairs", 350),
         ("work", 89),
+        ("spans", 50),
+        ("ranges", 40),
+        ("span pairs", 12),
     ] {
         let runs = runs_of(family);
         assert!(runs.chunks(2).all(both), "{family}");

@@ -9,8 +9,8 @@ use common::{bytes, commands};
 use flow_reference::print::print;
 use flow_reference::Mode::{Monitored, Unmonitored};
 
-/// Flows of the papers, each as a benign and as a malicious job.
-const FLOWS: [&str; 4] = ["email", "water", "earthquake", "lowercase"];
+/// Flows of the papers and that of request S-5, each as a benign and as a malicious job.
+const FLOWS: [&str; 5] = ["email", "water", "earthquake", "lowercase", "speed"];
 
 fn folder() -> PathBuf {
     PathBuf::from(env!("CARGO_MANIFEST_DIR")).join("../examples")

@@ -7,8 +7,9 @@ use std::collections::{BTreeMap, BTreeSet};
 use common::run_dirty;
 use flow_reference::generate::count::{fill, pad, Count, COUNTS};
 use flow_reference::generate::damage::damage;
-use flow_reference::generate::{case, valid, Kind, Random, Reason};
-use flow_reference::program::Instruction;
+use flow_reference::generate::{case, draw_case, valid, Kind, Random, Reason};
+use flow_reference::program::{arg_key, Instruction, Span};
+use flow_reference::table::SPAN;
 use flow_reference::{decode, Entry, Mode, Outcome, Program, Runner, State, Step};
 
 #[test]
@@ -78,7 +79,7 @@ fn stops_and_refusals_of_mixed_cases() {
     let expected: BTreeSet<(bool, u8)> = monitored.into_iter().chain(unmonitored).collect();
     assert_eq!(stops.keys().copied().collect::<BTreeSet<_>>(), expected);
     assert!(stops.values().all(|&count| count >= 100), "{stops:?}");
-    assert_eq!(refusals.keys().copied().collect::<Vec<u8>>(), (1..=12).collect::<Vec<u8>>());
+    assert!(refusals.keys().copied().eq((1..=12).chain([15])), "{refusals:?}");
     assert!(refusals.values().all(|&count| count >= 30), "{refusals:?}");
     let missing: Vec<Reason> = Reason::all().into_iter().filter(|reason| !reasons.contains(reason)).collect();
     assert!(missing.is_empty(), "{missing:?}");
@@ -161,6 +162,84 @@ fn traits_of_valid_jobs() {
     assert!(traits.taken_jumps > 500, "{traits:?}");
     assert!(traits.args_beside_any > 50, "{traits:?}");
     assert!(traits.entry_kinds.iter().all(|&count| count > 2_000), "{traits:?}");
+}
+
+/// How often a call that ANY and ARG do not permit meets a SPAN of its node and function so: it is made with the
+/// argument at an end, inside or alone there; the run stops at it with the argument one below or one above.
+#[derive(Debug, Default)]
+struct Meetings {
+    low_end: usize,
+    high_end: usize,
+    inside: usize,
+    one_argument: usize,
+    one_below: usize,
+    one_above: usize,
+}
+
+/// The SPAN permissions of a call's node and function.
+fn spans_of<'p>(program: &'p Program, call: &Entry) -> impl Iterator<Item = Span> + 'p {
+    let call = (call.node, call.number);
+    program.spans.iter().copied().filter(move |span| (span.node, span.function) == call)
+}
+
+impl Meetings {
+    fn note_call(&mut self, program: &Program, call: &Entry) {
+        let has_any = program.nodes[usize::from(call.node)].any >> call.number & 1 == 1;
+        if has_any || program.args.contains(&arg_key(call.node, call.number, call.value)) {
+            return;
+        }
+        for Span { low, high, .. } in spans_of(program, call) {
+            let value = call.value;
+            self.low_end += usize::from(low == value && value < high);
+            self.high_end += usize::from(low < value && value == high);
+            self.inside += usize::from(low < value && value < high);
+            self.one_argument += usize::from(low == value && value == high);
+        }
+    }
+
+    fn note_stop(&mut self, program: &Program, call: &Entry) {
+        for Span { low, high, .. } in spans_of(program, call) {
+            self.one_below += usize::from(call.value.checked_add(1) == Some(low));
+            self.one_above += usize::from(call.value.checked_sub(1) == Some(high));
+        }
+    }
+
+    fn note_run(&mut self, program: &Program) {
+        let mut runner = Runner::new(program, Mode::Monitored);
+        loop {
+            match runner.step() {
+                Step::Completed(entry) if entry.kind == 5 => self.note_call(program, &entry),
+                Step::Completed(_) => {}
+                Step::Stopped(halt) if halt.attempted.kind == 5 => {
+                    return self.note_stop(program, &halt.attempted)
+                }
+                Step::Stopped(_) => return,
+            }
+        }
+    }
+}
+
+#[test]
+fn calls_beside_spans() {
+    let mut meetings = Meetings::default();
+    for index in 0..2_000 {
+        meetings.note_run(&decode(&case(13, index, Kind::Valid, usize::MAX).job).expect("a valid job"));
+    }
+    let Meetings { low_end, high_end, inside, one_argument, one_below, one_above } = meetings;
+    assert!([low_end, high_end, inside, one_argument].iter().all(|&count| count > 200), "{meetings:?}");
+    assert!([one_below, one_above].iter().all(|&count| count > 15), "{meetings:?}");
+}
+
+/// Without SPAN, no job has one but by blind damage.
+#[test]
+fn jobs_of_01_alone() {
+    let reasons = Reason::drawn_with(&Random::new(0).without_spans());
+    assert_eq!(Reason::all().len() - reasons.len(), 5);
+    for index in 0..300 {
+        let mut random = Random::for_case(14, index).without_spans();
+        let case = draw_case(&mut random, Kind::Valid, usize::MAX);
+        assert!(common::commands(&case.job).iter().all(|command| command[0] != SPAN));
+    }
 }
 
 #[test]

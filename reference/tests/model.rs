@@ -42,7 +42,7 @@ fn load(job: &[u8]) -> Model {
             [0x10, scope, ..] => model.variables.push((scope > 0, number(command))),
             [0x11, ..] => model.answers.push(number(command)),
             [0x20, node, port, target] => model.wires.push([node, port, target]),
-            [0x30..=0x33, ..] => {}
+            [0x30..=0x34, ..] => {}
             [0x40, node] => open = usize::from(node),
             [0x50, node, ..] => model.nodes[usize::from(node)].queue.push_back(number(command)),
             [0x60, node] => model.turns.push(node),

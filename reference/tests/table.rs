@@ -1,9 +1,9 @@
-//! The command table against the paper's.
+//! The command table against that of the papers.
 
-use flow_reference::table::{group, row, write, COMMANDS};
+use flow_reference::table::{commands_of_01, group, row, write, COMMANDS};
 
 /// Byte, name, operand bytes.
-const PAPER: [(u8, &str, usize); 23] = [
+const PAPER: [(u8, &str, usize); 24] = [
     (0x01, "FLOW", 0),
     (0x02, "NODE", 0),
     (0x10, "VAR", 6),
@@ -13,6 +13,7 @@ const PAPER: [(u8, &str, usize); 23] = [
     (0x31, "ARG", 6),
     (0x32, "READ", 2),
     (0x33, "WRITE", 2),
+    (0x34, "SPAN", 10),
     (0x40, "BODY", 1),
     (0x41, "SET", 4),
     (0x42, "TAKE", 0),
@@ -36,6 +37,13 @@ fn rows() {
 }
 
 #[test]
+fn rows_of_01() {
+    let bytes: Vec<u8> = PAPER.iter().map(|line| line.0).filter(|&byte| byte != 0x34).collect();
+    assert_eq!(bytes.len(), 23);
+    assert!(commands_of_01().map(|row| row.byte).eq(bytes));
+}
+
+#[test]
 fn bytes_outside_the_table() {
     for byte in 0..=255 {
         let expected = PAPER.iter().find(|line| line.0 == byte).map(|line| line.1);
@@ -45,10 +53,12 @@ fn bytes_outside_the_table() {
 
 #[test]
 fn groups() {
-    assert_eq!([0x02, 0x10, 0x20, 0x33, 0x4B, 0x50, 0x60].map(group), [0, 1, 2, 3, 4, 5, 6]);
+    assert_eq!([0x02, 0x10, 0x20, 0x34, 0x4B, 0x50, 0x60].map(group), [0, 1, 2, 3, 4, 5, 6]);
 }
 
 #[test]
 fn operands_lowest_byte_first() {
     assert_eq!(write(0x31, &[1, 2, 0x0A0B_0C0D]), [0x31, 1, 2, 0x0D, 0x0C, 0x0B, 0x0A]);
+    let span = [0x34, 1, 2, 0x04, 0x03, 0x02, 0x01, 0x08, 0x07, 0x06, 0x05];
+    assert_eq!(write(0x34, &[1, 2, 0x0102_0304, 0x0506_0708]), span);
 }

@@ -1,11 +1,15 @@
 // What the tables say of permissions, each under its own kind of number.
 ghost use mathlib.Core.Path.{_≡_};
-ghost use Rattle.tables.specs.Tables.{countIn, readIn, writeIn, anyIn, callIn, listedIn};
-use command::bytes;
+ghost use mathlib.Core.Bool.{cond};
+ghost use lib.Dec.{ltb};
+ghost use Rattle.tables.specs.Ranges.{range, someRange};
+ghost use Rattle.tables.specs.Tables.{readIn, writeIn, anyIn, rangesIn, listedIn, callIn};
+ghost use Rattle.allowlists.specs.Asking.{asked};
 use command::numbers::FunNum;
 use command::numbers::NodeNum;
 use command::numbers::VarNum;
-use declared::count_of;
+use command::read::Command;
+use declared::last_range;
 use tables::cells;
 use tables::cells::entry;
 use tables::cells::marked;
@@ -31,29 +35,56 @@ pub fn may_call_any(tables: &[u32], n: NodeNum, f: FunNum) -> bool
     marked(tables, cells::CALLS, n.0 as usize, f.0 as usize)
 }
 
-// Whether one of the first `count` ARG commands is this one.
-fn is_listed(tables: &[u32], count: u32, n: NodeNum, f: FunNum, argument: u32) -> bool
-    ensures { λ r. ⌜ r ≡ listedIn (now (tables .entry)) count (n .0) (f .0) argument ⌝ }
+// What is asked of a range: whether it holds an argument, or whether it is that of a command with this byte, low and high.
+enum Question {
+    Holds(u32),
+    Is(u32, u32, u32),
+}
+
+// Whether the answer for a range is yes.
+fn answers(q: Question, byte: u32, low: u32, high: u32) -> bool
+    ensures { λ r. ⌜ r ≡ asked q (range byte low high) ⌝ }
 {
-    let mut i = count as usize;
-    while 0 < i {
-        i -= 1;
-        let node = entry(tables, cells::ARG_NODE, i);
-        let function = entry(tables, cells::ARG_FUNCTION, i);
-        let value = entry(tables, cells::ARG_VALUE, i);
-        if (node == n.0) & ((function == f.0) & (value == argument)) {
+    match q {
+        Question::Holds(v) => (low <= v) & (v <= high),
+        Question::Is(b, l, h) => (byte == b) & ((low == l) & (high == h)),
+    }
+}
+
+// Where the search goes on: at the range before, which has a lower number; 0 ends it.
+fn go_back(at: usize, before: usize) -> usize
+    ensures { λ r. ⌜ r ≡ cond (ltb before at) before 0 ⌝ }
+{
+    if before < at {
+        return before;
+    }
+    0
+}
+
+// Whether the answer is yes for one of the ranges of a node and a function; no others are looked at.
+fn has_range(tables: &[u32], n: NodeNum, f: FunNum, q: Question) -> bool
+    ensures { λ r. ⌜ r ≡ someRange (asked q) (rangesIn (now (tables .entry)) (n .0) (f .0)) ⌝ }
+{
+    let mut at = last_range(tables, n, f) as usize;
+    while 0 < at {
+        let i = at - 1;
+        let link = entry(tables, cells::RANGE_LINK, i);
+        let low = entry(tables, cells::RANGE_LOW, i);
+        let high = entry(tables, cells::RANGE_HIGH, i);
+        if answers(q, link / 65536, low, high) {
             return true;
         }
+        at = go_back(at, (link % 65536) as usize);
     }
     false
 }
 
-// Whether an ARG command permits the call with this argument.
-pub fn may_call_with(tables: &[u32], n: NodeNum, f: FunNum, argument: u32) -> bool
-    ensures { λ r. ⌜ r ≡ listedIn (now (tables .entry)) (countIn (now (tables .entry)) 0x31) (n .0) (f .0) argument ⌝ }
+// Whether there is an ARG or SPAN command with the byte, node, function and third operand of this one, and with this highest argument.
+pub fn is_listed(tables: &[u32], c: Command, high: u32) -> bool
+    ensures { λ r. ⌜ r ≡ listedIn (now (tables .entry)) (c .byte) (c .first) (c .second) (c .third) high ⌝ }
 {
-    let count = count_of(tables, bytes::ARG);
-    is_listed(tables, count, n, f, argument)
+    let q = Question::Is(c.byte as u32, c.third, high);
+    has_range(tables, NodeNum(c.first), FunNum(c.second), q)
 }
 
 // Whether a node may call a function with this argument.
@@ -63,5 +94,5 @@ pub fn may_call(tables: &[u32], n: NodeNum, f: FunNum, argument: u32) -> bool
     if may_call_any(tables, n, f) {
         return true;
     }
-    may_call_with(tables, n, f, argument)
+    has_range(tables, n, f, Question::Holds(argument))
 }

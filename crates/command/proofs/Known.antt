@@ -37,8 +37,8 @@ byte-low b h = ltb-true b 128 (known-passes (λ d. ltb d 128) b refl h)
 
 -- the command bytes of group 3
 pub permission-byte : (b : ℕ) → ¬ (operandsOf b ≡ none) → (not (eqb (b / 16) 3) ||
-    (eqb b 0x30 || (eqb b 0x31 || (eqb b 0x32 || eqb b 0x33)))) ≡ true
-permission-byte b h = known-passes (λ d. not (eqb (d / 16) 3) || (eqb d 0x30 || (eqb d 0x31 || (eqb d 0x32 || eqb d 0x33)))) b refl h
+    (eqb b 0x30 || (eqb b 0x31 || (eqb b 0x32 || (eqb b 0x33 || eqb b 0x34))))) ≡ true
+permission-byte b h = known-passes (λ d. not (eqb (d / 16) 3) || (eqb d 0x30 || (eqb d 0x31 || (eqb d 0x32 || (eqb d 0x33 || eqb d 0x34))))) b refl h
 
 -- the test passes for each of n bytes from k on
 abbrev everyFrom : (ℕ → Bool) → ℕ → ℕ → Bool
@@ -59,11 +59,11 @@ is-known none = false
 is-known (some kinds) = true
 
 abbrev single : ℕ → Bool
-single b = is-known (operandsOf b) && eqb (width (kindAt b 1) + width (kindAt b 2)) 0
+single b = is-known (operandsOf b) && eqb (width (kindAt b 1) + width (kindAt b 2) + width (kindAt b 3)) 0
 
 pub record OneOperand (b : ℕ) : Type 0 where
   pub known : ¬ (operandsOf b ≡ none)
-  pub others : width (kindAt b 1) + width (kindAt b 2) ≡ 0
+  pub others : width (kindAt b 1) + width (kindAt b 2) + width (kindAt b 3) ≡ 0
 
 pub handler-single : (b : ℕ) → isHandlerByte b ≡ true → OneOperand b
 unfolding operandsOf operandsIn

@@ -11,8 +11,8 @@ use lib.Dec.{eqb}
 use lib.ListN.{length, getD, drop, drop-of-length-le}
 use lib.Seq.{drop-cons}
 use borrow.Author.Tests.{eqb-true, eq-eqb, ne-eqb}
-use Rattle.model.specs.Table.{OperandKind, scope, owner, start, answer, node, port, target, function, value, variable, jump, absent, width}
-use Rattle.model.specs.Table.{Row, table, operandsIn, operandsOf, listOf, kindAt, groupOf, Limit, largestOf}
+use Rattle.model.specs.Table.{OperandKind, scope, owner, start, answer, node, port, target, function, value, low, high, variable, jump}
+use Rattle.model.specs.Table.{absent, width, Row, table, operandsIn, operandsOf, listOf, kindAt, groupOf, Limit, largestOf}
 use Rattle.model.specs.Command.{numberAt}
 use Rattle.model.proofs.Reading.{number-none}
 use Rattle.command.specs.Rows.{unpacked, kindOf, limitOf, Says, rowIn, IsRow}
@@ -30,8 +30,8 @@ abbrev pub given : ℕ → Said
 given p =
     let s = unpacked p in
     record {
-      numbers = s .byte ∷ s .group ∷ s .«first_width» ∷ s .«second_width» ∷ s .«third_width» ∷ [];
-      kinds = kindOf (s .«first_kind») ∷ kindOf (s .«second_kind») ∷ kindOf (s .«third_kind») ∷ [];
+      numbers = s .byte ∷ s .group ∷ s .«first_width» ∷ s .«second_width» ∷ s .«third_width» ∷ s .«fourth_width» ∷ [];
+      kinds = kindOf (s .«first_kind») ∷ kindOf (s .«second_kind») ∷ kindOf (s .«third_kind») ∷ kindOf (s .«fourth_kind») ∷ [];
       most = limitOf (s .byte) (s .most);
       operands = some (listOf (operandsOf (s .byte)));
     }
@@ -40,8 +40,8 @@ given p =
 abbrev pub wanted : ℕ → Said
 wanted b =
     record {
-      numbers = b ∷ groupOf b ∷ width (kindAt b 0) ∷ width (kindAt b 1) ∷ width (kindAt b 2) ∷ [];
-      kinds = kindAt b 0 ∷ kindAt b 1 ∷ kindAt b 2 ∷ [];
+      numbers = b ∷ groupOf b ∷ width (kindAt b 0) ∷ width (kindAt b 1) ∷ width (kindAt b 2) ∷ width (kindAt b 3) ∷ [];
+      kinds = kindAt b 0 ∷ kindAt b 1 ∷ kindAt b 2 ∷ kindAt b 3 ∷ [];
       most = largestOf b;
       operands = operandsOf b;
     }
@@ -60,9 +60,11 @@ says-as b p e =
       width₁ = ap (λ (x : Said). getD (x .numbers) 2 0) e;
       width₂ = ap (λ (x : Said). getD (x .numbers) 3 0) e;
       width₃ = ap (λ (x : Said). getD (x .numbers) 4 0) e;
+      width₄ = ap (λ (x : Said). getD (x .numbers) 5 0) e;
       kind₁ = ap (λ (x : Said). getD (x .kinds) 0 absent) e;
       kind₂ = ap (λ (x : Said). getD (x .kinds) 1 absent) e;
       kind₃ = ap (λ (x : Said). getD (x .kinds) 2 absent) e;
+      kind₄ = ap (λ (x : Said). getD (x .kinds) 3 absent) e;
       most = rw same at (ap (λ (x : Said). x .most) e);
     }
 
@@ -131,6 +133,8 @@ width-is port w e = inr (inl e)
 width-is target w e = inr (inl e)
 width-is function w e = inr (inl e)
 width-is value w e = inl e
+width-is low w e = inl e
+width-is high w e = inl e
 width-is variable w e = inr (inl e)
 width-is jump w e = inr (inl e)
 width-is absent w e = inr (inr e)

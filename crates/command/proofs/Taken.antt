@@ -6,7 +6,7 @@ use mathlib.Core.Option.{none, some}
 use native.Mathlib.Omega.{arith}
 use lib.ListN.{length, getD}
 use Rattle.model.specs.Table.{operandsOf, listOf, kindAt, groupOf}
-use Rattle.model.specs.Command.{Command, numberAt, ternary, Parsed as ParsedAs, whole, unknown, cutShort, endAt, readCommand}
+use Rattle.model.specs.Command.{Command, numberAt, quaternary, Parsed as ParsedAs, whole, unknown, cutShort, endAt, readCommand}
 use Rattle.model.specs.Refusal.{Refusal as RefusedFor, refuse}
 use Rattle.model.proofs.Reading.{read-unknown, read-short, read-whole}
 use Rattle.command.specs.declared.table.Row.{Row as Shape}
@@ -44,17 +44,17 @@ module _ (job : List ℕ) (place : ℕ) where
 
   -- by the row of its byte
   module _ (row : ℕ) (s : Shape) (says : Says (getD job place 0) (unpacked row)) (is : s ≡ unpacked row) where
-    ends : place + 1 + s .«first_width» + s .«second_width» + s .«third_width» ≡ endAt place (listOf (operandsOf (getD job place 0)))
-    ends = let t = says-shape (getD job place 0) row s says is in rw (t .width₁, t .width₂, t .width₃)
+    ends : place + 1 + s .«first_width» + s .«second_width» + s .«third_width» + s .«fourth_width» ≡ endAt place (listOf (operandsOf (getD job place 0)))
+    ends = let t = says-shape (getD job place 0) row s says is in rw (t .width₁, t .width₂, t .width₃, t .width₄)
 
     -- a command whose operands run past the end
-    pub read-cut : length job < place + 1 + s .«first_width» + s .«second_width» + s .«third_width»
+    pub read-cut : length job < place + 1 + s .«first_width» + s .«second_width» + s .«third_width» + s .«fourth_width»
         → refusalAt place (readCommand job place) ≡ some (refuse 3 place)
     read-cut l = rw (read-short job place (listOf (operandsOf (getD job place 0))) (says .known) (rw ends at l))
 
     -- a whole command
     pub read-reaches :
-        (next : ℕ) → next ≡ place + 1 + s .«first_width» + s .«second_width» + s .«third_width» → next ≤ length job
+        (next : ℕ) → next ≡ place + 1 + s .«first_width» + s .«second_width» + s .«third_width» + s .«fourth_width» → next ≤ length job
         → Reaches job place row next
     read-reaches next e l = record { says = says; ends = e ∙ ends; inside = l }
 
@@ -82,25 +82,33 @@ module _ (job : List ℕ) (place : ℕ) where
       width-is (kindAt (getD job place 0) 2) (s .«third_width») (shape .width₃),
     )
 
+    pub fourth-fits :
+        (place + 1 + s .«first_width» + s .«second_width» + s .«third_width» + s .«fourth_width» ≤ length job) × IsWidth (s .«fourth_width»)
+    fourth-fits = (
+      omega (arith, shape .width₁, shape .width₂, shape .width₃, shape .width₄, reach .ends, reach .inside),
+      width-is (kindAt (getD job place 0) 3) (s .«fourth_width») (shape .width₄),
+    )
+
     -- the command
     pub read-all :
-        (x y z : ℕ) → x ≡ numberAt job (place + 1) (s .«first_width») → y ≡ numberAt job (place + 1 + s .«first_width») (s .«second_width»)
+        (x y z w : ℕ) → x ≡ numberAt job (place + 1) (s .«first_width») → y ≡ numberAt job (place + 1 + s .«first_width») (s .«second_width»)
         → z ≡ numberAt job (place + 1 + s .«first_width» + s .«second_width») (s .«third_width»)
-        → readCommand job place ≡ whole (record { place = place; byte = getD job place 0; operands = ternary x y z }) next
-    read-all x y z p q r =
-        rw (p, q, r, shape .width₁, shape .width₂, shape .width₃, reach .ends)
+        → w ≡ numberAt job (place + 1 + s .«first_width» + s .«second_width» + s .«third_width») (s .«fourth_width»)
+        → readCommand job place ≡ whole (record { place = place; byte = getD job place 0; operands = quaternary x y z w }) next
+    read-all x y z w p q r t =
+        rw (p, q, r, t, shape .width₁, shape .width₂, shape .width₃, shape .width₄, reach .ends)
         (read-whole job place (listOf (operandsOf (getD job place 0))) (reach .says .known) (rw (reach .ends) at (reach .inside)))
 
     -- its row and group
     pub read-known :
-        (x y z : ℕ)
-        → Known (record { place = place; row = row; byte = getD job place 0; group = s .group; first = x; second = y; third = z })
-    read-known x y z = record { row = reach .says; group = shape .group }
+        (x y z w : ℕ)
+        → Known (record { place = place; row = row; byte = getD job place 0; group = s .group; first = x; second = y; third = z; fourth = w })
+    read-known x y z w = record { row = reach .says; group = shape .group }
 
     -- its head
     pub read-first : (x : ℕ) → x ≡ numberAt job (place + 1) (s .«first_width»)
         → some (record { byte = getD job place 0; group = s .group; first = x; next = next }) ≡ headIn (readCommand job place)
-    read-first x p = rw (read-all x _ _ p refl refl, shape .group)
+    read-first x p = rw (read-all x _ _ _ p refl refl refl, shape .group)
 
 -- there is no head where a command is refused
 head-none : (place : ℕ) (r : ParsedAs) (q : RefusedFor) → refusalAt place r ≡ some q → none ≡ headIn r

@@ -6,7 +6,7 @@ use mathlib.Core.Logic.{_⊎_}
 use mathlib.Core.Option.{Option, none, some}
 use lib.ListN.{length, getD}
 use Rattle.model.specs.Table.{operandsOf, listOf, groupOf}
-use Rattle.model.specs.Command.{Command as Past, Parsed as ParsedAs, whole, unknown, cutShort, ternary, endAt, readCommand}
+use Rattle.model.specs.Command.{Command as Past, Parsed as ParsedAs, whole, unknown, cutShort, quaternary, endAt, readCommand}
 use Rattle.model.specs.Refusal.{Refusal as RefusedFor, refuse}
 use Rattle.command.specs.declared.read.Command.{Command}
 use Rattle.command.specs.declared.refusal.Refusal.{Refusal}
@@ -21,7 +21,7 @@ use Rattle.command.specs.Rows.{unpacked, Says}
 
 -- the model's command that a command of the code stands for
 abbrev pub commandOf : Command → Past
-commandOf c = record { place = c .place; byte = c .byte; operands = ternary (c .first) (c .second) (c .third) }
+commandOf c = record { place = c .place; byte = c .byte; operands = quaternary (c .first) (c .second) (c .third) (c .fourth) }
 
 -- the model's refusal that a refusal of the code stands for
 abbrev pub refusalOf : Refusal → RefusedFor

@@ -1,14 +1,14 @@
 -- The rows of the code's table, and what they say in the model's words.
 use Prim.Native.Nat.{ℕ, zero, suc, _/_, _%_}
 use mathlib.Core.Path.{_≡_}
-use mathlib.Core.Bool.{Bool, cond, _&&_}
+use mathlib.Core.Bool.{Bool, cond, _&&_, _||_}
 use mathlib.Core.List.{List, [], _∷_}
 use mathlib.Core.Logic.{_⊎_}
 use mathlib.Core.Option.{Option, none, some}
 use lib.Dec.{leb, eqb}
 use lib.ListN.{getD}
-use Rattle.model.specs.Table.{SET, SKIP, OperandKind, scope, owner, start, answer, node, port, target, function, value, variable, jump}
-use Rattle.model.specs.Table.{absent, width, operandsOf, listOf, kindAt, groupOf, Limit, limit, largestOf}
+use Rattle.model.specs.Table.{ARG, SPAN, SET, SKIP, OperandKind, scope, owner, start, answer, node, port, target, function, value, low}
+use Rattle.model.specs.Table.{high, variable, jump, absent, width, operandsOf, listOf, kindAt, groupOf, Limit, limit, largestOf}
 use Rattle.command.specs.declared.table.Row.{Row as Shape}
 use Rattle.command.specs.declared.table.Lookup.{Lookup}
 use Rattle.command.specs.declared.table.Lookup.the-variants.{Found, Missing}
@@ -22,20 +22,31 @@ unpacked p =
       «first_width» = p / 0x1000_0000 % 0x10;
       «second_width» = p / 0x100_0000 % 0x10;
       «third_width» = p / 0x10_0000 % 0x10;
+      «fourth_width» = p / 0x1_0000 % 0x10;
       «first_kind» = p / 0x1000_0000_0000 % 0x10;
       «second_kind» = p / 0x100_0000_0000 % 0x10;
       «third_kind» = p / 0x10_0000_0000 % 0x10;
+      «fourth_kind» = p / 0x1_0000_0000 % 0x10;
       most = p / 0x1_0000_0000_0000 % 0x1_0000;
     }
 
 -- the kind that the code's number stands for
 abbrev pub kindOf : ℕ → OperandKind
-kindOf i = getD (absent ∷ scope ∷ owner ∷ node ∷ port ∷ target ∷ function ∷ variable ∷ start ∷ answer ∷ value ∷ jump ∷ []) i absent
+kindOf i =
+    getD (absent ∷ scope ∷ owner ∷ node ∷ port ∷ target ∷ function ∷ variable ∷ start ∷ answer ∷ value ∷ jump ∷ low ∷ high ∷ []) i absent
+
+-- the byte is that of a range of arguments: ARG or SPAN
+abbrev pub isRangeByte : ℕ → Bool
+isRangeByte b = eqb b ARG || eqb b SPAN
+
+-- the bytes that share a largest count with this one: ARG and SPAN do, every other has its own
+abbrev pub sharing : ℕ → List ℕ
+sharing b = cond (isRangeByte b) (ARG ∷ SPAN ∷ []) (b ∷ [])
 
 -- the largest count that the code's number stands for, 0 for none
 abbrev pub limitOf : ℕ → ℕ → Option Limit
 limitOf b zero = none
-limitOf b (suc k) = some (limit (b ∷ []) (suc k))
+limitOf b (suc k) = some (limit (sharing b) (suc k))
 
 -- the byte is a command, and the row says what the model says of it
 pub record Says (b : ℕ) (s : Shape) : Type 0 where
@@ -45,9 +56,11 @@ pub record Says (b : ℕ) (s : Shape) : Type 0 where
   pub width₁ : s .«first_width» ≡ width (kindAt b 0)
   pub width₂ : s .«second_width» ≡ width (kindAt b 1)
   pub width₃ : s .«third_width» ≡ width (kindAt b 2)
+  pub width₄ : s .«fourth_width» ≡ width (kindAt b 3)
   pub kind₁ : kindOf (s .«first_kind») ≡ kindAt b 0
   pub kind₂ : kindOf (s .«second_kind») ≡ kindAt b 1
   pub kind₃ : kindOf (s .«third_kind») ≡ kindAt b 2
+  pub kind₄ : kindOf (s .«fourth_kind») ≡ kindAt b 3
   pub most : limitOf b (s .most) ≡ largestOf b
 
 -- the first of some packed rows with this byte; 0 if none has it

@@ -20,6 +20,8 @@ pub const READ: u8 = 0x32;
 
 pub const WRITE: u8 = 0x33;
 
+pub const SPAN: u8 = 0x34;
+
 pub const BODY: u8 = 0x40;
 
 pub const SET: u8 = 0x41;

@@ -24,6 +24,7 @@ pub struct Command {
     pub first: u32,
     pub second: u32,
     pub third: u32,
+    pub fourth: u32,
 }
 
 // What reading at a place gives: a command with the place after it, or refusal 2 or 3.
@@ -91,7 +92,8 @@ fn extent_of(job: &[u8], at: usize, found: Lookup) -> Extent
     let shape = unpack(row);
     let second_at = at + 1 + (shape.first_width as usize);
     let third_at = second_at + (shape.second_width as usize);
-    let next = third_at + (shape.third_width as usize);
+    let fourth_at = third_at + (shape.third_width as usize);
+    let next = fourth_at + (shape.fourth_width as usize);
     if job.len() < next {
         return Extent::Refused(Refusal {
             number: 3,
@@ -116,9 +118,11 @@ pub fn read_command(job: &[u8], at: usize) -> Parsed
             let first_at = at + 1;
             let second_at = first_at + (shape.first_width as usize);
             let third_at = second_at + (shape.second_width as usize);
+            let fourth_at = third_at + (shape.third_width as usize);
             let first = operand(job, first_at, shape.first_width);
             let second = operand(job, second_at, shape.second_width);
             let third = operand(job, third_at, shape.third_width);
+            let fourth = operand(job, fourth_at, shape.fourth_width);
             let command = Command {
                 place: at,
                 row,
@@ -127,6 +131,7 @@ pub fn read_command(job: &[u8], at: usize) -> Parsed
                 first,
                 second,
                 third,
+                fourth,
             };
             Parsed::Whole(command, next)
         }

@@ -27,11 +27,15 @@ pub const VALUE_OPERAND: u8 = 10;
 
 pub const JUMP_OPERAND: u8 = 11;
 
+pub const LOW_OPERAND: u8 = 12;
+
+pub const HIGH_OPERAND: u8 = 13;
+
 // How many commands there are.
-const ROW_COUNT: usize = 23;
+const ROW_COUNT: usize = 24;
 
 // The rows, one number each. Its columns, in hexadecimal digits: the largest count over the whole job, 0 for none (4); the kinds of the
-// operands, the first one first, with room for a fourth (4); their widths (4); the group (2); the byte (2).
+// operands, the first one first (4); their widths (4); the group (2); the byte (2).
 const ROWS: [u64; ROW_COUNT] = [
     0x0008_0000_0000_00_01, // FLOW
     0x0020_0000_0000_00_02, // NODE
@@ -42,6 +46,7 @@ const ROWS: [u64; ROW_COUNT] = [
     0x0100_36A0_1140_03_31, // ARG
     0x0000_3700_1100_03_32, // READ
     0x0000_3700_1100_03_33, // WRITE
+    0x0100_36CD_1144_03_34, // SPAN
     0x0000_3000_1000_04_40, // BODY
     0x0000_A000_4000_04_41, // SET
     0x0000_0000_0000_04_42, // TAKE
@@ -65,9 +70,11 @@ pub struct Row {
     pub first_width: u8,
     pub second_width: u8,
     pub third_width: u8,
+    pub fourth_width: u8,
     pub first_kind: u8,
     pub second_kind: u8,
     pub third_kind: u8,
+    pub fourth_kind: u8,
     pub most: u32,
 }
 
@@ -81,9 +88,11 @@ pub fn unpack(row: u64) -> Row
         first_width: (row / 0x1000_0000 % 0x10) as u8,
         second_width: (row / 0x100_0000 % 0x10) as u8,
         third_width: (row / 0x10_0000 % 0x10) as u8,
+        fourth_width: (row / 0x1_0000 % 0x10) as u8,
         first_kind: (row / 0x1000_0000_0000 % 0x10) as u8,
         second_kind: (row / 0x100_0000_0000 % 0x10) as u8,
         third_kind: (row / 0x10_0000_0000 % 0x10) as u8,
+        fourth_kind: (row / 0x1_0000_0000 % 0x10) as u8,
         most: (row / 0x1_0000_0000_0000 % 0x1_0000) as u32,
     }
 }

@@ -1,8 +1,9 @@
-// What the tables say of flows, nodes, variables, functions, wires, handlers and first messages, each under its own kind of number.
+// What the tables say of flows, nodes, variables, functions, wires, handlers, first messages, and where ranges of arguments are, each under
+// its own kind of number.
 ghost use mathlib.Core.Path.{_≡_};
 ghost use Rattle.model.specs.Declared.{isSeen};
 ghost use Rattle.tables.specs.Tables.{countIn, groupIn, openIn, flowIn, startIn, funAnswerIn, sharedIn, seesIn, lengthIn, bodyIn};
-ghost use Rattle.tables.specs.Tables.{startedAt, firstsIn, wiredIn};
+ghost use Rattle.tables.specs.Tables.{startedAt, firstsIn, wiredIn, rangeCountIn, headIn};
 ghost use Rattle.declared.specs.Asked.{messagesOf};
 use command::numbers::FlowNum;
 use command::numbers::FunNum;
@@ -11,6 +12,7 @@ use command::numbers::VarNum;
 use tables::cells;
 use tables::cells::entry;
 use tables::cells::flagged;
+use tables::cells::half;
 use tables::cells::marked;
 
 // How many commands have this byte.
@@ -130,4 +132,25 @@ pub fn is_wired(tables: &[u32], n: NodeNum, port: u32, target: NodeNum) -> bool
     let row = (n.0 as usize) * 4 + (port as usize);
     let wire = marked(tables, cells::WIRES, row, target.0 as usize);
     (port < 4) & wire
+}
+
+// How many ranges of arguments there are.
+pub fn range_count(tables: &[u32]) -> u32
+    ensures { λ r. ⌜ r ≡ rangeCountIn (now (tables .entry)) ⌝ }
+{
+    entry(tables, cells::PROGRESS, 2)
+}
+
+// The last range of a node and a function: its number and 1, 0 if there is none.
+pub fn last_range(tables: &[u32], n: NodeNum, f: FunNum) -> u32
+    ensures { λ r. ⌜ r ≡ headIn (now (tables .entry)) (n .0) (f .0) ⌝ }
+{
+    if f.0 < 32 {
+        return half(
+            tables,
+            cells::RANGE_HEAD,
+            (n.0 as usize) * 32 + (f.0 as usize),
+        );
+    }
+    0
 }

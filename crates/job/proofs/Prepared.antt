@@ -54,7 +54,7 @@ module _ (job t w : List ℕ) (past : List Command) (s : Stands t past) (size : 
         startValue = s .startValue;
         answer = λ f argument. s .answer f;
         wired = s .wires;
-        mayCall = λ n f argument. rw (s .anys n f, s .arguments n f argument);
+        mayCall = λ n f argument. rw (s .anys n f, s .calls n f argument);
         mayRead = s .reads;
         mayWrite = s .writes;
         handler = same-handler;

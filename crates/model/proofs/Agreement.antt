@@ -2,7 +2,8 @@
 use mathlib.Core.Path.{refl}
 use Rattle.model.specs.Table.{operandsIn, operandsOf, isAmong, largestIn, largestOf}
 use Rattle.model.specs.Command.{numberAt, readCommand}
-use Rattle.model.specs.Declared.{countOf, countAmong, occurs, declared, openBody, bodyLength, handlerOf, startsOf, startedIn, turnsOf}
+use Rattle.model.specs.Declared.{countOf, countAmong, occurs, inSpan, declared, openBody, bodyLength, handlerOf, startsOf, startedIn}
+use Rattle.model.specs.Declared.{turnsOf}
 use Rattle.model.specs.Program.{programOf}
 use Rattle.model.specs.State.{tabulate, initialState}
 use Rattle.model.specs.Turn.{someBelow, delivered, turn}
@@ -11,24 +12,25 @@ use Rattle.model.specs.Run.{runFrom, unmonitoredRun, monitoredRun}
 use Rattle.model.specs.Output.{traceBytes, numbersBytes, nodesBytes, variablesBytes, snapshotBytes}
 use Rattle.model.specs.Refusal.{anyOf, groupFalls, violation, decodeFrom, decode, refuseFirst, decodeJob, decodeFor}
 use Rattle.model.specs.Result.{report, monitored, unmonitored}
-use Rattle.model.specs.Examples.{outcome, enough, monitoredRow, unmonitoredRow, times, k1, k1Read, k7, low, traced, nodePart}
+use Rattle.model.specs.Examples.{outcome, enough, monitoredRow, unmonitoredRow, times, k1, k1Read, k7, inFour, traced, nodePart}
 use Rattle.model.specs.Examples.{idleNode, ends, noEntry, k1First, k1Last, examples, ExamplesHold}
 use Rattle.model.specs.Readings.{within, nodes, global, turns, orderRows, variable, undeclaredRows, sightRows, declaredRows, turnRows}
-use Rattle.model.specs.Readings.{ReadingsHold}
+use Rattle.model.specs.Readings.{calling, span, arg, called, forbidden, spanRows, ReadingsHold}
 
 rows-hold : ExamplesHold × ReadingsHold
 unfolding operandsIn operandsOf isAmong largestIn largestOf
     numberAt readCommand
-    countOf countAmong occurs declared openBody bodyLength handlerOf startsOf startedIn turnsOf
+    countOf countAmong occurs inSpan declared openBody bodyLength handlerOf startsOf startedIn turnsOf
     programOf tabulate initialState
     someBelow delivered turn monitoredTurn
     runFrom unmonitoredRun monitoredRun
     traceBytes numbersBytes nodesBytes variablesBytes snapshotBytes
     anyOf groupFalls violation decodeFrom decode refuseFirst decodeJob decodeFor
     report monitored unmonitored
-    outcome enough monitoredRow unmonitoredRow times low traced nodePart idleNode ends noEntry
+    outcome enough monitoredRow unmonitoredRow times inFour traced nodePart idleNode ends noEntry
     k1 k1Read k7 k1First k1Last examples
     within nodes global turns orderRows variable undeclaredRows sightRows declaredRows turnRows
+    calling span arg called forbidden spanRows
 rows-hold = (refl, refl)
 
 -- K1 to K11, and 32 and 33 nodes

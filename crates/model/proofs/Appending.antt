@@ -11,7 +11,8 @@ use lib.Seq.{getD-append-seam, getD-append-add}
 use borrow.Author.Tests.{leb-true, lt-leb, le-leb, le-ltb, ltb-true, ltb-false, eqb-true}
 use Rattle.model.specs.Table.{NODE, TURN, OperandKind, node, width, Row, table, operandsIn, operandsOf, operandAt, groupOf, isAmong}
 use Rattle.model.specs.Table.{largestIn, largestOf, maxTurns, maxJob}
-use Rattle.model.specs.Command.{Command, binary, numberAt, firstAt, secondAt, thirdAt, endAt, commandAt, whole, readCommand}
+use Rattle.model.specs.Command.{Command, binary, numberAt, firstAt, secondAt, thirdAt, fourthAt, endAt, commandAt, whole}
+use Rattle.model.specs.Command.{readCommand}
 use Rattle.model.specs.Declared.{countOf, bodyLength}
 use Rattle.model.specs.Refusal.{anyOf, violation, Refusal, refuse, accepted, rejected, decodeFrom, decode, firstOf, refuseFirst}
 use Rattle.model.specs.Refusal.{isFarJump, farJump, decodeJob}
@@ -40,6 +41,7 @@ module _ (job extra : List ℕ) (place : ℕ) where
         number-prefix job extra (firstAt place) (width (operandAt kinds 0)) (omega arith),
         number-prefix job extra (secondAt place kinds) (width (operandAt kinds 1)) (omega arith),
         number-prefix job extra (thirdAt place kinds) (width (operandAt kinds 2)) (omega arith),
+        number-prefix job extra (fourthAt place kinds) (width (operandAt kinds 3)) (omega arith),
       )
 
   pub read-prefix : (c : Command) (next : ℕ) → readCommand job place ≡ whole c next → readCommand (job ++ extra) place ≡ whole c next

@@ -10,7 +10,7 @@ use borrow.Author.Tests.{ltb-true, ltb-false, lt-ltb, le-ltb, eq-eqb, ne-eqb}
 use Rattle.model.specs.Table.{BODY, START, TURN, groupOf}
 use Rattle.model.specs.Command.{Operands, Command, is}
 use Rattle.model.specs.Declared.{countOf, countAmong, declared, belongs, bodyLength, instruction, handlerOf, turnsOf, only, isSame}
-use Rattle.model.specs.Declared.{occurs, flowOf, openBody, startsOf, startedIn}
+use Rattle.model.specs.Declared.{occurs, spans, inSpan, flowOf, openBody, startsOf, startedIn}
 use Rattle.model.specs.Refusal.{groupFalls}
 use Rattle.model.proofs.Lists.{length-only}
 
@@ -123,6 +123,10 @@ module _ (c : Command) (past : List Command) where
   pub occurs-next : (b : ℕ) (x : Operands) → occurs b x (c ∷ past) ≡ (isSame b x c || occurs b x past)
   unfolding occurs
   occurs-next b x = refl
+
+  pub span-next : (n f argument : ℕ) → inSpan n f argument (c ∷ past) ≡ (spans n f argument c || inSpan n f argument past)
+  unfolding inSpan
+  span-next n f argument = refl
 
   pub open-next : openBody (c ∷ past) ≡ cond (is BODY c) (c .operands .first) (openBody past)
   unfolding openBody

@@ -3,9 +3,9 @@ use Prim.Native.Nat.{ℕ}
 use mathlib.Core.Path.{_≡_}
 use mathlib.Core.Bool.{false}
 use mathlib.Core.List.{List, _∷_, append-nil}
-use Rattle.model.specs.Table.{WIRE, ANY, ARG, READ, WRITE, TURN}
+use Rattle.model.specs.Table.{WIRE, ANY, ARG, READ, WRITE, SPAN, TURN}
 use Rattle.model.specs.Command.{Operands, binary, ternary, Command, is}
-use Rattle.model.specs.Declared.{countOf, occurs, declared, handlerOf, startsOf}
+use Rattle.model.specs.Declared.{countOf, occurs, inSpan, declared, handlerOf, startsOf}
 use Rattle.model.specs.Program.{Program, programOf}
 
 -- two programs that agree everywhere
@@ -52,6 +52,10 @@ occurs-other : (b : ℕ) (x : Operands) (c : Command) (past : List Command) → 
 unfolding occurs
 occurs-other b x c past e = rw e
 
+span-other : (n f argument : ℕ) (c : Command) (past : List Command) → is SPAN c ≡ false → inSpan n f argument (c ∷ past) ≡ inSpan n f argument past
+unfolding inSpan
+span-other n f argument c past e = rw e
+
 -- the program of a job does not depend on its turns
 pub program-turn : (c : Command) (past : List Command) → c .byte ≡ TURN → programOf (c ∷ past) ≡ programOf past
 unfolding programOf countOf declared handlerOf startsOf
@@ -68,7 +72,12 @@ program-turn c past e =
       startValue = λ x. rw e;
       answer = λ f argument. rw e;
       wired = λ n port t. occurs-other WIRE (ternary n port t) c past (rw e);
-      mayCall = λ n f argument. rw (occurs-other ANY (binary n f) c past (rw e), occurs-other ARG (ternary n f argument) c past (rw e));
+      mayCall = λ n f argument.
+          rw (
+            occurs-other ANY (binary n f) c past (rw e),
+            occurs-other ARG (ternary n f argument) c past (rw e),
+            span-other n f argument c past (rw e),
+          );
       mayRead = λ n x. occurs-other READ (binary n x) c past (rw e);
       mayWrite = λ n x. occurs-other WRITE (binary n x) c past (rw e);
       handler = λ n. rw e (append-nil (handlerOf past n));

@@ -27,9 +27,17 @@ same-named b x c e n =
     let q : c .operands .first ≡ x .first = eqb-true (c .operands .first) (x .first) (and-left (eqb (c .operands .first) (x .first)) _ t) in
     let r : c .operands .second ≡ x .second = eqb-true (c .operands .second) (x .second)
     (and-left (eqb (c .operands .second) (x .second)) _ u) in
+    let w = and-right (eqb (c .operands .second) (x .second)) _ u in
     let s : c .operands .third ≡ x .third = eqb-true (c .operands .third) (x .third)
-    (and-right (eqb (c .operands .second) (x .second)) _ u) in
-    record { first = rw (p, q) at (n .first); second = rw (p, r) at (n .second); third = rw (p, s) at (n .third) }
+    (and-left (eqb (c .operands .third) (x .third)) _ w) in
+    let y : c .operands .fourth ≡ x .fourth = eqb-true (c .operands .fourth) (x .fourth)
+    (and-right (eqb (c .operands .third) (x .third)) _ w) in
+    record {
+      first = rw (p, q) at (n .first);
+      second = rw (p, r) at (n .second);
+      third = rw (p, s) at (n .third);
+      fourth = rw (p, y) at (n .fourth);
+    }
 
 -- what occurs is in range, so that a table that ends there misses nothing
 pub occurs-inside : (past : List Command) → Valid past → (b : ℕ) (x : Operands) → occurs b x past ≡ true → Named b x
@@ -171,7 +179,8 @@ body-alone past c v e =
     let p : c .byte ≡ BODY = eqb-true (c .byte) BODY e in
     let q : c .operands .second ≡ 0 = rw p at (named past c v .second) in
     let r : c .operands .third ≡ 0 = rw p at (named past c v .third) in
-    λ i. record { first = c .operands .first; second = q i; third = r i }
+    let s : c .operands .fourth ≡ 0 = rw p at (named past c v .fourth) in
+    λ i. record { first = c .operands .first; second = q i; third = r i; fourth = s i }
 
 -- the open handler has its BODY
 open-occurs : (past : List Command) → Valid past → ¬ (countOf BODY past ≡ 0) → occurs BODY (binary (openBody past) 0) past ≡ true

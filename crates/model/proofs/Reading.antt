@@ -9,8 +9,8 @@ use lib.Dec.{leb}
 use lib.ListN.{length, getD}
 use borrow.Author.Tests.{le-leb, lt-leb, leb-true}
 use Rattle.model.specs.Table.{OperandKind, absent, width, operandsOf}
-use Rattle.model.specs.Command.{Command, numberAt, whole, unknown, cutShort, endAt, firstAt, secondAt, thirdAt, commandAt, readAs}
-use Rattle.model.specs.Command.{readCommand}
+use Rattle.model.specs.Command.{Command, numberAt, whole, unknown, cutShort, endAt, firstAt, secondAt, thirdAt, fourthAt, commandAt}
+use Rattle.model.specs.Command.{readAs, readCommand}
 use Rattle.model.specs.Valid.{Plain}
 
 -- an operand of 4 bytes, of 1 byte, and of none
@@ -85,6 +85,7 @@ read-at job place c next e = by-operands (operandsOf (getD job place 0)) refl e
                 first = λ h. absent-zero job (firstAt place) _ (rw o at h);
                 second = λ h. absent-zero job (secondAt place kinds) _ (rw o at h);
                 third = λ h. absent-zero job (thirdAt place kinds) _ (rw o at h);
+                fourth = λ h. absent-zero job (fourthAt place kinds) _ (rw o at h);
               };
           here = refl;
           byte = refl;

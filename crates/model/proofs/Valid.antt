@@ -1,19 +1,19 @@
--- The commands of every accepted job passed the tests 2 to 8; their counts keep the limits and their operands are in range.
+-- The commands of every accepted job passed the tests 2 to 8 and 15; their counts keep the limits and their operands are in range.
 use Prim.Native.Nat.{ℕ, suc, _+_, _≤_, _<_, zero-le}
-use mathlib.Core.Path.{_≡_, refl}
-use mathlib.Core.Bool.{Bool, true, false, cond, not, _&&_}
+use mathlib.Core.Path.{_≡_, refl, sym}
+use mathlib.Core.Bool.{Bool, true, false, cond, not, _&&_, _||_}
 use mathlib.Core.List.{List, [], _∷_}
 use mathlib.Core.Option.{some}
 use native.Mathlib.Omega.{arith}
 use lib.Dec.{leb, eqb}
 use borrow.Author.Tests.{leb-false, ltb-false, eqb-true}
-use Rattle.model.specs.Table.{FLOW, NODE, VAR, FUN, ARG, TURN, OperandKind, scope, owner, start, answer, node, port, target, function}
-use Rattle.model.specs.Table.{value, variable, jump, absent, limit, isAmong, largestIn, largestOf, maxFlows, maxNodes, maxVariables}
-use Rattle.model.specs.Table.{maxFunctions, maxArgCommands, maxTurns}
+use Rattle.model.specs.Table.{FLOW, NODE, VAR, FUN, ARG, SPAN, TURN, OperandKind, scope, owner, start, answer, node, port, target}
+use Rattle.model.specs.Table.{function, value, low, high, variable, jump, absent, limit, isAmong, largestIn, largestOf, maxFlows, maxNodes}
+use Rattle.model.specs.Table.{maxVariables, maxFunctions, maxRanges, maxTurns}
 use Rattle.model.specs.Command.{Command, is}
 use Rattle.model.specs.Declared.{countOf, countAmong, isHandler, openBody, belongs, bodyLength}
 use Rattle.model.specs.Refusal.{groupFalls, isReached, exceedsCount, countsOf, noOwner, namesNothing, undeclared, outOfReach}
-use Rattle.model.specs.Refusal.{repeated, violation, accepted, decode, decodeJob, sizes}
+use Rattle.model.specs.Refusal.{repeated, emptySpan, violation, accepted, decode, decodeJob, sizes}
 use Rattle.model.specs.Conclusion.{Reads, begin, further, Refuses}
 use Rattle.model.specs.Valid.{InRange, Valid, Passes, ValidJob, Named, Limits}
 use Rattle.model.proofs.Reading.{read-at}
@@ -34,14 +34,15 @@ passes past c e =
     let d = cond-false (undeclared past c) 5 _ (b .1) in
     let f = cond-false (outOfReach past c) 6 _ (d .1) in
     let g = cond-false (repeated past c) 7 _ (f .1) in
-    record { ordered = a .0; counted = b .0; declares = d .0; reaches = f .0; fresh = g .0 }
+    let h = cond-false (emptySpan c) 14 _ (g .1) in
+    record { ordered = a .0; counted = b .0; declares = d .0; reaches = f .0; fresh = g .0; ascends = h .0 }
 
 -- the commands that a job reads are valid
 pub reads-valid : {job : List ℕ} {place : ℕ} {past : List Command} → Reads job place past → Valid past
 reads-valid begin = tt
 reads-valid {job} (further place past c next reads h e v) = (reads-valid reads, read-at job place c next e .plain, v)
 
--- an accepted job's commands are valid, after tests 1 to 8, 1 to 9 and 1 to 12
+-- an accepted job's commands are valid, after the tests of commands, after 9 and after all
 pub decoded-valid : (job : List ℕ) (past : List Command) → decode job ≡ accepted past → Valid past
 decoded-valid job past e = let w : Decides (PassedEight job) (Refuses job (sizes 0 0 0)) (accepted past) = rw e at
     (decode-walked job (sizes 0 0 0)) in reads-valid (w .reads)
@@ -52,23 +53,70 @@ job-accepted job past e = rw e at (decode-job-walked job (sizes 0 0 0))
 pub job-valid : (job : List ℕ) (past : List Command) → decodeJob job ≡ accepted past → ValidJob past
 job-valid job past e = let j = job-accepted job past e in record { commands = reads-valid (j .read .reads); jumps = j .jumps }
 
--- a largest count is kept
-module _ (past : List Command) (c : Command) (b most : ℕ) (m : largestOf b ≡ some (limit (b ∷ []) most))
-    (e : exceedsCount past c ≡ false) where
-  count-step : countOf b past ≤ most → (t : Bool) → is b c ≡ t → cond t (countOf b past + 1) (countOf b past) ≤ most
-  unfolding countAmong
-  count-step h false p = h
-  count-step h true p =
-      let q : c .byte ≡ b = eqb-true (c .byte) b p in
-      let r : isReached (largestOf (c .byte)) past ≡ false = none-of 0 _ e in
-      let r′ : leb most (countAmong (b ∷ []) past) ≡ false = rw (q, m) at r in
-      omega (arith, leb-false most (countAmong (b ∷ []) past) r′)
+-- each of these bytes has this largest count, which is the count of `all`; and no byte stands twice among them
+abbrev Share : List ℕ → ℕ → List ℕ → Type 0
+Share all most [] = Unit {0}
+Share all most (b ∷ bytes) = (largestOf b ≡ some (limit all most)) × ((isAmong b bytes ≡ false) × Share all most bytes)
 
-pub count-limit : (past : List Command) → Valid past → (b most : ℕ) → largestOf b ≡ some (limit (b ∷ []) most) → countOf b past ≤ most
-unfolding countOf
-count-limit [] v b most m = zero-le
-count-limit (c ∷ past) v b most m = count-step past c b most m (passes past c (v .2) .counted) (count-limit past (v .0) b most m)
-    (is b c) refl
+-- one command more counts once, if its byte is among them
+among-grows :
+    (all : List ℕ) (most : ℕ) (c : Command) (past : List Command) (bytes : List ℕ) → Share all most bytes
+    → countAmong bytes (c ∷ past) ≤ cond (isAmong (c .byte) bytes) (countAmong bytes past + 1) (countAmong bytes past)
+unfolding countAmong countOf isAmong
+among-grows all most c past [] s = zero-le
+among-grows all most c past (b ∷ bytes) s = by-byte (is b c) refl (among-grows all most c past bytes (s .1 .1))
+  where
+    by-byte :
+        (t : Bool) → is b c ≡ t
+        → countAmong bytes (c ∷ past) ≤ cond (isAmong (c .byte) bytes) (countAmong bytes past + 1) (countAmong bytes past)
+        → cond t (countOf b past + 1) (countOf b past) + countAmong bytes (c ∷ past)
+        ≤ cond (t || isAmong (c .byte) bytes) (countOf b past + countAmong bytes past + 1) (countOf b past + countAmong bytes past)
+    by-byte true p h =
+        let away : isAmong (c .byte) bytes ≡ false = rw (eqb-true (c .byte) b p) (s .1 .0) in
+        let k : countAmong bytes (c ∷ past) ≤ countAmong bytes past = rw away at h in
+        omega (arith, k)
+    by-byte false p h = by-rest (isAmong (c .byte) bytes) h
+      where
+        by-rest :
+            (u : Bool) → countAmong bytes (c ∷ past) ≤ cond u (countAmong bytes past + 1) (countAmong bytes past)
+            → countOf b past + countAmong bytes (c ∷ past)
+            ≤ cond u (countOf b past + countAmong bytes past + 1) (countOf b past + countAmong bytes past)
+        by-rest true k = omega arith
+        by-rest false k = omega arith
+
+-- the largest count of a byte that is among them
+among-limit : (all : List ℕ) (most d : ℕ) (bytes : List ℕ) → Share all most bytes → isAmong d bytes ≡ true → largestOf d ≡ some (limit all most)
+unfolding isAmong
+among-limit all most d [] s e = true-false (sym e)
+among-limit all most d (b ∷ bytes) s e = by-byte (eqb d b) refl e (among-limit all most d bytes (s .1 .1))
+  where
+    by-byte :
+        (t : Bool) → eqb d b ≡ t → (t || isAmong d bytes) ≡ true → (isAmong d bytes ≡ true → largestOf d ≡ some (limit all most))
+        → largestOf d ≡ some (limit all most)
+    by-byte true p e rest = rw (eqb-true d b p) (s .0)
+    by-byte false p e rest = rest e
+
+-- before every command, the count is 0
+none-among : (bytes : List ℕ) → countAmong bytes [] ≡ 0
+unfolding countAmong countOf
+none-among [] = refl
+none-among (b ∷ bytes) = omega (arith, none-among bytes)
+
+-- a largest count is kept
+pub count-limit : (bytes : List ℕ) (most : ℕ) → Share bytes most bytes → (past : List Command) → Valid past → countAmong bytes past ≤ most
+count-limit bytes most s [] v = rw (none-among bytes) zero-le
+count-limit bytes most s (c ∷ past) v =
+    by-byte (isAmong (c .byte) bytes) refl (count-limit bytes most s past (v .0)) (among-grows bytes most c past bytes s)
+  where
+    by-byte :
+        (t : Bool) → isAmong (c .byte) bytes ≡ t → countAmong bytes past ≤ most
+        → countAmong bytes (c ∷ past) ≤ cond t (countAmong bytes past + 1) (countAmong bytes past)
+        → countAmong bytes (c ∷ past) ≤ most
+    by-byte false p h g = omega arith
+    by-byte true p h g =
+        let r : isReached (largestOf (c .byte)) past ≡ false = none-of 0 _ (passes past c (v .2) .counted) in
+        let r′ : leb most (countAmong bytes past) ≡ false = rw (among-limit bytes most (c .byte) bytes s p) at r in
+        omega (arith, leb-false most (countAmong bytes past) r′)
 
 -- a handler's largest count is kept
 handler-step :
@@ -87,15 +135,16 @@ handler-limit [] v n = zero-le
 handler-limit (c ∷ past) v n = handler-step past c n (handler-limit past (v .0) n) (passes past c (v .2) .counted) (belongs past c n) refl
 
 pub limits : (past : List Command) → Valid past → Limits past
-unfolding largestOf largestIn isAmong
+unfolding largestOf largestIn isAmong countAmong
 limits past v =
+    let kept : (b most : ℕ) → Share (b ∷ []) most (b ∷ []) → countAmong (b ∷ []) past ≤ most = λ b most s. count-limit (b ∷ []) most s past v in
     record {
-      flows = count-limit past v FLOW maxFlows refl;
-      nodes = count-limit past v NODE maxNodes refl;
-      variables = count-limit past v VAR maxVariables refl;
-      functions = count-limit past v FUN maxFunctions refl;
-      arguments = count-limit past v ARG maxArgCommands refl;
-      turns = count-limit past v TURN maxTurns refl;
+      flows = omega (arith, kept FLOW maxFlows (refl, (refl, tt)));
+      nodes = omega (arith, kept NODE maxNodes (refl, (refl, tt)));
+      variables = omega (arith, kept VAR maxVariables (refl, (refl, tt)));
+      functions = omega (arith, kept FUN maxFunctions (refl, (refl, tt)));
+      ranges = omega (arith, count-limit (ARG ∷ SPAN ∷ []) maxRanges (refl, (refl, (refl, (refl, tt)))) past v);
+      turns = omega (arith, kept TURN maxTurns (refl, (refl, tt)));
       handlers = handler-limit past v;
     }
 
@@ -123,6 +172,8 @@ module _ (past : List Command) (l : Limits past) (s : ℕ) where
   in-range target x z e = omega (arith, leb-false (countOf NODE past) x e, l .nodes)
   in-range function x z e = omega (arith, leb-false (countOf FUN past) x e, l .functions)
   in-range value x z e = tt
+  in-range low x z e = tt
+  in-range high x z e = tt
   in-range variable x z e = omega (arith, leb-false (countOf VAR past) x e, l .variables)
   in-range jump x z e = tt
   in-range absent x z e = z refl
@@ -135,4 +186,5 @@ named past c v =
       first = in-range past l (c .operands .first) _ (c .operands .first) (v .1 .first) (none-of 2 _ e);
       second = in-range past l (c .operands .first) _ (c .operands .second) (v .1 .second) (none-of 3 _ e);
       third = in-range past l (c .operands .first) _ (c .operands .third) (v .1 .third) (none-of 4 _ e);
+      fourth = in-range past l (c .operands .first) _ (c .operands .fourth) (v .1 .fourth) (none-of 5 _ e);
     }

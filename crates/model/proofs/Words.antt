@@ -7,9 +7,9 @@ use native.Mathlib.Omega.{arith}
 use native.Mathlib.Nat.{div-div-eq-div-mul, div-add-mod', mod-eq-of-lt}
 use lib.Dec.{eqb}
 use lib.ListN.{length, getD, set, drop}
-use Rattle.model.specs.Table.{VAR, FUN, START, OperandKind, scope, owner, start, answer, node, port, target, function, value}
-use Rattle.model.specs.Table.{variable, jump, absent, width, operandAt, maxNodes, maxVariables}
-use Rattle.model.specs.Command.{Operands, Command, is, numberAt, firstAt, secondAt, thirdAt, operandsAt}
+use Rattle.model.specs.Table.{VAR, FUN, START, OperandKind, scope, owner, start, answer, node, port, target, function}
+use Rattle.model.specs.Table.{value, low, high, variable, jump, absent, width, operandAt, maxNodes, maxVariables}
+use Rattle.model.specs.Command.{Operands, Command, is, numberAt, firstAt, secondAt, thirdAt, fourthAt, operandsAt}
 use Rattle.model.specs.Declared.{countOf, declared, belongs, Instruction, instruction, handlerOf, startsOf, turnsOf}
 use Rattle.model.specs.Program.{Program, programOf}
 use Rattle.model.specs.State.{State, positionAt, accumulatorAt, queueAt, initialState}
@@ -47,6 +47,8 @@ module _ (job : List ℕ) (bytes : Bytes job) (at : ℕ) where
   number-fits target = one-fits
   number-fits function = one-fits
   number-fits value = four-fit
+  number-fits low = four-fit
+  number-fits high = four-fit
   number-fits variable = one-fits
   number-fits jump = one-fits
   number-fits absent = none-fits
@@ -56,6 +58,7 @@ pub record OperandsFit (x : Operands) : Type 0 where
   pub first : x .first < 2 ^ 32
   pub second : x .second < 2 ^ 32
   pub third : x .third < 2 ^ 32
+  pub fourth : x .fourth < 2 ^ 32
 
 abbrev pub CommandsFit : List Command → Type 0
 CommandsFit [] = Unit {0}
@@ -70,6 +73,7 @@ reads-fit {job} bytes (further place past c next reads h e v) =
       second = number-fits job bytes (secondAt place (r .kinds))
           (operandAt (r .kinds) 1);
       third = number-fits job bytes (thirdAt place (r .kinds)) (operandAt (r .kinds) 2);
+      fourth = number-fits job bytes (fourthAt place (r .kinds)) (operandAt (r .kinds) 3);
     } in
     (reads-fit bytes reads, rw (← r .command) small)
 

@@ -12,17 +12,25 @@ pub record Operands : Type 0 where
   pub first : ℕ
   pub second : ℕ
   pub third : ℕ
+  pub fourth : ℕ
 
--- three operands, and two
+-- four operands, three, and two
+abbrev pub quaternary : ℕ → ℕ → ℕ → ℕ → Operands
+quaternary x y z w = record { first = x; second = y; third = z; fourth = w }
+
 abbrev pub ternary : ℕ → ℕ → ℕ → Operands
-ternary x y z = record { first = x; second = y; third = z }
+ternary x y z = quaternary x y z 0
 
 abbrev pub binary : ℕ → ℕ → Operands
 binary x y = ternary x y 0
 
 -- the operands are the same
 abbrev pub sameOperands : Operands → Operands → Bool
-sameOperands x y = eqb (x .first) (y .first) && (eqb (x .second) (y .second) && eqb (x .third) (y .third))
+sameOperands x y =
+    eqb (x .first) (y .first)
+    && (eqb (x .second) (y .second)
+    && (eqb (x .third) (y .third)
+    && eqb (x .fourth) (y .fourth)))
 
 -- a command: the offset of its byte in the job, its byte, and its operands
 pub record Command : Type 0 where
@@ -39,7 +47,7 @@ unfoldable pub numberAt : List ℕ → ℕ → ℕ → ℕ
 numberAt job place zero = 0
 numberAt job place (suc w) = getD job place 0 + 256 * numberAt job (place + 1) w
 
--- where the first, second and third operand of a command begin, and where the next command does
+-- where each operand of a command begins, and where the next command does
 abbrev pub firstAt : ℕ → ℕ
 firstAt place = place + 1
 
@@ -49,15 +57,19 @@ secondAt place kinds = firstAt place + width (operandAt kinds 0)
 abbrev pub thirdAt : ℕ → List OperandKind → ℕ
 thirdAt place kinds = secondAt place kinds + width (operandAt kinds 1)
 
+abbrev pub fourthAt : ℕ → List OperandKind → ℕ
+fourthAt place kinds = thirdAt place kinds + width (operandAt kinds 2)
+
 abbrev pub endAt : ℕ → List OperandKind → ℕ
-endAt place kinds = thirdAt place kinds + width (operandAt kinds 2)
+endAt place kinds = fourthAt place kinds + width (operandAt kinds 3)
 
 -- the operands of these kinds after a command byte
 abbrev pub operandsAt : List ℕ → ℕ → List OperandKind → Operands
 operandsAt job place kinds =
-    ternary (numberAt job (firstAt place) (width (operandAt kinds 0)))
+    quaternary (numberAt job (firstAt place) (width (operandAt kinds 0)))
     (numberAt job (secondAt place kinds) (width (operandAt kinds 1)))
     (numberAt job (thirdAt place kinds) (width (operandAt kinds 2)))
+    (numberAt job (fourthAt place kinds) (width (operandAt kinds 3)))
 
 -- the command with operands of these kinds at a place of a job
 abbrev pub commandAt : List ℕ → ℕ → List OperandKind → Command

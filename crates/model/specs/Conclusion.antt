@@ -21,7 +21,7 @@ pub record HasLength (job : List ℕ) : Type 0 where
   pub lowest : 1 ≤ length job
   pub highest : length job ≤ maxJob
 
--- the commands of a job up to a place, the latest first: each is read where the one before it ends, and passes the tests 2 to 8
+-- the commands of a job up to a place, the latest first: each is read where the one before it ends, and passes the tests 2 to 8 and 15
 pub data Reads (job : List ℕ) : ℕ → List Command → Type 0 where
   begin : Reads job 0 []
   further :
@@ -33,7 +33,7 @@ pub data Refuses (job : List ℕ) (b : Sizes) : Refusal → Type 0 where
   -- 1
   empty : length job ≡ 0 → Refuses job b (refuse 1 0)
   long : maxJob < length job → Refuses job b (refuse 1 0)
-  -- 2, 3, and 4 to 8, at the first offending command
+  -- 2, 3, and 4 to 8 and 15, at the first offending command
   noCommand :
       HasLength job → (place : ℕ) (past : List Command)
       → Reads job place past → place < length job → readCommand job place ≡ unknown → Refuses job b (refuse 2 place)

@@ -4,7 +4,7 @@ use Prim.Native.Nat.{ℕ, _+_, _-_}
 use mathlib.Core.Bool.{Bool, true, false, cond, not, _&&_, _||_}
 use mathlib.Core.List.{List, [], _∷_, _++_}
 use lib.Dec.{leb, eqb}
-use Rattle.model.specs.Table.{FLOW, NODE, VAR, FUN, BODY, SET, SKIP, START, TURN}
+use Rattle.model.specs.Table.{FLOW, NODE, VAR, FUN, SPAN, BODY, SET, SKIP, START, TURN}
 use Rattle.model.specs.Command.{Operands, sameOperands, Command, is}
 
 -- a list of the value if the test passes, and else the empty list
@@ -30,6 +30,20 @@ isSame b x c = is b c && sameOperands (c .operands) x
 unfoldable pub occurs : ℕ → Operands → List Command → Bool
 occurs b x [] = false
 occurs b x (c ∷ past) = isSame b x c || occurs b x past
+
+-- the command is a SPAN of the node and the function that permits the argument: from low to high, both ends included
+abbrev pub spans : ℕ → ℕ → ℕ → Command → Bool
+spans n f argument c =
+    is SPAN c
+    && (eqb (c .operands .first) n
+    && (eqb (c .operands .second) f
+    && (leb (c .operands .third) argument
+    && leb argument (c .operands .fourth))))
+
+-- some command is such a SPAN
+unfoldable pub inSpan : ℕ → ℕ → ℕ → List Command → Bool
+inSpan n f argument [] = false
+inSpan n f argument (c ∷ past) = spans n f argument c || inSpan n f argument past
 
 -- what `value` gives for command x of those with this byte, and for the commands before it; 0 if there is none
 unfoldable pub declared : (Command → List Command → ℕ) → ℕ → List Command → ℕ → ℕ

@@ -5,7 +5,7 @@ use mathlib.Core.List.{List}
 use Rattle.model.specs.Table.{FLOW, NODE, VAR, FUN, WIRE, ANY, ARG, READ, WRITE}
 use Rattle.model.specs.Command.{Command, binary, ternary}
 use Rattle.model.specs.Declared.{Instruction, countOf, occurs, flowOf, scopeOf, ownerOf, startOf, funAnswerOf, isShared, handlerOf}
-use Rattle.model.specs.Declared.{startsOf}
+use Rattle.model.specs.Declared.{inSpan, startsOf}
 
 -- a program
 pub record Program : Type 0 where
@@ -24,7 +24,7 @@ pub record Program : Type 0 where
   pub answer : ℕ → ℕ → ℕ
   -- a port is wired to a target: by node, port and target
   pub wired : ℕ → ℕ → ℕ → Bool
-  -- a call is permitted: by node, function and argument
+  -- a call is permitted, by ANY, ARG or SPAN: by node, function and argument
   pub mayCall : ℕ → ℕ → ℕ → Bool
   -- reading is permitted, writing is: by node and variable
   pub mayRead : ℕ → ℕ → Bool
@@ -52,7 +52,7 @@ programOf past =
       startValue = startOf past;
       answer = λ f argument. funAnswerOf past f;
       wired = λ n port t. occurs WIRE (ternary n port t) past;
-      mayCall = λ n f argument. occurs ANY (binary n f) past || occurs ARG (ternary n f argument) past;
+      mayCall = λ n f argument. occurs ANY (binary n f) past || (occurs ARG (ternary n f argument) past || inSpan n f argument past);
       mayRead = λ n x. occurs READ (binary n x) past;
       mayWrite = λ n x. occurs WRITE (binary n x) past;
       handler = handlerOf past;

@@ -1,13 +1,14 @@
--- When a job is refused ("When a job is turned away"): the tests 1 to 12, each with its number and place, in their order.
+-- When a job is refused ("When a job is turned away"): the tests 1 to 12, and 15 of request S-5 after
+-- test 8, each with its number and place, in their order.
 use Prim.Native.Nat.{ℕ, zero, suc, _*_}
 use mathlib.Core.Bool.{Bool, false, cond, not, _&&_, _||_}
 use mathlib.Core.List.{List, [], _∷_}
 use mathlib.Core.Option.{Option, none, some}
 use lib.Dec.{leb, ltb, eqb}
 use lib.ListN.{length}
-use Rattle.model.specs.Table.{FLOW, NODE, VAR, FUN, WIRE, READ, WRITE, BODY, GET, PUT, PLUS, JUMPZ, JUMP, START, TURN, OperandKind}
-use Rattle.model.specs.Table.{scope, owner, start, answer, node, port, target, function, value, variable, jump, absent, kindAt}
-use Rattle.model.specs.Table.{groupOf, Limit, largestOf, maxPort, maxHandler, maxJob}
+use Rattle.model.specs.Table.{FLOW, NODE, VAR, FUN, WIRE, READ, WRITE, SPAN, BODY, GET, PUT, PLUS, JUMPZ, JUMP, START, TURN, OperandKind}
+use Rattle.model.specs.Table.{scope, owner, start, answer, node, port, target, function, value, low, high, variable, jump}
+use Rattle.model.specs.Table.{absent, kindAt, groupOf, Limit, largestOf, maxPort, maxHandler, maxJob}
 use Rattle.model.specs.Command.{Command, Parsed, whole, unknown, cutShort, is, readCommand}
 use Rattle.model.specs.Declared.{countOf, countAmong, occurs, flowOf, shared, sees, isHandler, openBody, bodyLength, startedIn}
 
@@ -61,6 +62,8 @@ namesNothing d s port x = ltb maxPort x
 namesNothing d s target x = leb (d .nodes) x
 namesNothing d s function x = leb (d .functions) x
 namesNothing d s value x = false
+namesNothing d s low x = false
+namesNothing d s high x = false
 namesNothing d s variable x = leb (d .variables) x
 namesNothing d s jump x = false
 namesNothing d s absent x = false
@@ -74,6 +77,7 @@ undeclared past c =
     ∷ namesNothing (countsOf past) (c .operands .first) (kindAt (c .byte) 0) (c .operands .first)
     ∷ namesNothing (countsOf past) (c .operands .first) (kindAt (c .byte) 1) (c .operands .second)
     ∷ namesNothing (countsOf past) (c .operands .first) (kindAt (c .byte) 2) (c .operands .third)
+    ∷ namesNothing (countsOf past) (c .operands .first) (kindAt (c .byte) 3) (c .operands .fourth)
     ∷ [])
 
 -- the handler commands that name a variable
@@ -107,14 +111,19 @@ repeated past c =
     ∷ (is START c && startedIn past (flowOf past (c .operands .first)))
     ∷ [])
 
--- the number of the first of the tests 4 to 8 that refuses the command, or 0
+-- 15 (S-5): a SPAN whose low is above its high
+abbrev pub emptySpan : Command → Bool
+emptySpan c = is SPAN c && ltb (c .operands .fourth) (c .operands .third)
+
+-- the number of the first of the tests 4 to 8, and 15, that refuses the command, or 0
 unfoldable pub violation : List Command → Command → ℕ
 violation past c =
     cond (groupFalls past c) 4
     (cond (exceedsCount past c) 5
     (cond (undeclared past c) 6
     (cond (outOfReach past c) 7
-    (cond (repeated past c) 8 0))))
+    (cond (repeated past c) 8
+    (cond (emptySpan c) 15 0)))))
 
 -- a refusal: its number and its place
 pub record Refusal : Type 0 where
@@ -135,20 +144,20 @@ abbrev pub decodeNext : (ℕ → List Command → Decoded) → ℕ → List Comm
 decodeNext rest place past c next zero = rest next (c ∷ past)
 decodeNext rest place past c next (suc k) = rejected (refuse (suc k) place)
 
--- 2 and 3, and then 4 to 8, by what is read at a place
+-- 2 and 3, and then 4 to 8 and 15, by what is read at a place
 abbrev pub decodeRead : (ℕ → List Command → Decoded) → ℕ → List Command → Parsed → Decoded
 decodeRead rest place past unknown = rejected (refuse 2 place)
 decodeRead rest place past cutShort = rejected (refuse 3 place)
 decodeRead rest place past (whole c next) = decodeNext rest place past c next (violation past c)
 
--- 2 to 8 from a place of the job on, after the commands `past`; the first number bounds how many commands are left, and the job's length
+-- 2 to 8 and 15 from a place of the job on, after the commands `past`; the first number bounds how many commands are left, and the job's length
 -- is enough
 unfoldable pub decodeFrom : ℕ → List ℕ → ℕ → List Command → Decoded
 decodeFrom zero job place past = accepted past
 decodeFrom (suc fuel) job place past = cond (ltb place (length job)) (decodeRead (decodeFrom fuel job) place past (readCommand job place))
     (accepted past)
 
--- the commands of a job after the tests 1 to 8, or its refusal
+-- the commands of a job after the tests 1 to 8 and 15, or its refusal
 unfoldable pub decode : List ℕ → Decoded
 decode job = cond (eqb (length job) 0 || ltb maxJob (length job)) (rejected (refuse 1 0)) (decodeFrom (length job) job 0 [])
 
@@ -180,7 +189,7 @@ isFarJump all past c = (is JUMPZ c || is JUMP c) && ltb (bodyLength all (openBod
 abbrev pub farJump : List Command → Option Refusal
 farJump all = refuseFirst 9 (isFarJump all) all
 
--- the commands of a job after the tests 1 to 9, or its refusal
+-- the commands of a job after the tests 1 to 8, 15 and 9, or its refusal
 unfoldable pub decodeJob : List ℕ → Decoded
 decodeJob job = andThen farJump (decode job)
 
@@ -224,6 +233,6 @@ shortBufferAsking asked job b past =
 abbrev pub shortBuffer : List ℕ → Sizes → List Command → Option Refusal
 shortBuffer = shortBufferAsking workSize
 
--- the commands of a job after the tests 1 to 12, with buffers of these lengths, or its refusal
+-- the commands of a job after all tests, with buffers of these lengths, or its refusal
 unfoldable pub decodeFor : List ℕ → Sizes → Decoded
 decodeFor job b = andThen (shortBuffer job b) (decodeJob job)

@@ -1,4 +1,5 @@
 -- The command table ("The job"): each command byte with its operands, in the paper's order and under the paper's names; the largest counts.
+-- SPAN is that of request S-5.
 use Prim.Native.Nat.{ℕ, _/_}
 use mathlib.Core.Bool.{Bool, false, cond, _||_}
 use mathlib.Core.List.{List, [], _∷_}
@@ -33,6 +34,9 @@ READ = 0x32
 
 abbrev pub WRITE : ℕ
 WRITE = 0x33
+
+abbrev pub SPAN : ℕ
+SPAN = 0x34
 
 abbrev pub BODY : ℕ
 BODY = 0x40
@@ -79,9 +83,9 @@ TURN = 0x60
 -- what an operand is, by the name in its column: `target` is that of a wire, `jump` that of a jump; `absent` stands where a command has no
 -- operand
 pub data OperandKind : Type 0 where
-  scope owner start answer node port target function value variable jump absent : OperandKind
+  scope owner start answer node port target function value low high variable jump absent : OperandKind
 
--- the bytes of an operand: one, but four for `value`, `start` and `answer`
+-- the bytes of an operand: one, but four for `value`, `start` and `answer`, and for `low` and `high`
 abbrev pub width : OperandKind → ℕ
 width scope = 1
 width owner = 1
@@ -92,6 +96,8 @@ width port = 1
 width target = 1
 width function = 1
 width value = 4
+width low = 4
+width high = 4
 width variable = 1
 width jump = 1
 width absent = 0
@@ -117,6 +123,7 @@ table =
     ∷ row ARG (node ∷ function ∷ value ∷ [])
     ∷ row READ (node ∷ variable ∷ [])
     ∷ row WRITE (node ∷ variable ∷ [])
+    ∷ row SPAN (node ∷ function ∷ low ∷ high ∷ [])
     ∷ row BODY (node ∷ [])
     ∷ row SET (value ∷ [])
     ∷ row TAKE []
@@ -159,7 +166,8 @@ kindAt b i = operandAt (listOf (operandsOf b)) i
 abbrev pub groupOf : ℕ → ℕ
 groupOf b = b / 16
 
--- the largest counts ("Largest counts"): flows, nodes, variables, functions, commands of a body, ARG commands, turns
+-- the largest counts ("Largest counts"): flows, nodes, variables, functions, commands of a body, ARG and SPAN commands
+-- together (S-5), turns
 abbrev pub maxFlows : ℕ
 maxFlows = 8
 
@@ -175,8 +183,8 @@ maxFunctions = 32
 abbrev pub maxHandler : ℕ
 maxHandler = 64
 
-abbrev pub maxArgCommands : ℕ
-maxArgCommands = 256
+abbrev pub maxRanges : ℕ
+maxRanges = 256
 
 abbrev pub maxTurns : ℕ
 maxTurns = 4096
@@ -209,7 +217,7 @@ largestCounts =
     ∷ limit (NODE ∷ []) maxNodes
     ∷ limit (VAR ∷ []) maxVariables
     ∷ limit (FUN ∷ []) maxFunctions
-    ∷ limit (ARG ∷ []) maxArgCommands
+    ∷ limit (ARG ∷ SPAN ∷ []) maxRanges
     ∷ limit (TURN ∷ []) maxTurns
     ∷ []
 

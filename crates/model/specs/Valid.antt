@@ -1,21 +1,22 @@
 -- What holds of the commands of every accepted job, and of every state of its runs: what proofs about code rest on. No definition above
 -- uses it.
-use Prim.Native.Nat.{ℕ, _^_, _≤_, _<_}
+use Prim.Native.Nat.{ℕ, _+_, _^_, _≤_, _<_}
 use mathlib.Core.Path.{_≡_}
 use mathlib.Core.Bool.{true, false, _&&_}
 use mathlib.Core.List.{List, [], _∷_}
 use mathlib.Core.Option.{none}
 use lib.Dec.{leb}
 use lib.ListN.{length, getD}
-use Rattle.model.specs.Table.{FLOW, NODE, VAR, FUN, ARG, SET, SKIP, TURN, OperandKind, scope, owner, start, answer, node, port}
-use Rattle.model.specs.Table.{target, function, value, variable, jump, absent, operandsOf, kindAt, maxFlows, maxNodes, maxVariables}
-use Rattle.model.specs.Table.{maxFunctions, maxHandler, maxArgCommands, maxTurns, maxPort, maxWaiting}
+use Rattle.model.specs.Table.{FLOW, NODE, VAR, FUN, ARG, SPAN, SET, SKIP, TURN, OperandKind, scope, owner, start, answer, node}
+use Rattle.model.specs.Table.{port, target, function, value, low, high, variable, jump, absent, operandsOf, kindAt, maxFlows, maxNodes}
+use Rattle.model.specs.Table.{maxVariables, maxFunctions, maxHandler, maxRanges, maxTurns, maxPort, maxWaiting}
 use Rattle.model.specs.Command.{Operands, Command}
 use Rattle.model.specs.Declared.{Instruction, countOf, bodyLength}
 use Rattle.model.specs.Program.{Program}
 use Rattle.model.specs.State.{State, accumulatorAt, messageAt, queueAt, waitingAt, variableAt}
 use Rattle.model.specs.Turn.{instructionAt}
-use Rattle.model.specs.Refusal.{groupFalls, exceedsCount, undeclared, outOfReach, repeated, violation, farJump}
+use Rattle.model.specs.Refusal.{groupFalls, exceedsCount, undeclared, outOfReach, repeated, emptySpan, violation}
+use Rattle.model.specs.Refusal.{farJump}
 
 -- an operand is in the range of what it names; one that is absent is 0
 abbrev pub InRange : OperandKind → ℕ → Type 0
@@ -28,6 +29,8 @@ InRange port x = x ≤ maxPort
 InRange target x = x < maxNodes
 InRange function x = x < maxFunctions
 InRange value x = Unit {0}
+InRange low x = Unit {0}
+InRange high x = Unit {0}
 InRange variable x = x < maxVariables
 InRange jump x = Unit {0}
 InRange absent x = x ≡ 0
@@ -38,19 +41,21 @@ pub record Plain (c : Command) : Type 0 where
   pub first : kindAt (c .byte) 0 ≡ absent → c .operands .first ≡ 0
   pub second : kindAt (c .byte) 1 ≡ absent → c .operands .second ≡ 0
   pub third : kindAt (c .byte) 2 ≡ absent → c .operands .third ≡ 0
+  pub fourth : kindAt (c .byte) 3 ≡ absent → c .operands .fourth ≡ 0
 
--- each command of the list, the latest first, is plain and passes the tests 4 to 8 after those before it
+-- each command of the list, the latest first, is plain and passes the tests 4 to 8 and 15 after those before it
 abbrev pub Valid : List Command → Type 0
 Valid [] = Unit {0}
 Valid (c ∷ past) = Valid past × Plain c × (violation past c ≡ 0)
 
--- a command that passes the tests 4 to 8
+-- a command that passes the tests 4 to 8 and 15
 pub record Passes (past : List Command) (c : Command) : Type 0 where
   pub ordered : groupFalls past c ≡ false
   pub counted : exceedsCount past c ≡ false
   pub declares : undeclared past c ≡ false
   pub reaches : outOfReach past c ≡ false
   pub fresh : repeated past c ≡ false
+  pub ascends : emptySpan c ≡ false
 
 -- the commands of an accepted job
 pub record ValidJob (past : List Command) : Type 0 where
@@ -62,6 +67,7 @@ pub record Named (b : ℕ) (x : Operands) : Type 0 where
   pub first : InRange (kindAt b 0) (x .first)
   pub second : InRange (kindAt b 1) (x .second)
   pub third : InRange (kindAt b 2) (x .third)
+  pub fourth : InRange (kindAt b 3) (x .fourth)
 
 -- an instruction of a handler of an accepted job
 pub record NamedInstruction (i : Instruction) : Type 0 where
@@ -74,7 +80,7 @@ pub record Limits (past : List Command) : Type 0 where
   pub nodes : countOf NODE past ≤ maxNodes
   pub variables : countOf VAR past ≤ maxVariables
   pub functions : countOf FUN past ≤ maxFunctions
-  pub arguments : countOf ARG past ≤ maxArgCommands
+  pub ranges : countOf ARG past + countOf SPAN past ≤ maxRanges
   pub turns : countOf TURN past ≤ maxTurns
   pub handlers : (n : ℕ) → bodyLength past n ≤ maxHandler
 

@@ -5,8 +5,8 @@ use mathlib.Core.Bool.{Bool, true, false, cond, not, _&&_}
 use mathlib.Core.List.{List, [], _∷_}
 use native.Mathlib.Omega.{arith}
 use borrow.Author.Tests.{ne-eqb}
-use Rattle.model.specs.Table.{NODE, VAR, FUN, WIRE, ANY, ARG, READ, WRITE, BODY, START}
-use Rattle.model.specs.Command.{ternary}
+use Rattle.model.specs.Table.{NODE, VAR, FUN, WIRE, ANY, ARG, READ, WRITE, SPAN, BODY, START}
+use Rattle.model.specs.Command.{quaternary}
 use Rattle.command.specs.declared.read.Command.{Command as Code}
 use Rattle.command.specs.Reading.{commandOf}
 use Rattle.command.specs.Rows.{isHandlerByte}
@@ -41,16 +41,16 @@ module _ (t : List ℕ) (c : Code) where
 
   -- where its byte is known, it is computed which writes are made
   pub known-arm : (b : ℕ) (u : List ℕ) → c .byte ≡ b
-      → u ≡ written t (commandWrites t (record { place = c .place; byte = b; operands = ternary (c .first) (c .second) (c .third) }))
+      → u ≡ written t (commandWrites t (record { place = c .place; byte = b; operands = quaternary (c .first) (c .second) (c .third) (c .fourth) }))
       → u ≡ noted
   known-arm b u e h = rw e h
 
   -- none of these bytes: a handler command, or one that declares nothing
   pub rest-arm :
       ¬ (c .byte ≡ NODE) → ¬ (c .byte ≡ VAR) → ¬ (c .byte ≡ FUN) → ¬ (c .byte ≡ WIRE) → ¬ (c .byte ≡ ANY) → ¬ (c .byte ≡ ARG)
-      → ¬ (c .byte ≡ READ) → ¬ (c .byte ≡ WRITE) → ¬ (c .byte ≡ BODY) → ¬ (c .byte ≡ START)
+      → ¬ (c .byte ≡ READ) → ¬ (c .byte ≡ WRITE) → ¬ (c .byte ≡ SPAN) → ¬ (c .byte ≡ BODY) → ¬ (c .byte ≡ START)
       → cond (isHandlerByte (c .byte)) (putIn t lengthCells (openIn t) (oneMore (lengthIn t (openIn t)))) t ≡ noted
-  rest-arm n₁ n₂ n₃ n₄ n₅ n₆ n₇ n₈ n₉ n₁₀ =
+  rest-arm n₁ n₂ n₃ n₄ n₅ n₆ n₇ n₈ n₉ n₁₀ n₁₁ =
       let first = made t (handlerWrite t (commandOf c)) in
       made-if t (handlerWrite t (commandOf c))
       ∙ sym (none-made first (declaredWrites t (commandOf c))
@@ -63,6 +63,7 @@ module _ (t : List ℕ) (c : Code) where
         ne-eqb (c .byte) ARG n₆,
         ne-eqb (c .byte) READ n₇,
         ne-eqb (c .byte) WRITE n₈,
-        ne-eqb (c .byte) BODY n₉,
-        ne-eqb (c .byte) START n₁₀,
+        ne-eqb (c .byte) SPAN n₉,
+        ne-eqb (c .byte) BODY n₁₀,
+        ne-eqb (c .byte) START n₁₁,
       )))

@@ -88,14 +88,18 @@ module _ (cells : ℕ → ℕ) (a b r x k : ℕ) where
           by-row true = rw (ne-eqb b x (λ z. omega (arith, h₂ refl, ltb-false x 64 f))) q
           by-row false = q
 
+-- two places that are each given by a pair of numbers
+pub same-place : (x y a b n p : ℕ) → (x ≡ y → (a ≡ n) × (b ≡ p)) → (a ≡ n → b ≡ p → x ≡ y) → eqb x y ≡ (eqb a n && eqb b p)
+same-place x y a b n p apart joined = by-node (eqb a n) refl (eqb b p) refl
+  where
+    by-node : (u : Bool) → eqb a n ≡ u → (w : Bool) → eqb b p ≡ w → eqb x y ≡ (u && w)
+    by-node true e true f = eq-eqb x y (joined (eqb-true a n e) (eqb-true b p f))
+    by-node true e false f = ne-eqb x y (λ z. eqb-false b p f (apart z .1))
+    by-node false e w f = ne-eqb x y (λ z. eqb-false a n e (apart z .0))
+
 -- a port of a node, at 4 rows a node
 same-port : (a b n p : ℕ) → b < 4 → p < 4 → eqb (a * 4 + b) (n * 4 + p) ≡ (eqb a n && eqb b p)
-same-port a b n p h l = by-node (eqb a n) refl (eqb b p) refl
-  where
-    by-node : (x : Bool) → eqb a n ≡ x → (y : Bool) → eqb b p ≡ y → eqb (a * 4 + b) (n * 4 + p) ≡ (x && y)
-    by-node true e true f = eq-eqb (a * 4 + b) (n * 4 + p) (omega (arith, eqb-true a n e, eqb-true b p f))
-    by-node true e false f = ne-eqb (a * 4 + b) (n * 4 + p) (λ z. eqb-false b p f (omega (arith, eqb-true a n e)))
-    by-node false e y f = ne-eqb (a * 4 + b) (n * 4 + p) (λ z. eqb-false a n e (omega arith))
+same-port a b n p h l = same-place (a * 4 + b) (n * 4 + p) a b n p (λ z. (omega arith, omega arith)) (λ e f. omega arith)
 
 -- a wire: the ports are 0 to 3
 pub wire :

@@ -38,9 +38,10 @@ only-length t c handler =
       first = c .operands .first;
       second = c .operands .second;
       third = c .operands .third;
+      fourth = c .operands .fourth;
     } in
     rest-arm t code (λ q. omega arith) (λ q. omega arith) (λ q. omega arith) (λ q. omega arith) (λ q. omega arith) (λ q. omega arith)
-    (λ q. omega arith) (λ q. omega arith) (λ q. omega arith) (λ q. omega arith)
+    (λ q. omega arith) (λ q. omega arith) (λ q. omega arith) (λ q. omega arith) (λ q. omega arith)
 
 -- the command with these operands, at place 0
 abbrev with-operands : Command → Operands → Command

@@ -1,5 +1,7 @@
 pub mod Arms
 pub mod Sections
 pub mod Cases
+pub mod Same
+pub mod Ranged
 pub mod Noting
 pub mod Forgetting

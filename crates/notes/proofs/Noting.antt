@@ -1,5 +1,5 @@
 -- One more command in the tables: every section then says what the model says of one command more.
-use Prim.Native.Nat.{ℕ, zero, suc, _+_, _-_, _*_, _%_, _≤_, _<_, zero-le}
+use Prim.Native.Nat.{ℕ, _+_, _-_, _*_, _/_, _%_, _≤_, _<_, zero-le}
 use mathlib.Core.Path.{_≡_, refl, sym, ap, _∙_}
 use mathlib.Core.Bool.{Bool, true, false, cond, not, _&&_, _||_, and-true, and-false}
 use mathlib.Core.List.{List, [], _∷_, _++_, append-nil}
@@ -9,29 +9,34 @@ use native.Mathlib.Numerals.{add-one}
 use lib.Dec.{ltb, eqb}
 use lib.ListN.{length, length-append}
 use borrow.Author.Tests.{ltb-false, lt-ltb, le-ltb, eqb-true, eq-eqb, ne-eqb}
-use Rattle.model.specs.Table.{FLOW, NODE, VAR, FUN, WIRE, ANY, ARG, READ, WRITE, BODY, START, operandsIn, operandsOf, groupOf}
-use Rattle.model.specs.Command.{Command, is, ternary, binary}
-use Rattle.model.specs.Declared.{only, countOf, isSame, occurs, declared, flowOf, isHandler, openBody, bodyLength, startsOf, startedIn}
+use Rattle.model.specs.Table.{FLOW, NODE, VAR, FUN, WIRE, ANY, ARG, READ, WRITE, SPAN, BODY, START, operandsIn, operandsOf, groupOf}
+use Rattle.model.specs.Command.{Command, is, quaternary, ternary, binary}
+use Rattle.model.specs.Declared.{only, countOf, occurs, inSpan, declared, flowOf, isHandler, openBody, bodyLength, startsOf, startedIn}
 use Rattle.model.specs.Refusal.{groupFalls}
 use Rattle.model.specs.Valid.{Valid, Named}
 use Rattle.model.proofs.Growth.{count-same, count-other, count-grows, count-below, occurs-next, open-next, body-next, starts-next}
-use Rattle.model.proofs.Growth.{started-next}
+use Rattle.model.proofs.Growth.{span-next, started-next}
+use Rattle.model.proofs.Logic.{true-false}
 use Rattle.model.proofs.Ranges.{open-inside, starts-one}
 use Rattle.model.proofs.Valid.{passes, limits, named}
 use Rattle.command.specs.declared.read.Command.{Command as Code}
 use Rattle.command.specs.Reading.{commandOf}
 use Rattle.tables.specs.declared.cells.Section.{Section}
 use Rattle.tables.specs.Bits.{bitOf}
-use Rattle.tables.specs.Cells.{cellCount, entryIn, putIn, flagIn, isMarkPlace, markCell, marksWith, markIn}
+use Rattle.tables.specs.Cells.{cellCount, entryIn, putIn, flagIn, isMarkPlace, markCell, marksWith, markIn, halvesWith}
 use Rattle.tables.specs.Tables.{countCells, progressCells, flowCells, scopeCells, ownerCells, startCells, answerCells, lengthCells}
-use Rattle.tables.specs.Tables.{bodyCells, startedCells, firstCells, messageCells, argNodeCells, argFunctionCells, argValueCells, readCells}
-use Rattle.tables.specs.Tables.{writeCells, anyCells, wireCells, countIn, groupIn, openIn, flowIn, lengthIn, listedIn, wiredIn}
+use Rattle.tables.specs.Tables.{bodyCells, startedCells, firstCells, messageCells, lowCells, highCells, linkCells, headCells, readCells, writeCells}
+use Rattle.tables.specs.Tables.{anyCells, wireCells, countIn, groupIn, openIn, flowIn, lengthIn, wiredIn, rangeCountIn, headPlace, headIn}
+use Rattle.tables.specs.Tables.{listedIn, inRangeIn}
+use Rattle.tables.specs.Ranges.{range, isRange, holds, isThis}
 use Rattle.tables.specs.Stands.{Stands}
 use Rattle.notes.specs.Notes.{Notes}
 use Rattle.tables.specs.Writes.{oneMore, made, written, commandWrites, noteWrites, tablesOf}
 use Rattle.notes.proofs.Sections.{sorted, left, length-written, entry-written}
 use Rattle.command.proofs.Known.{byte-low}
 use Rattle.notes.proofs.Cases.{column, flag, marking, wire}
+use Rattle.notes.proofs.Ranged.{RangeWritten, head-next, some-next}
+use Rattle.notes.proofs.Same.{same-three, same-two, same-one, by-range, argument-same, span-same, call-same}
 
 -- one more, where that is counted
 more : (n : ℕ) → n < 65536 → oneMore n ≡ n + 1
@@ -49,10 +54,17 @@ flow-counted (c ∷ past) n = by-node (is NODE c && eqb (countOf NODE past) n) (
     by-node true h = omega (arith, count-grows FLOW c past)
     by-node false h = omega (arith, count-grows FLOW c past)
 
--- a write to this cell
-this-cell : (b : Bool) (x y : ℕ) → cond (b && true) x y ≡ cond b x y
-this-cell true x y = refl
-this-cell false x y = refl
+-- a write to this cell after one to another, and before one to another
+this-last : (b d : Bool) (x y z : ℕ) → cond (b && true) x (cond (d && false) y z) ≡ cond b x z
+this-last true d x y z = refl
+this-last false true x y z = refl
+this-last false false x y z = refl
+
+this-first : (b d : Bool) (x y z : ℕ) → cond (b && false) x (cond (d && true) y z) ≡ cond d y z
+this-first true true x y z = refl
+this-first true false x y z = refl
+this-first false true x y z = refl
+this-first false false x y z = refl
 
 -- the group of a command that does not fall is the highest
 highest : (d c g : ℕ) → g ≤ c → (ltb d c || ltb d g) ≡ ltb d c
@@ -61,24 +73,6 @@ highest d c g h = by-test (ltb d c) refl
     by-test : (t : Bool) → ltb d c ≡ t → (t || ltb d g) ≡ t
     by-test true e = refl
     by-test false e = le-ltb d g (omega (arith, ltb-false d c e))
-
--- the list is searched alike where the cells are the same
-same-listed :
-    (t u : List ℕ) (n f v k : ℕ)
-    → ((i : ℕ) → i < k → (entryIn u argNodeCells i ≡ entryIn t argNodeCells i) ×
-    (entryIn u argFunctionCells i ≡ entryIn t argFunctionCells i) × (entryIn u argValueCells i ≡ entryIn t argValueCells i))
-    → listedIn u k n f v ≡ listedIn t k n f v
-unfolding listedIn
-same-listed t u n f v zero h = refl
-same-listed t u n f v (suc k) h =
-    let e = h k (omega arith) in
-    rw (e .0, e .1, e .2, same-listed t u n f v k (λ i l. h i (omega arith)))
-
-listed-next :
-    (u : List ℕ) (k n f v x y z : ℕ) → entryIn u argNodeCells k ≡ x → entryIn u argFunctionCells k ≡ y → entryIn u argValueCells k ≡ z
-    → listedIn u (k + 1) n f v ≡ ((eqb x n && (eqb y f && eqb z v)) || listedIn u k n f v)
-unfolding listedIn
-listed-next u k n f v x y z p q r = rw (add-one, p, q, r)
 
 empty-list : (l : List ℕ) → length l ≤ 0 → l ≡ []
 empty-list [] h = refl
@@ -109,8 +103,8 @@ module _ (t : List ℕ) (past : List Command) (c : Command) (s : Stands t past) 
   in-section r h o i = entry-written t (noteWrites t c) r (rw (s .size) h) o i
 
   -- the operands are in range
-  range : Named (c .byte) (c .operands)
-  range = named past c v
+  ranged : Named (c .byte) (c .operands)
+  ranged = named past c v
 
   byte-is : (b : ℕ) → is b c ≡ true → c .byte ≡ b
   byte-is b e = eqb-true (c .byte) b e
@@ -144,7 +138,7 @@ module _ (t : List ℕ) (past : List Command) (c : Command) (s : Stands t past) 
       rw (g, s .group d) (highest (groupOf (d .byte)) (groupOf (c .byte)) (groupIn t) l)
 
   opened-next : openIn after ≡ openBody (c ∷ past)
-  opened-next = in-section progressCells (omega arith) refl 1 ∙ this-cell (is BODY c) (c .operands .first) (openIn t)
+  opened-next = in-section progressCells (omega arith) refl 1 ∙ this-last (is BODY c) (isRange c) (c .operands .first) (oneMore (rangeCountIn t)) (openIn t)
       ∙ rw (s .opened, open-next c past)
 
   flow-next : (n : ℕ) → flowIn after n ≡ flowOf (c ∷ past) n
@@ -192,38 +186,27 @@ module _ (t : List ℕ) (past : List Command) (c : Command) (s : Stands t past) 
       ∙ rw (s .opened, body-next c past n)
 
   -- an operand of a command with this byte
-  body-range : is BODY c ≡ true → (c .operands .first < 32) × (c .operands .second ≡ 0) × (c .operands .third ≡ 0)
+  body-range : is BODY c ≡ true → (c .operands .first < 32) × (c .operands .second ≡ 0) × (c .operands .third ≡ 0) × (c .operands .fourth ≡ 0)
   unfolding operandsOf operandsIn
-  body-range e = let r = rw (byte-is BODY e) at range in (r .first, r .second, r .third)
+  body-range e = let r = rw (byte-is BODY e) at ranged in (r .first, r .second, r .third, r .fourth)
 
   start-range : is START c ≡ true → c .operands .first < 32
   unfolding operandsOf operandsIn
-  start-range e = rw (byte-is START e) at (range .first)
+  start-range e = rw (byte-is START e) at (ranged .first)
 
   access-range : (b : ℕ) → (b ≡ READ) ⊎ (b ≡ WRITE) → is b c ≡ true
-      → (c .operands .first < 32) × (c .operands .second < 64) × (c .operands .third ≡ 0)
+      → (c .operands .first < 32) × (c .operands .second < 64) × (c .operands .third ≡ 0) × (c .operands .fourth ≡ 0)
   unfolding operandsOf operandsIn
-  access-range b (inl p) e = let r = rw (byte-is b e, p) at range in (r .first, r .second, r .third)
-  access-range b (inr p) e = let r = rw (byte-is b e, p) at range in (r .first, r .second, r .third)
+  access-range b (inl p) e = let r = rw (byte-is b e, p) at ranged in (r .first, r .second, r .third, r .fourth)
+  access-range b (inr p) e = let r = rw (byte-is b e, p) at ranged in (r .first, r .second, r .third, r .fourth)
 
-  any-range : is ANY c ≡ true → (c .operands .first < 32) × (c .operands .second < 32) × (c .operands .third ≡ 0)
+  any-range : is ANY c ≡ true → (c .operands .first < 32) × (c .operands .second < 32) × (c .operands .third ≡ 0) × (c .operands .fourth ≡ 0)
   unfolding operandsOf operandsIn
-  any-range e = let r = rw (byte-is ANY e) at range in (r .first, r .second, r .third)
+  any-range e = let r = rw (byte-is ANY e) at ranged in (r .first, r .second, r .third, r .fourth)
 
-  wire-range : is WIRE c ≡ true → (c .operands .first < 32) × (c .operands .second ≤ 3) × (c .operands .third < 32)
+  wire-range : is WIRE c ≡ true → (c .operands .first < 32) × (c .operands .second ≤ 3) × (c .operands .third < 32) × (c .operands .fourth ≡ 0)
   unfolding operandsOf operandsIn
-  wire-range e = let r = rw (byte-is WIRE e) at range in (r .first, r .second, r .third)
-
-  -- where the last operands are absent, a command is the same if the others are
-  same-one : (b n : ℕ) → (is b c ≡ true → (c .operands .second ≡ 0) × (c .operands .third ≡ 0))
-      → isSame b (binary n 0) c ≡ (is b c && eqb (c .operands .first) n)
-  same-one b n h = by-byte (is b c) h
-    where
-      by-byte : (p : Bool) → (p ≡ true → (c .operands .second ≡ 0) × (c .operands .third ≡ 0))
-          → (p && (eqb (c .operands .first) n && (eqb (c .operands .second) 0 && eqb (c .operands .third) 0))) ≡ (p && eqb
-          (c .operands .first) n)
-      by-byte true h = rw (h refl .0, h refl .1) (and-true (eqb (c .operands .first) n))
-      by-byte false h = refl
+  wire-range e = let r = rw (byte-is WIRE e) at ranged in (r .first, r .second, r .third, r .fourth)
 
   bodies-next : (n : ℕ) → flagIn after bodyCells n ≡ occurs BODY (binary n 0) (c ∷ past)
   unfolding flagIn
@@ -231,7 +214,7 @@ module _ (t : List ℕ) (past : List Command) (c : Command) (s : Stands t past) 
       rw (in-section bodyCells (omega arith) refl n)
       (flag (is BODY c) (c .operands .first) n 32 (entryIn t bodyCells n) (occurs BODY (binary n 0) past)
       (λ e. omega (arith, body-range e .0)) (s .bodies n)
-      ∙ rw (occurs-next c past BODY (binary n 0), same-one BODY n (λ e. (body-range e .1, body-range e .2))))
+      ∙ rw (occurs-next c past BODY (binary n 0), same-one BODY c n (λ e. let r = body-range e in (r .1, r .2, r .3))))
 
   started-after : (f : ℕ) → flagIn after startedCells f ≡ startedIn (c ∷ past) f
   unfolding flagIn
@@ -247,24 +230,14 @@ module _ (t : List ℕ) (past : List Command) (c : Command) (s : Stands t past) 
       → entryIn after r (markCell row x) ≡ cond ((is b c && isMarkPlace (c .operands .first) (c .operands .second)) &&
       (eqb (markCell (c .operands .first) (c .operands .second)) (markCell row x) && ltb (markCell row x) 64))
       (marksWith t r (c .operands .first) (c .operands .second)) (entryIn t r (markCell row x))
-      → (is b c ≡ true → (c .operands .first < 32) × (c .operands .second < 64) × (c .operands .third ≡ 0))
+      → (is b c ≡ true → (c .operands .first < 32) × (c .operands .second < 64) × (c .operands .third ≡ 0) × (c .operands .fourth ≡ 0))
       → markIn t r row x ≡ occurs b (binary row x) past → markIn after r row x ≡ occurs b (binary row x) (c ∷ past)
   unfolding markIn
   mark-next r b size row x e h q =
       rw e
       (marking (entryIn t r) (c .operands .first) (c .operands .second) row x 64 (is b c) (occurs b (binary row x) past)
       (λ p. omega (arith, h p .0)) (λ p. h p .1) (λ p. omega (arith, h p .0, h p .1)) q
-      ∙ rw (occurs-next c past b (binary row x), same-two))
-    where
-      same-two : (is b c && (eqb (c .operands .first) row && eqb (c .operands .second) x)) ≡ isSame b (binary row x) c
-      same-two = by-byte (is b c) h
-        where
-          by-byte : (p : Bool) → (p ≡ true → (c .operands .first < 32) × (c .operands .second < 64) × (c .operands .third ≡ 0))
-              → (p && (eqb (c .operands .first) row && eqb (c .operands .second) x)) ≡ (p &&
-              (eqb (c .operands .first) row && (eqb (c .operands .second) x && eqb (c .operands .third) 0)))
-          by-byte false h = refl
-          by-byte true h = rw (h refl .2) (ap (λ (y : Bool). eqb (c .operands .first) row && y)
-              (sym (and-true (eqb (c .operands .second) x))))
+      ∙ rw (occurs-next c past b (binary row x), same-two b c row x (λ p. (h p .2, h p .3))))
 
   reads-next : (n x : ℕ) → markIn after readCells n x ≡ occurs READ (binary n x) (c ∷ past)
   reads-next n x = mark-next readCells READ refl n x (in-section readCells (omega arith) refl (markCell n x)) (access-range READ (inl refl))
@@ -277,7 +250,7 @@ module _ (t : List ℕ) (past : List Command) (c : Command) (s : Stands t past) 
   anys-next : (n f : ℕ) → markIn after anyCells n f ≡ occurs ANY (binary n f) (c ∷ past)
   anys-next n f =
       mark-next anyCells ANY refl n f (in-section anyCells (omega arith) refl (markCell n f)) (λ e. let r = any-range e in
-      (r .0, omega (arith, r .1), r .2)) (s .anys n f)
+      (r .0, omega (arith, r .1), r .2, r .3)) (s .anys n f)
 
   wire-mark : (row m : ℕ) → markIn after wireCells row m ≡ ((is WIRE c &&
       (eqb (c .operands .first * 4 + c .operands .second) row && eqb (c .operands .third) m)) || markIn t wireCells row m)
@@ -292,7 +265,7 @@ module _ (t : List ℕ) (past : List Command) (c : Command) (s : Stands t past) 
   wires-next : (n p m : ℕ) → wiredIn after n p m ≡ occurs WIRE (ternary n p m) (c ∷ past)
   wires-next n p m =
       let e = wire-mark (n * 4 + p) m in
-      rw (e, occurs-next c past WIRE (ternary n p m))
+      rw (e, occurs-next c past WIRE (ternary n p m), same-three WIRE c n p m (λ q. wire-range q .3))
       (wire (is WIRE c) (c .operands .first) (c .operands .second) (c .operands .third) n p m (markIn t wireCells (n * 4 + p) m)
       (occurs WIRE (ternary n p m) past) (λ q. wire-range q .1) (s .wires n p m))
 
@@ -308,58 +281,87 @@ module _ (t : List ℕ) (past : List Command) (c : Command) (s : Stands t past) 
       alone : length (startsOf past n ++ (c .operands .second ∷ [])) ≤ 1 → startsOf past n ≡ []
       alone h = empty-list (startsOf past n) (omega (arith, length-append (startsOf past n) (c .operands .second ∷ [])))
 
-  -- the cells of ARG command i
-  argument-cells :
-      (i : ℕ)
-      → (entryIn after argNodeCells i ≡ cond (is ARG c && (eqb (countIn t ARG) i && ltb i 256)) (c .operands .first)
-      (entryIn t argNodeCells i))
-      × (entryIn after argFunctionCells i ≡ cond (is ARG c && (eqb (countIn t ARG) i && ltb i 256)) (c .operands .second)
-      (entryIn t argFunctionCells i))
-      × (entryIn after argValueCells i ≡ cond (is ARG c && (eqb (countIn t ARG) i && ltb i 256)) (c .operands .third)
-      (entryIn t argValueCells i))
-  argument-cells i = (
-    in-section argNodeCells (omega arith) refl i,
-    in-section argFunctionCells
-        (omega arith) refl i,
-    in-section argValueCells (omega arith) refl i,
-  )
+  -- a range names a node and a function; an ARG has no fourth operand
+  range-range : isRange c ≡ true → (c .operands .first < 32) × (c .operands .second < 32)
+  unfolding operandsOf operandsIn
+  range-range =
+      by-range c (λ p q. (p || q) ≡ true → (c .operands .first < 32) × (c .operands .second < 32))
+      (λ e u. let r = rw (byte-is ARG e) at ranged in (r .first, r .second))
+      (λ e u. let r = rw (byte-is SPAN e) at ranged in (r .first, r .second)) (λ u. true-false (sym u))
 
-  -- those before keep their cells
-  argument-kept : (i : ℕ) → (is ARG c && (eqb (countIn t ARG) i && ltb i 256)) ≡ false
-      → (entryIn after argNodeCells i ≡ entryIn t argNodeCells i) × (entryIn after argFunctionCells i ≡ entryIn t argFunctionCells i) ×
-      (entryIn after argValueCells i ≡ entryIn t argValueCells i)
-  argument-kept i e = let a = argument-cells i in (a .0 ∙ rw e, a .1 ∙ rw e, a .2 ∙ rw e)
+  arg-range : is ARG c ≡ true → c .operands .fourth ≡ 0
+  unfolding operandsOf operandsIn
+  arg-range e = rw (byte-is ARG e) at (ranged .fourth)
 
-  -- those so far are searched as before
-  listed-before : (n f w : ℕ) → listedIn after (countIn t ARG) n f w ≡ occurs ARG (ternary n f w) past
-  listed-before n f w =
-      same-listed t after n f w (countIn t ARG) (λ i h. argument-kept i
-      (rw (ne-eqb (countIn t ARG) i (λ e. omega arith)) (and-false (is ARG c)))) ∙ s .arguments n f w
+  -- how many ranges there are
+  ranges-next : countOf ARG (c ∷ past) + countOf SPAN (c ∷ past) ≡ cond (isRange c) (rangeCountIn t + 1) (rangeCountIn t)
+  unfolding countOf
+  ranges-next = by-range c
+      (λ p q. cond p (countOf ARG past + 1) (countOf ARG past) + cond q (countOf SPAN past + 1) (countOf SPAN past) ≡ cond (p || q)
+      (rangeCountIn t + 1) (rangeCountIn t)) (λ e. omega (arith, s .rangeCount)) (λ e. omega (arith, s .rangeCount))
+      (sym (s .rangeCount))
 
-  arguments-next : (n f w : ℕ) → listedIn after (countIn after ARG) n f w ≡ occurs ARG (ternary n f w) (c ∷ past)
-  arguments-next n f w = rw (counts-next ARG (omega arith), occurs-next c past ARG (ternary n f w)) (by-byte (is ARG c) refl)
+  range-room : isRange c ≡ true → rangeCountIn t < 256
+  range-room e = let n : countOf ARG (c ∷ past) + countOf SPAN (c ∷ past) ≡ rangeCountIn t + 1 = ranges-next ∙ rw e in
+      omega (arith, limits (c ∷ past) v .ranges)
+
+  range-more : isRange c ≡ true → oneMore (rangeCountIn t) ≡ rangeCountIn t + 1
+  range-more e = more (rangeCountIn t) (omega (arith, range-room e))
+
+  -- what is counted and written for a range
+  range-count-next : rangeCountIn after ≡ countOf ARG (c ∷ past) + countOf SPAN (c ∷ past)
+  range-count-next =
+      in-section progressCells (omega arith) refl 2
+      ∙ this-first (is BODY c) (isRange c) (c .operands .first) (oneMore (rangeCountIn t)) (rangeCountIn t)
+      ∙ counted (isRange c) refl ∙ sym ranges-next
     where
-      new : is ARG c ≡ true → (is ARG c && (eqb (countIn t ARG) (countIn t ARG) && ltb (countIn t ARG) 256)) ≡ true
-      new e =
-          let h : countIn t ARG < 256 = omega (arith, s .counts ARG (omega arith), room ARG 256 (limits (c ∷ past) v .arguments) e) in
-          rw (e, eq-eqb (countIn t ARG) (countIn t ARG) refl, lt-ltb (countIn t ARG) 256 h)
+      counted : (b : Bool) → isRange c ≡ b → cond b (oneMore (rangeCountIn t)) (rangeCountIn t) ≡ cond b (rangeCountIn t + 1) (rangeCountIn t)
+      counted true e = range-more e
+      counted false e = refl
 
-      by-byte : (b : Bool) → is ARG c ≡ b → listedIn after (countOf ARG (c ∷ past)) n f
-          w ≡ ((b && (eqb (c .operands .first) n && (eqb (c .operands .second) f && eqb (c .operands .third) w))) || occurs ARG
-          (ternary n f w) past)
-      by-byte true e =
-          let a = argument-cells (countIn t ARG) in
-          let q : countOf ARG (c ∷ past) ≡ countIn t ARG + 1 = count-same ARG c past e
-          ∙ ap (λ (y : ℕ). y + 1) (sym (s .counts ARG (omega arith))) in
-          rw (
-            q,
-            listed-next after (countIn t ARG) n f w (c .operands .first) (c .operands .second) (c .operands .third) (a .0 ∙ rw (new e))
-                (a .1 ∙ rw (new e)) (a .2 ∙ rw (new e)),
-            listed-before n f w,
-          )
-      by-byte false e =
-          let q : countOf ARG (c ∷ past) ≡ countIn t ARG = count-other ARG c past e ∙ sym (s .counts ARG (omega arith)) in
-          rw q (listed-before n f w)
+  written-range : RangeWritten t after c
+  written-range =
+      record {
+        low = in-section lowCells (omega arith) refl;
+        high = in-section highCells (omega arith) refl;
+        linked = in-section linkCells (omega arith) refl;
+        head = λ i. in-section headCells (omega arith) refl i ∙ headed i (isRange c) refl;
+        room = range-room;
+        inside = range-range;
+        heads = s .heads;
+      }
+    where
+      headed : (i : ℕ) (b : Bool) → isRange c ≡ b
+          → cond (b && (eqb (headPlace (c .operands .first) (c .operands .second) / 2) i && ltb i 512))
+          (halvesWith t headCells (headPlace (c .operands .first) (c .operands .second)) (oneMore (rangeCountIn t))) (entryIn t headCells i)
+          ≡ cond (b && (eqb (headPlace (c .operands .first) (c .operands .second) / 2) i && ltb i 512))
+          (halvesWith t headCells (headPlace (c .operands .first) (c .operands .second)) (rangeCountIn t + 1)) (entryIn t headCells i)
+      headed i true e = rw (range-more e)
+      headed i false e = refl
+
+  heads-next : (n f : ℕ) → headIn after n f ≤ rangeCountIn after
+  heads-next n f = rw (head-next t after c written-range n f, range-count-next, ranges-next) (by-command (isRange c) (eqb (c .operands .first) n && eqb (c .operands .second) f))
+    where
+      by-command : (b d : Bool) → cond (b && d) (rangeCountIn t + 1) (headIn t n f) ≤ cond b (rangeCountIn t + 1) (rangeCountIn t)
+      by-command true true = omega arith
+      by-command true false = omega (arith, s .heads n f)
+      by-command false d = s .heads n f
+
+  arguments-next : (n f w : ℕ) → listedIn after ARG n f w w ≡ occurs ARG (ternary n f w) (c ∷ past)
+  arguments-next n f w =
+      some-next t after c written-range (isThis (range ARG w w)) n f
+      ∙ rw (s .arguments n f w, argument-same c n f w arg-range, occurs-next c past ARG (ternary n f w))
+
+  spans-next : (n f low high : ℕ) → listedIn after SPAN n f low high ≡ occurs SPAN (quaternary n f low high) (c ∷ past)
+  spans-next n f low high =
+      some-next t after c written-range (isThis (range SPAN low high)) n f
+      ∙ rw (s .spans n f low high, span-same c n f low high, occurs-next c past SPAN (quaternary n f low high))
+
+  calls-next : (n f w : ℕ) → inRangeIn after n f w ≡ (occurs ARG (ternary n f w) (c ∷ past) || inSpan n f w (c ∷ past))
+  calls-next n f w =
+      some-next t after c written-range (holds w) n f
+      ∙ rw (s .calls n f w, occurs-next c past ARG (ternary n f w), span-next c past n f w)
+      (call-same c n f w (occurs ARG (ternary n f w) past) (inSpan n f w past) arg-range)
 
   -- the tables stand for one command more
   pub stands-next : Stands (written t (noteWrites t c)) (c ∷ past)
@@ -383,7 +385,11 @@ module _ (t : List ℕ) (past : List Command) (c : Command) (s : Stands t past) 
         reads = reads-next;
         writes = writes-next;
         anys = anys-next;
+        rangeCount = range-count-next;
+        heads = heads-next;
         arguments = arguments-next;
+        spans = spans-next;
+        calls = calls-next;
         cells = ap (λ (u : List ℕ). written u (noteWrites u c)) (s .cells);
       }
 

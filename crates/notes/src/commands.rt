@@ -8,18 +8,23 @@ ghost use Rattle.tables.specs.Cells.{cellCount, putIn};
 ghost use Rattle.tables.specs.Tables.{countIn, openIn, flowIn, lengthIn, flowCells, answerCells, lengthCells, progressCells, bodyCells};
 ghost use Rattle.tables.specs.Tables.{startedCells, firstCells, messageCells};
 ghost use Rattle.tables.specs.Writes.{oneMore};
+ghost use Rattle.notes.specs.Notes.{rangeNoted};
 use crate::one_less;
 use crate::one_more;
 use command::bytes;
+use command::numbers::FunNum;
 use command::numbers::NodeNum;
 use command::read::Command;
 use declared::count_of;
 use declared::flow_of;
+use declared::last_range;
 use declared::length_of;
 use declared::open_node;
+use declared::range_count;
 use tables::cells;
 use tables::cells::Section;
 use tables::cells::put;
+use tables::cells::put_half;
 
 // The next node is one of the last flow.
 pub(crate) fn note_node(tables: &mut [u32])
@@ -49,6 +54,27 @@ pub(crate) fn note_operands(
     put(tables, first, number, c.first);
     put(tables, second, number, c.second);
     put(tables, third, number, c.third);
+}
+
+// One range more: the last of its node and function, with its lowest and highest argument, its byte, and the range before it.
+pub(crate) fn note_range(tables: &mut [u32], c: Command, high: u32)
+    ensures { λ _. ⌜ now (tables .exit) ≡ rangeNoted (now (tables .entry)) c high ⌝ }
+{
+    let count = range_count(tables);
+    let before = last_range(tables, NodeNum(c.first), FunNum(c.second));
+    let number = count as usize;
+    let more = one_more(count);
+    let place = (c.first as usize) * 32 + (c.second as usize);
+    put_half(tables, cells::RANGE_HEAD, place, more);
+    put(tables, cells::RANGE_LOW, number, c.third);
+    put(tables, cells::RANGE_HIGH, number, high);
+    put(
+        tables,
+        cells::RANGE_LINK,
+        number,
+        (c.byte as u32) * 65536 + before % 65536,
+    );
+    put(tables, cells::PROGRESS, 2, more);
 }
 
 // The answer of the next function.

@@ -14,6 +14,7 @@ use commands::note_function;
 use commands::note_handler;
 use commands::note_node;
 use commands::note_operands;
+use commands::note_range;
 use commands::note_start;
 use declared::count_of;
 use tables::cells;
@@ -53,15 +54,10 @@ fn note_content(tables: &mut [u32], c: Command)
         bytes::FUN => note_function(tables, c),
         bytes::WIRE => mark(tables, cells::WIRES, first * 4 + second, c.third as usize),
         bytes::ANY => mark(tables, cells::CALLS, first, second),
-        bytes::ARG => note_operands(
-            tables,
-            c,
-            cells::ARG_NODE,
-            cells::ARG_FUNCTION,
-            cells::ARG_VALUE,
-        ),
+        bytes::ARG => note_range(tables, c, c.third),
         bytes::READ => mark(tables, cells::READS, first, second),
         bytes::WRITE => mark(tables, cells::WRITES, first, second),
+        bytes::SPAN => note_range(tables, c, c.fourth),
         bytes::BODY => note_body(tables, NodeNum(c.first)),
         bytes::START => note_start(tables, NodeNum(c.first), c.second),
         _ => note_handler(tables, byte),

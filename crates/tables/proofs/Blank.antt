@@ -1,18 +1,20 @@
 -- Cells of which none is noted stand for no command.
-use Prim.Native.Nat.{ℕ, _+_, _*_, _%_, _≤_, zero-le}
+use Prim.Native.Nat.{ℕ, _+_, _*_, _/_, _%_, _≤_, zero-le}
 use mathlib.Core.Path.{_≡_, refl, sym, _∙_}
-use mathlib.Core.Bool.{Bool, true, false, and-false}
+use mathlib.Core.Bool.{Bool, true, false, cond, and-false}
 use mathlib.Core.List.{[]}
 use native.Mathlib.Omega.{arith}
-use lib.Dec.{ltb}
+use lib.Dec.{ltb, eqb}
 use lib.ListN.{length-replicate, getD-replicate}
 use borrow.Author.Tests.{ltb-true, ltb-false, le-ltb}
-use Rattle.model.specs.Table.{ARG, groupOf}
-use Rattle.model.specs.Declared.{countOf, occurs, declared, openBody, bodyLength, startsOf, startedIn}
+use Rattle.model.specs.Table.{ARG, SPAN, groupOf}
+use Rattle.model.specs.Declared.{countOf, occurs, inSpan, declared, openBody, bodyLength, startsOf, startedIn}
 use Rattle.model.specs.Refusal.{groupFalls}
 use Rattle.tables.specs.declared.cells.Section.{Section}
-use Rattle.tables.specs.Cells.{cellCount, entryIn, flagIn, isMarkPlace, markCell, markIn, blank}
-use Rattle.tables.specs.Tables.{countCells, progressCells, firstCells, wireCells, countIn, listedIn}
+use Rattle.tables.specs.Cells.{cellCount, entryIn, flagIn, isMarkPlace, markCell, markIn, halfIn, blank}
+use Rattle.tables.specs.Tables.{countCells, progressCells, firstCells, wireCells, headCells, headPlace, headIn, chainIn, rangesIn}
+use Rattle.tables.specs.Bits.{halfOf}
+use Rattle.tables.specs.Ranges.{Range, range, someRange, holds, isThis}
 use Rattle.tables.specs.Writes.{tablesOf}
 use Rattle.tables.specs.Stands.{Stands}
 use Rattle.tables.proofs.Setting.{bit-zero}
@@ -37,12 +39,25 @@ mark-blank : (s : Section) (r x : ℕ) → s .0 + s .1 ≤ cellCount → markIn 
 unfolding markIn
 mark-blank s r x h = rw (entry-blank s (markCell r x) h, bit-zero (x % 32)) (and-false (isMarkPlace r x))
 
-listed-blank : (k n f v : ℕ) → k ≡ 0 → listedIn blank k n f v ≡ false
-unfolding listedIn
-listed-blank k n f v e = rw e
+-- no node has a range for a function
+head-blank : (n f : ℕ) → headIn blank n f ≡ 0
+unfolding halfIn halfOf
+head-blank n f = by-function (ltb f 32)
+  where
+    by-half : (b : Bool) → _≡_ {A = ℕ} (cond b 0 0) 0
+    by-half true = refl
+    by-half false = refl
+
+    by-function : (b : Bool) → cond b (halfIn blank headCells (headPlace n f)) 0 ≡ 0
+    by-function true = rw (entry-blank headCells (headPlace n f / 2) (omega arith)) (by-half (eqb (headPlace n f % 2) 0))
+    by-function false = refl
+
+some-blank : (test : Range → Bool) (n f : ℕ) → someRange test (rangesIn blank n f) ≡ false
+unfolding chainIn someRange
+some-blank test n f = rw (head-blank n f)
 
 pub stands-blank : Stands blank []
-unfolding groupFalls countOf occurs declared openBody bodyLength startsOf startedIn blank tablesOf
+unfolding groupFalls countOf occurs declared openBody bodyLength startsOf startedIn inSpan blank tablesOf
 stands-blank =
     record {
       size = length-replicate {A = ℕ} cellCount 0;
@@ -62,6 +77,10 @@ stands-blank =
       reads = λ n x. mark-blank _ n x (omega arith);
       writes = λ n x. mark-blank _ n x (omega arith);
       anys = λ n f. mark-blank _ n f (omega arith);
-      arguments = λ n f v. listed-blank (countIn blank ARG) n f v (entry-blank countCells ARG (omega arith));
+      rangeCount = entry-blank progressCells 2 (omega arith);
+      heads = λ n f. rw (head-blank n f) zero-le;
+      arguments = λ n f v. some-blank (isThis (range ARG v v)) n f;
+      spans = λ n f low high. some-blank (isThis (range SPAN low high)) n f;
+      calls = λ n f v. some-blank (holds v) n f;
       cells = refl;
     }

@@ -1,3 +1,4 @@
 pub mod Setting
 pub mod Writing
 pub mod Blank
+pub mod Chains

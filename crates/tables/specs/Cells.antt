@@ -5,11 +5,11 @@ use mathlib.Core.List.{List}
 use lib.Dec.{ltb, eqb}
 use lib.ListN.{getD, set, replicate}
 use Rattle.tables.specs.declared.cells.Section.{Section}
-use Rattle.tables.specs.Bits.{bitOf, withBit}
+use Rattle.tables.specs.Bits.{bitOf, withBit, halfOf, withHalf}
 
 -- how many cells there are
 abbrev pub cellCount : ℕ
-cellCount = 1792
+cellCount = 2304
 
 -- the section with this first cell and this many cells
 abbrev pub section : ℕ → ℕ → Section
@@ -46,6 +46,18 @@ markIn t s r x = isMarkPlace r x && bitOf (entryIn t s (markCell r x)) (x % 32)
 -- the cells with a mark there; as they were where there is no place for one
 unfoldable pub markAt : List ℕ → Section → ℕ → ℕ → List ℕ
 markAt t s r x = cond (isMarkPlace r x) (putIn t s (markCell r x) (marksWith t s r x)) t
+
+-- half i of a section with two halves a cell
+unfoldable pub halfIn : List ℕ → Section → ℕ → ℕ
+halfIn t s i = halfOf (entryIn t s (i / 2)) i
+
+-- the halves in its cell with h for this one
+abbrev pub halvesWith : List ℕ → Section → ℕ → ℕ → ℕ
+halvesWith t s i h = withHalf (entryIn t s (i / 2)) i h
+
+-- the cells with h for this half
+unfoldable pub putHalf : List ℕ → Section → ℕ → ℕ → List ℕ
+putHalf t s i h = putIn t s (i / 2) (halvesWith t s i h)
 
 -- cells of which none is noted
 unfoldable pub blank : List ℕ

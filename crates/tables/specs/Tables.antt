@@ -1,12 +1,12 @@
 -- What the tables say: the sections, and the value of each name that a job declares, by the cells.
-use Prim.Native.Nat.{ℕ, zero, suc, _+_, _*_}
-use mathlib.Core.Bool.{Bool, false, _&&_, _||_}
-use mathlib.Core.List.{List}
+use Prim.Native.Nat.{ℕ, zero, suc, _+_, _*_, _/_, _%_}
+use mathlib.Core.Bool.{Bool, cond, _&&_, _||_}
+use mathlib.Core.List.{List, [], _∷_}
 use lib.Dec.{ltb, eqb}
-use Rattle.model.specs.Table.{ARG}
 use Rattle.model.specs.Declared.{only, isShared, isSeen}
 use Rattle.tables.specs.declared.cells.Section.{Section}
-use Rattle.tables.specs.Cells.{section, entryIn, flagIn, markIn}
+use Rattle.tables.specs.Cells.{section, entryIn, flagIn, markIn, halfIn}
+use Rattle.tables.specs.Ranges.{Range, range, someRange, holds, isThis}
 
 -- the sections, in the code's order
 abbrev pub countCells : Section
@@ -45,14 +45,14 @@ firstCells = section 512 32
 abbrev pub messageCells : Section
 messageCells = section 544 32
 
-abbrev pub argNodeCells : Section
-argNodeCells = section 576 256
+abbrev pub lowCells : Section
+lowCells = section 576 256
 
-abbrev pub argFunctionCells : Section
-argFunctionCells = section 832 256
+abbrev pub highCells : Section
+highCells = section 832 256
 
-abbrev pub argValueCells : Section
-argValueCells = section 1088 256
+abbrev pub linkCells : Section
+linkCells = section 1088 256
 
 abbrev pub readCells : Section
 readCells = section 1344 64
@@ -65,6 +65,9 @@ anyCells = section 1472 64
 
 abbrev pub wireCells : Section
 wireCells = section 1536 256
+
+abbrev pub headCells : Section
+headCells = section 1792 512
 
 -- how many commands have this byte
 abbrev pub countIn : List ℕ → ℕ → ℕ
@@ -134,12 +137,47 @@ writeIn t n x = markIn t writeCells n x
 abbrev pub anyIn : List ℕ → ℕ → ℕ → Bool
 anyIn t n f = markIn t anyCells n f
 
--- one of the first ARG commands, up to this count, permits the call with this argument
-unfoldable pub listedIn : List ℕ → ℕ → ℕ → ℕ → ℕ → Bool
-listedIn t zero n f v = false
-listedIn t (suc i) n f v = (eqb (entryIn t argNodeCells i) n && (eqb (entryIn t argFunctionCells i) f && eqb (entryIn t argValueCells i) v))
-    || listedIn t i n f v
+-- how many ranges there are
+abbrev pub rangeCountIn : List ℕ → ℕ
+rangeCountIn t = entryIn t progressCells 2
+
+-- the link of a range: the byte of its command, and `before`
+abbrev pub link : ℕ → ℕ → ℕ
+link b before = b * 65536 + before % 65536
+
+-- range i
+abbrev pub rangeIn : List ℕ → ℕ → Range
+rangeIn t i = range (entryIn t linkCells i / 65536) (entryIn t lowCells i) (entryIn t highCells i)
+
+-- the range before range i of the same node and function: its number and 1, 0 if there is none
+abbrev pub beforeIn : List ℕ → ℕ → ℕ
+beforeIn t i = entryIn t linkCells i % 65536
+
+-- the half of a node and a function, 32 functions a node
+abbrev pub headPlace : ℕ → ℕ → ℕ
+headPlace n f = n * 32 + f
+
+-- the last range of a node and a function: its number and 1, 0 if there is none
+abbrev pub headIn : List ℕ → ℕ → ℕ → ℕ
+headIn t n f = cond (ltb f 32) (halfIn t headCells (headPlace n f)) 0
+
+-- the ranges from one back, each given by the one after it; they are sought among the first `k`
+unfoldable pub chainIn : List ℕ → ℕ → ℕ → List Range
+chainIn t zero at = []
+chainIn t (suc k) at = cond (eqb at (suc k)) (rangeIn t k ∷ chainIn t k (beforeIn t k)) (chainIn t k at)
+
+-- the ranges of a node and a function, the latest first
+abbrev pub rangesIn : List ℕ → ℕ → ℕ → List Range
+rangesIn t n f = chainIn t (headIn t n f) (headIn t n f)
+
+-- there is a command with this byte, node, function, low and high
+abbrev pub listedIn : List ℕ → ℕ → ℕ → ℕ → ℕ → ℕ → Bool
+listedIn t b n f low high = someRange (isThis (range b low high)) (rangesIn t n f)
+
+-- a range permits the call with this argument
+abbrev pub inRangeIn : List ℕ → ℕ → ℕ → ℕ → Bool
+inRangeIn t n f v = someRange (holds v) (rangesIn t n f)
 
 -- the call with this argument is permitted
 abbrev pub callIn : List ℕ → ℕ → ℕ → ℕ → Bool
-callIn t n f v = anyIn t n f || listedIn t (countIn t ARG) n f v
+callIn t n f v = anyIn t n f || inRangeIn t n f v

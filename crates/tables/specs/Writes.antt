@@ -1,16 +1,17 @@
 -- What is written to the tables for a command, and so the cells that a job's commands leave. What the cells say is said by `Stands`.
-use Prim.Native.Nat.{ℕ, _+_, _-_, _*_}
+use Prim.Native.Nat.{ℕ, _+_, _-_, _*_, _/_}
 use mathlib.Core.Bool.{Bool, true, cond, _&&_}
 use mathlib.Core.List.{List, [], _∷_, _++_}
 use lib.Dec.{ltb}
-use Rattle.model.specs.Table.{FLOW, NODE, VAR, FUN, WIRE, ANY, ARG, READ, WRITE, BODY, START, groupOf}
+use Rattle.model.specs.Table.{FLOW, NODE, VAR, FUN, WIRE, ANY, READ, WRITE, BODY, START, groupOf}
 use Rattle.model.specs.Command.{Command, is}
 use Rattle.model.specs.Declared.{isHandler}
 use Rattle.tables.specs.declared.cells.Section.{Section}
-use Rattle.tables.specs.Cells.{putIn, isMarkPlace, markCell, marksWith, blank}
+use Rattle.tables.specs.Cells.{putIn, isMarkPlace, markCell, marksWith, halvesWith, blank}
+use Rattle.tables.specs.Ranges.{isRange, highOf}
 use Rattle.tables.specs.Tables.{countIn, openIn, flowIn, lengthIn, flowCells, scopeCells, ownerCells, startCells, answerCells, lengthCells}
-use Rattle.tables.specs.Tables.{countCells, progressCells, bodyCells, startedCells, firstCells, messageCells, argNodeCells, argFunctionCells}
-use Rattle.tables.specs.Tables.{argValueCells, readCells, writeCells, anyCells, wireCells}
+use Rattle.tables.specs.Tables.{countCells, progressCells, bodyCells, startedCells, firstCells, messageCells, lowCells, highCells}
+use Rattle.tables.specs.Tables.{linkCells, readCells, writeCells, anyCells, wireCells, headCells, rangeCountIn, link, headIn, headPlace}
 
 -- one more, for a number below 65,536; others stay
 unfoldable pub oneMore : ℕ → ℕ
@@ -30,6 +31,10 @@ write on s i x = record { on = on; section = s; cell = i; value = x }
 -- a mark at a row and a column, as a write
 abbrev pub markWrite : List ℕ → Bool → Section → ℕ → ℕ → Write
 markWrite t on s r x = write (on && isMarkPlace r x) s (markCell r x) (marksWith t s r x)
+
+-- a half, as a write
+abbrev pub halfWrite : List ℕ → Bool → Section → ℕ → ℕ → Write
+halfWrite t on s i h = write on s (i / 2) (halvesWith t s i h)
 
 -- the cells after a write
 unfoldable pub made : List ℕ → Write → List ℕ
@@ -54,9 +59,11 @@ declaredWrites t c =
     ∷ write (is FUN c) answerCells (countIn t FUN) (c .operands .first)
     ∷ markWrite t (is WIRE c) wireCells (c .operands .first * 4 + c .operands .second) (c .operands .third)
     ∷ markWrite t (is ANY c) anyCells (c .operands .first) (c .operands .second)
-    ∷ write (is ARG c) argNodeCells (countIn t ARG) (c .operands .first)
-    ∷ write (is ARG c) argFunctionCells (countIn t ARG) (c .operands .second)
-    ∷ write (is ARG c) argValueCells (countIn t ARG) (c .operands .third)
+    ∷ halfWrite t (isRange c) headCells (headPlace (c .operands .first) (c .operands .second)) (oneMore (rangeCountIn t))
+    ∷ write (isRange c) lowCells (rangeCountIn t) (c .operands .third)
+    ∷ write (isRange c) highCells (rangeCountIn t) (highOf c)
+    ∷ write (isRange c) linkCells (rangeCountIn t) (link (c .byte) (headIn t (c .operands .first) (c .operands .second)))
+    ∷ write (isRange c) progressCells 2 (oneMore (rangeCountIn t))
     ∷ markWrite t (is READ c) readCells (c .operands .first) (c .operands .second)
     ∷ markWrite t (is WRITE c) writeCells (c .operands .first) (c .operands .second)
     ∷ write (is BODY c) progressCells 1 (c .operands .first)

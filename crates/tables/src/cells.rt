@@ -2,18 +2,20 @@
 ghost use mathlib.Core.Path.{_≡_};
 ghost use Prim.Native.Nat.{_+_, _≤_};
 ghost use lib.ListN.{length};
-ghost use Rattle.tables.specs.Cells.{cellCount, entryIn, putIn, flagIn, markIn, markAt, blank};
+ghost use Rattle.tables.specs.Cells.{cellCount, entryIn, putIn, flagIn, markIn, markAt, halfIn, putHalf, blank};
+use crate::bits::half_of;
 use crate::bits::is_set;
 use crate::bits::with_bit;
+use crate::bits::with_half;
 
-pub const CELLS: usize = 1792;
+pub const CELLS: usize = 2304;
 
 // A section: its first cell, and how many cells it has.
 pub struct Section(pub usize, pub usize);
 
 // By command byte: how many commands.
 pub const COUNTS: Section = Section(0, 128);
-// The highest group so far, and the node of the open handler.
+// The highest group so far, the node of the open handler, and how many ranges there are.
 pub const PROGRESS: Section = Section(128, 32);
 // By node: its flow.
 pub const FLOW: Section = Section(160, 32);
@@ -35,12 +37,12 @@ pub const STARTED: Section = Section(480, 32);
 pub const FIRST: Section = Section(512, 32);
 
 pub const MESSAGE: Section = Section(544, 32);
-// By ARG command: node, function and argument.
-pub const ARG_NODE: Section = Section(576, 256);
+// By range, an ARG or SPAN command: its lowest and highest argument; its byte with the range before it of the same node and function.
+pub const RANGE_LOW: Section = Section(576, 256);
 
-pub const ARG_FUNCTION: Section = Section(832, 256);
+pub const RANGE_HIGH: Section = Section(832, 256);
 
-pub const ARG_VALUE: Section = Section(1088, 256);
+pub const RANGE_LINK: Section = Section(1088, 256);
 // 64 bits a node, 32 a cell, by variable or function: 1 if there is a READ, a WRITE, an ANY.
 pub const READS: Section = Section(1344, 64);
 
@@ -49,6 +51,8 @@ pub const WRITES: Section = Section(1408, 64);
 pub const CALLS: Section = Section(1472, 64);
 // 64 bits a port, 4 ports a node, by target: 1 if there is a WIRE.
 pub const WIRES: Section = Section(1536, 256);
+// Half a cell a function, 32 functions a node: its last range.
+pub const RANGE_HEAD: Section = Section(1792, 512);
 
 // Cell i of a section.
 pub fn entry(tables: &[u32], s: Section, i: usize) -> u32
@@ -116,6 +120,24 @@ pub fn mark(tables: &mut [u32], s: Section, row: usize, column: usize)
             put(tables, s, i, with_bit(marks, (column % 32) as u32));
         }
     }
+}
+
+// Half i of a section with two halves a cell.
+pub fn half(tables: &[u32], s: Section, i: usize) -> u32
+    requires { ⌜ s .0 + s .1 ≤ cellCount ⌝ }
+    ensures { λ r. ⌜ r ≡ halfIn (now (tables .entry)) s i ⌝ }
+{
+    let x = entry(tables, s, i / 2);
+    half_of(x, i)
+}
+
+// Sets half i of such a section.
+pub fn put_half(tables: &mut [u32], s: Section, i: usize, h: u32)
+    requires { ⌜ s .0 + s .1 ≤ cellCount ⌝ }
+    ensures { λ _. ⌜ now (tables .exit) ≡ putHalf (now (tables .entry)) s i h ⌝ }
+{
+    let x = entry(tables, s, i / 2);
+    put(tables, s, i / 2, with_half(x, i, h));
 }
 
 // Makes every cell 0.

@@ -8,22 +8,21 @@ use native.Mathlib.Omega.{arith}
 use lib.Dec.{ltb, leb, eqb}
 use lib.ListN.{getD}
 use borrow.Author.Tests.{eqb-true, ne-eqb}
-use Rattle.model.specs.Table.{FLOW, NODE, VAR, FUN, WIRE, ANY, ARG, READ, WRITE, BODY, GET, PUT, PLUS, START, operandsIn, operandsOf}
-use Rattle.model.specs.Table.{kindAt, start, answer, value, jump, absent, groupOf}
-use Rattle.model.specs.Command.{Command, Operands, ternary, binary}
-use Rattle.model.specs.Declared.{countOf, occurs, openBody, flowOf, sees}
+use Rattle.model.specs.Table.{FLOW, NODE, VAR, FUN, WIRE, ANY, ARG, READ, WRITE, SPAN, BODY, GET, PUT, PLUS, START, operandsIn}
+use Rattle.model.specs.Table.{operandsOf, kindAt, start, answer, value, jump, low, high, absent, groupOf}
+use Rattle.model.specs.Command.{Command, Operands, quaternary, ternary, binary}
+use Rattle.model.specs.Declared.{countAmong, occurs, openBody, flowOf, sees}
 use Rattle.model.specs.Refusal.{anyOf, isReached, exceedsCount, Counts, namesNothing, undeclared, outOfReach, mustDiffer, repeated}
-use Rattle.model.specs.Refusal.{violation}
+use Rattle.model.specs.Refusal.{emptySpan, violation}
 use Rattle.model.specs.Valid.{Plain}
 use Rattle.model.proofs.Logic.{true-false, or-first, or-second, any-next, any-last}
-use Rattle.model.proofs.Growth.{among-one}
 use Rattle.command.specs.declared.table.Row.{Row as Shape}
 use Rattle.command.specs.declared.read.Command.{Command as Code}
-use Rattle.command.specs.Rows.{unpacked, kindOf, limitOf, Says, isHandlerByte}
+use Rattle.command.specs.Rows.{unpacked, kindOf, isRangeByte, sharing, limitOf, Says, isHandlerByte}
 use Rattle.command.specs.Reading.{commandOf, Known}
 use Rattle.command.proofs.Known.{byte-low, permission-byte}
 use Rattle.tables.specs.Tables.{countIn, groupIn, openIn, flowIn, lengthIn, seesIn, sharedIn, wiredIn, anyIn, listedIn, readIn, writeIn}
-use Rattle.tables.specs.Tables.{bodyIn, startedAt}
+use Rattle.tables.specs.Tables.{bodyIn, startedAt, rangeCountIn}
 use Rattle.tables.specs.Stands.{Stands}
 use Rattle.violations.specs.Tests.{countsIn}
 
@@ -41,9 +40,10 @@ uses-apart b u = by-read (eqb b READ) refl (eqb b WRITE) refl
     by-read false e false f = refl
 
 -- a largest count is reached, as the code tests it
-reached : (b k have : ℕ) (past : List Command) → have ≡ countOf b past → (not (eqb k 0) && leb k have) ≡ isReached (limitOf b k) past
+reached : (b k have : ℕ) (past : List Command) → have ≡ countAmong (sharing b) past
+    → (not (eqb k 0) && leb k have) ≡ isReached (limitOf b k) past
 reached b zero have past e = refl
-reached b (suc k) have past e = rw (ne-eqb (suc k) 0 (λ z. omega arith), among-one b past, e)
+reached b (suc k) have past e = rw (ne-eqb (suc k) 0 (λ z. omega arith), e)
 
 -- an operand of kind 0, or of a kind from 8 on, is never refused
 pub names-none : (d : Counts) (s k x : ℕ) → ¬ (k ≡ 1) → ¬ (k ≡ 2) → ¬ (k ≡ 3) → ¬ (k ≡ 4) → ¬ (k ≡ 5) → ¬ (k ≡ 6) → ¬ (k ≡ 7)
@@ -58,12 +58,14 @@ names-none d s (suc (suc (suc (suc (suc (suc zero)))))) x n₁ n₂ n₃ n₄ n�
 names-none d s (suc (suc (suc (suc (suc (suc (suc zero))))))) x n₁ n₂ n₃ n₄ n₅ n₆ n₇ = absurd (n₇ refl)
 names-none d s (suc (suc (suc (suc (suc (suc (suc (suc k)))))))) x n₁ n₂ n₃ n₄ n₅ n₆ n₇ = later k
   where
-    later : (k : ℕ) → namesNothing d s (getD (start ∷ answer ∷ value ∷ jump ∷ []) k absent) x ≡ false
+    later : (k : ℕ) → namesNothing d s (getD (start ∷ answer ∷ value ∷ jump ∷ low ∷ high ∷ []) k absent) x ≡ false
     later zero = refl
     later (suc zero) = refl
     later (suc (suc zero)) = refl
     later (suc (suc (suc zero))) = refl
-    later (suc (suc (suc (suc k)))) = refl
+    later (suc (suc (suc (suc zero)))) = refl
+    later (suc (suc (suc (suc (suc zero))))) = refl
+    later (suc (suc (suc (suc (suc (suc k)))))) = refl
 
 -- one of the tests is true
 any-found : (i : ℕ) (tests : List Bool) → getD tests i false ≡ true → anyOf tests ≡ true
@@ -73,14 +75,22 @@ any-found zero (b ∷ tests) e = or-first b (anyOf tests) e
 any-found (suc i) (b ∷ tests) e = or-second b (anyOf tests) (any-found i tests e)
 
 module _ (t : List ℕ) (c : Code) (past : List Command) (s : Stands t past) where
+  -- how many count to the largest count of the command
+  counted-among : Known c → countAmong (sharing (c .byte)) past ≡ cond (isRangeByte (c .byte)) (rangeCountIn t) (countIn t (c .byte))
+  unfolding countAmong
+  counted-among k = by-byte (isRangeByte (c .byte))
+    where
+      by-byte : (b : Bool) → countAmong (cond b (ARG ∷ SPAN ∷ []) (c .byte ∷ [])) past ≡ cond b (rangeCountIn t) (countIn t (c .byte))
+      by-byte true = omega (arith, s .rangeCount)
+      by-byte false = omega (arith, s .counts (c .byte) (byte-low (c .byte) (is-known (c .byte) _ (k .row))))
+
   -- 5
   pub exceeds-same :
       (row : Shape) (have opened inside : ℕ) (body : Bool) → Known c → row ≡ unpacked (c .row)
-      → have ≡ countIn t (c .byte) → opened ≡ openIn t → inside ≡ lengthIn t opened → body ≡ isHandlerByte (c .byte)
+      → have ≡ cond (isRangeByte (c .byte)) (rangeCountIn t) (countIn t (c .byte)) → opened ≡ openIn t → inside ≡ lengthIn t opened → body ≡ isHandlerByte (c .byte)
       → ((not (eqb (row .most) 0) && leb (row .most) have) || (body && leb 64 inside)) ≡ exceedsCount past (commandOf c)
   exceeds-same row have opened inside body k is h o i b =
-      let n : have ≡ countOf (c .byte) past = h ∙ s .counts (c .byte) (byte-low (c .byte) (is-known (c .byte) _ (k .row))) in
-      rw (any-next, any-last, is, reached (c .byte) _ have past n, k .row .most, b, i, o, s .lengths (openIn t), s .opened)
+      rw (any-next, any-last, is, reached (c .byte) _ have past (h ∙ sym (counted-among k)), k .row .most, b, i, o, s .lengths (openIn t), s .opened)
 
   -- 6, by the row of the command and what the tables count
   module _ (row : Shape) (d : Counts) (bodies : ℕ) (k : Known c) (is : row ≡ unpacked (c .row)) (counted : d ≡ countsIn t)
@@ -93,6 +103,7 @@ module _ (t : List ℕ) (c : Code) (past : List Command) (s : Stands t past) whe
         ∷ namesNothing d (c .first) (kindOf (row .«first_kind»)) (c .first)
         ∷ namesNothing d (c .first) (kindOf (row .«second_kind»)) (c .second)
         ∷ namesNothing d (c .first) (kindOf (row .«third_kind»)) (c .third)
+        ∷ namesNothing d (c .first) (kindOf (row .«fourth_kind»)) (c .fourth)
         ∷ []
 
     undeclared-as : undeclared past (commandOf c) ≡ anyOf tests
@@ -102,6 +113,7 @@ module _ (t : List ℕ) (c : Code) (past : List Command) (s : Stands t past) whe
           k .row .kind₁,
           k .row .kind₂,
           k .row .kind₃,
+          k .row .kind₄,
           counted,
           opened,
           s .counts FLOW (omega arith),
@@ -118,8 +130,9 @@ module _ (t : List ℕ) (c : Code) (past : List Command) (s : Stands t past) whe
     -- all but the last are false
     pub undeclared-last :
         getD tests 0 false ≡ false → getD tests 1 false ≡ false → getD tests 2 false ≡ false → getD tests 3 false ≡ false
-        → (r : Bool) → r ≡ getD tests 4 false → r ≡ undeclared past (commandOf c)
-    undeclared-last e f g h r q = q ∙ sym (undeclared-as ∙ rw (any-next, any-next, any-next, any-next, any-last, e, f, g, h))
+        → getD tests 4 false ≡ false → (r : Bool) → r ≡ getD tests 5 false → r ≡ undeclared past (commandOf c)
+    undeclared-last e f g h i r q =
+        q ∙ sym (undeclared-as ∙ rw (any-next, any-next, any-next, any-next, any-next, any-last, e, f, g, h, i))
 
   sees-same : (n x : ℕ) → seesIn t n x ≡ sees past n x
   sees-same n x = rw (s .scope x, s .owner x, s .flow n)
@@ -180,54 +193,68 @@ module _ (t : List ℕ) (c : Code) (past : List Command) (s : Stands t past) whe
   repeated-as b x r e m n o q = rw (any-next, any-last, e, o, n, m, ← q) (sym (or-false r))
 
   module _ (plain : Plain (commandOf c)) where
-    pub wire-same : (r : Bool) → c .byte ≡ WIRE → r ≡ wiredIn t (c .first) (c .second) (c .third) → r ≡ repeated past (commandOf c)
-    wire-same r e q = repeated-as WIRE (ternary (c .first) (c .second) (c .third)) r e refl refl refl
-        (q ∙ s .wires (c .first) (c .second) (c .third))
-
-    pub arg-same : (r : Bool) → c .byte ≡ ARG → r ≡ listedIn t (countIn t ARG) (c .first) (c .second) (c .third)
-        → r ≡ repeated past (commandOf c)
-    arg-same r e q = repeated-as ARG (ternary (c .first) (c .second) (c .third)) r e refl refl refl
-        (q ∙ s .arguments (c .first) (c .second) (c .third))
-
     -- an operand that is absent is 0
+    fourth-absent : (b : ℕ) → c .byte ≡ b → kindAt b 3 ≡ absent → c .fourth ≡ 0
+    fourth-absent b e k = plain .fourth (rw e k)
+
     third-absent : (b : ℕ) → c .byte ≡ b → kindAt b 2 ≡ absent → c .third ≡ 0
     third-absent b e k = plain .third (rw e k)
 
     second-absent : (b : ℕ) → c .byte ≡ b → kindAt b 1 ≡ absent → c .second ≡ 0
     second-absent b e k = plain .second (rw e k)
 
+    pub wire-same : (r : Bool) → c .byte ≡ WIRE → r ≡ wiredIn t (c .first) (c .second) (c .third) → r ≡ repeated past (commandOf c)
+    unfolding operandsOf operandsIn
+    wire-same r e q = repeated-as WIRE (ternary (c .first) (c .second) (c .third)) r e refl refl (rw (fourth-absent WIRE e refl))
+        (q ∙ s .wires (c .first) (c .second) (c .third))
+
+    pub arg-same : (r : Bool) → c .byte ≡ ARG → r ≡ listedIn t (c .byte) (c .first) (c .second) (c .third) (c .third)
+        → r ≡ repeated past (commandOf c)
+    unfolding operandsOf operandsIn
+    arg-same r e q = repeated-as ARG (ternary (c .first) (c .second) (c .third)) r e refl refl (rw (fourth-absent ARG e refl))
+        (q ∙ rw e (s .arguments (c .first) (c .second) (c .third)))
+
+    pub span-same : (r : Bool) → c .byte ≡ SPAN → r ≡ listedIn t (c .byte) (c .first) (c .second) (c .third) (c .fourth)
+        → r ≡ repeated past (commandOf c)
+    span-same r e q = repeated-as SPAN (quaternary (c .first) (c .second) (c .third) (c .fourth)) r e refl refl refl
+        (q ∙ rw e (s .spans (c .first) (c .second) (c .third) (c .fourth)))
+
+    -- two operands
+    binary-as : (b : ℕ) → c .byte ≡ b → kindAt b 2 ≡ absent → kindAt b 3 ≡ absent → commandOf c .operands ≡ binary (c .first) (c .second)
+    binary-as b e k l = rw (third-absent b e k, fourth-absent b e l)
+
     pub any-same : (r : Bool) → c .byte ≡ ANY → r ≡ anyIn t (c .first) (c .second) → r ≡ repeated past (commandOf c)
     unfolding operandsOf operandsIn
-    any-same r e q = repeated-as ANY (binary (c .first) (c .second)) r e refl refl (rw (third-absent ANY e refl))
+    any-same r e q = repeated-as ANY (binary (c .first) (c .second)) r e refl refl (binary-as ANY e refl refl)
         (q ∙ s .anys (c .first) (c .second))
 
     pub read-same : (r : Bool) → c .byte ≡ READ → r ≡ readIn t (c .first) (c .second) → r ≡ repeated past (commandOf c)
     unfolding operandsOf operandsIn
-    read-same r e q = repeated-as READ (binary (c .first) (c .second)) r e refl refl (rw (third-absent READ e refl))
+    read-same r e q = repeated-as READ (binary (c .first) (c .second)) r e refl refl (binary-as READ e refl refl)
         (q ∙ s .reads (c .first) (c .second))
 
     pub write-same : (r : Bool) → c .byte ≡ WRITE → r ≡ writeIn t (c .first) (c .second) → r ≡ repeated past (commandOf c)
     unfolding operandsOf operandsIn
-    write-same r e q = repeated-as WRITE (binary (c .first) (c .second)) r e refl refl (rw (third-absent WRITE e refl))
+    write-same r e q = repeated-as WRITE (binary (c .first) (c .second)) r e refl refl (binary-as WRITE e refl refl)
         (q ∙ s .writes (c .first) (c .second))
 
     pub body-same : (r : Bool) → c .byte ≡ BODY → r ≡ bodyIn t (c .first) → r ≡ repeated past (commandOf c)
     unfolding operandsOf operandsIn
-    body-same r e q = repeated-as BODY (binary (c .first) 0) r e refl refl (rw (third-absent BODY e refl, second-absent BODY e refl))
-        (q ∙ s .bodies (c .first))
+    body-same r e q = repeated-as BODY (binary (c .first) 0) r e refl refl
+        (rw (second-absent BODY e refl, third-absent BODY e refl, fourth-absent BODY e refl)) (q ∙ s .bodies (c .first))
 
     pub start-same : (r : Bool) (f : ℕ) → c .byte ≡ START → f ≡ flowIn t (c .first) → r ≡ startedAt t f → r ≡ repeated past (commandOf c)
     start-same r f e p q = rw (any-next, any-last, e, q, p, s .flow (c .first), s .started (flowOf past (c .first)))
 
     pub other-same :
-        ¬ (c .byte ≡ WIRE) → ¬ (c .byte ≡ ANY) → ¬ (c .byte ≡ ARG) → ¬ (c .byte ≡ READ) → ¬ (c .byte ≡ WRITE) → ¬ (c .byte ≡ BODY)
-        → ¬ (c .byte ≡ START)
+        ¬ (c .byte ≡ WIRE) → ¬ (c .byte ≡ ANY) → ¬ (c .byte ≡ ARG) → ¬ (c .byte ≡ READ) → ¬ (c .byte ≡ WRITE) → ¬ (c .byte ≡ SPAN)
+        → ¬ (c .byte ≡ BODY) → ¬ (c .byte ≡ START)
         → false ≡ repeated past (commandOf c)
-    other-same n₁ n₂ n₃ n₄ n₅ n₆ n₇ =
+    other-same n₁ n₂ n₃ n₄ n₅ n₆ n₇ n₈ =
         let z : eqb (groupOf (c .byte)) 3 ≡ false = not-three (eqb (groupOf (c .byte)) 3)
-        (rw (ne-eqb (c .byte) ANY n₂, ne-eqb (c .byte) ARG n₃, ne-eqb (c .byte) READ n₄, ne-eqb (c .byte) WRITE n₅) at
-        (permission-byte (c .byte) (plain .known))) in
-        rw (any-next, any-last, ne-eqb (c .byte) WIRE n₁, z, ne-eqb (c .byte) BODY n₆, ne-eqb (c .byte) START n₇)
+        (rw (ne-eqb (c .byte) ANY n₂, ne-eqb (c .byte) ARG n₃, ne-eqb (c .byte) READ n₄, ne-eqb (c .byte) WRITE n₅, ne-eqb (c .byte) SPAN n₆)
+        at (permission-byte (c .byte) (plain .known))) in
+        rw (any-next, any-last, ne-eqb (c .byte) WIRE n₁, z, ne-eqb (c .byte) BODY n₇, ne-eqb (c .byte) START n₈)
       where
         not-three : (b : Bool) → (not b || false) ≡ true → b ≡ false
         not-three true e = sym e
@@ -238,6 +265,7 @@ module _ (t : List ℕ) (c : Code) (past : List Command) (s : Stands t past) whe
       (g : ℕ) → Known c → g ≡ groupIn t
       → violation past (commandOf c)
       ≡ cond (ltb (c .group) g) 4 (cond (exceedsCount past (commandOf c)) 5
-      (cond (undeclared past (commandOf c)) 6 (cond (outOfReach past (commandOf c)) 7 (cond (repeated past (commandOf c)) 8 0))))
+      (cond (undeclared past (commandOf c)) 6 (cond (outOfReach past (commandOf c)) 7 (cond (repeated past (commandOf c)) 8
+      (cond (emptySpan (commandOf c)) 15 0)))))
   unfolding violation
   violation-as g k e = rw (s .group (commandOf c), e, k .group)

@@ -1,14 +1,16 @@
-// The tests 4 to 8 of a command, by the tables of those before it.
+// The tests 4 to 8 and 15 of a command, by the tables of those before it.
 ghost use mathlib.Core.Path.{_≡_};
 ghost use mathlib.Core.Bool.{cond, _||_};
 ghost use mathlib.Core.List.{List};
 ghost use lib.Dec.{eqb};
 ghost use Rattle.model.specs.Table.{READ, WRITE, GET, PUT, PLUS};
 ghost use Rattle.model.specs.Command.{Command as Past};
-ghost use Rattle.model.specs.Refusal.{exceedsCount, noOwner, namesNothing, undeclared, outOfReach, repeated, violation};
+ghost use Rattle.model.specs.Refusal.{exceedsCount, noOwner, namesNothing, undeclared, outOfReach, repeated, emptySpan};
+ghost use Rattle.model.specs.Refusal.{violation};
 ghost use Rattle.model.specs.Valid.{Plain};
-ghost use Rattle.command.specs.Rows.{kindOf};
+ghost use Rattle.command.specs.Rows.{kindOf, isRangeByte};
 ghost use Rattle.command.specs.Reading.{commandOf, Known};
+ghost use Rattle.tables.specs.Tables.{countIn, rangeCountIn};
 ghost use Rattle.tables.specs.Stands.{Stands};
 ghost use Rattle.violations.specs.Tests.{countsAs, countsIn};
 use command::bytes;
@@ -42,6 +44,16 @@ fn counts_of(tables: &[u32]) -> Counts
     }
 }
 
+// How many commands count to the largest count of this byte: ARG and SPAN share theirs.
+fn counted(tables: &[u32], byte: u8) -> u32
+    ensures { λ r. ⌜ r ≡ cond (isRangeByte byte) (rangeCountIn (now (tables .entry))) (countIn (now (tables .entry)) byte) ⌝ }
+{
+    if (byte == bytes::ARG) | (byte == bytes::SPAN) {
+        return declared::range_count(tables);
+    }
+    declared::count_of(tables, byte)
+}
+
 // 5: a largest count would be passed.
 fn exceeds_count(tables: &[u32], c: Command) -> bool
     requires { ⌜ Known c ⌝ }
@@ -49,7 +61,7 @@ fn exceeds_count(tables: &[u32], c: Command) -> bool
 {
     let shape = table::unpack(c.row);
     let most = shape.most;
-    let have = declared::count_of(tables, c.byte);
+    let have = counted(tables, c.byte);
     let opened = declared::open_node(tables);
     let inside = declared::length_of(tables, opened);
     let handler = bytes::is_handler(c.byte);
@@ -103,7 +115,10 @@ fn is_undeclared(tables: &[u32], c: Command) -> bool
     if names_nothing(d, c.first, shape.second_kind, c.second) {
         return true;
     }
-    names_nothing(d, c.first, shape.third_kind, c.third)
+    if names_nothing(d, c.first, shape.third_kind, c.third) {
+        return true;
+    }
+    names_nothing(d, c.first, shape.fourth_kind, c.fourth)
 }
 
 // The handler commands that name a variable.
@@ -152,9 +167,10 @@ fn is_repeated(tables: &[u32], c: Command) -> bool
     match b {
         bytes::WIRE => declared::is_wired(tables, n, c.second, NodeNum(c.third)),
         bytes::ANY => allowlists::may_call_any(tables, n, FunNum(c.second)),
-        bytes::ARG => allowlists::may_call_with(tables, n, FunNum(c.second), c.third),
+        bytes::ARG => allowlists::is_listed(tables, c, c.third),
         bytes::READ => allowlists::may_read(tables, n, VarNum(c.second)),
         bytes::WRITE => allowlists::may_write(tables, n, VarNum(c.second)),
+        bytes::SPAN => allowlists::is_listed(tables, c, c.fourth),
         bytes::BODY => declared::has_body(tables, n),
         bytes::START => {
             let flow = declared::flow_of(tables, n);
@@ -164,10 +180,10 @@ fn is_repeated(tables: &[u32], c: Command) -> bool
     }
 }
 
-// The number of the first of the tests 7 and 8 that refuses a command, or 0.
+// The number of the first of the tests 7, 8 and 15 that refuses a command, or 0. 15: the low of a SPAN is above its high.
 fn late_violation(tables: &[u32], c: Command) -> u8
     ensures { λ r. ⌜ ((past : List Past) → Stands (now (tables .entry)) past → Plain (commandOf c)
-        → r ≡ cond (outOfReach past (commandOf c)) 7 (cond (repeated past (commandOf c)) 8 0)) ⌝ }
+        → r ≡ cond (outOfReach past (commandOf c)) 7 (cond (repeated past (commandOf c)) 8 (cond (emptySpan (commandOf c)) 15 0))) ⌝ }
 {
     if is_out_of_reach(tables, c) {
         return 7;
@@ -175,10 +191,13 @@ fn late_violation(tables: &[u32], c: Command) -> u8
     if is_repeated(tables, c) {
         return 8;
     }
+    if (c.byte == bytes::SPAN) & (c.fourth < c.third) {
+        return 15;
+    }
     0
 }
 
-// The number of the first of the tests 4 to 8 that refuses a command, or 0.
+// The number of the first of the tests 4 to 8 and 15 that refuses a command, or 0.
 pub fn violation_of(tables: &[u32], c: Command) -> u8
     requires { ⌜ Known c ⌝ }
     ensures { λ r. ⌜ ((past : List Past) → Stands (now (tables .entry)) past → Plain (commandOf c) → r ≡ violation past (commandOf c)) ⌝ }

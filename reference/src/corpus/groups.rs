@@ -5,12 +5,12 @@ use super::Job;
 use crate::generate::plan::Plan;
 use crate::table::*;
 
-/// All pairs of commands: falling groups are refused, rising ones are not.
+/// All pairs of 01's commands: falling groups are refused, rising ones are not.
 pub fn jobs() -> Vec<Job> {
     let plan = world(&[2], &[(2, 0)], 1);
     let mut jobs = Vec::new();
-    for first in COMMANDS {
-        for second in COMMANDS {
+    for first in commands_of_01() {
+        for second in commands_of_01() {
             let pair = [command(&plan, first.byte), command(&plan, second.byte)].concat();
             jobs.push([head(&plan, first.byte), pair].concat());
         }

@@ -19,7 +19,8 @@ pub fn long_lists() -> Vec<Job> {
 const HANDLER: [u8; 15] = [BODY, 31, TAKE, PLUS, 62, PUT, 55, PUT, 63, GET, 55, CALL, 31, SEND, 3];
 
 /// What these accesses need, with the message 7: 7 and the variable's start, 5, are the argument.
-const NEEDED: [&[u8]; 4] = [&[READ, 31, 62], &[WRITE, 31, 55], &[READ, 31, 55], &[ARG, 31, 31, 12, 0, 0, 0]];
+pub const NEEDED: [&[u8]; 4] =
+    [&[READ, 31, 62], &[WRITE, 31, 55], &[READ, 31, 55], &[ARG, 31, 31, 12, 0, 0, 0]];
 
 /// With every permission that is needed, and without each of them; then with close ones instead of the last.
 pub fn last_numbers() -> Vec<Job> {
@@ -33,7 +34,8 @@ pub fn last_numbers() -> Vec<Job> {
     lists.iter().map(|list| last_node(list)).collect()
 }
 
-fn last_node(permissions: &[u8]) -> Job {
+/// The accesses of the last node with these permissions.
+pub fn last_node(permissions: &[u8]) -> Job {
     let wires = [WIRE, 31, 3, 28, WIRE, 31, 3, 31];
     let start = table::write(START, &[31, 7]);
     let turns = [[TURN, 31].repeat(9), [TURN, 28].repeat(2), [TURN, 31].repeat(2)].concat();

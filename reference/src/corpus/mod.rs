@@ -15,9 +15,11 @@ mod names;
 mod order;
 mod pairs;
 mod random;
+mod ranges;
 mod repeats;
 mod run;
 mod sight;
+mod spans;
 mod stops;
 mod work;
 mod worked;
@@ -58,7 +60,8 @@ fn jobs() -> Vec<(&'static str, Vec<Job>)> {
     ]
 }
 
-/// All families: the worked jobs in both modes, each of the jobs above once, then what is about runs.
+/// All families: the worked jobs in both modes, each of the jobs above once, then what is about runs, then SPAN.
+/// A new family goes behind all others, so that the stored runs before it stay the same.
 pub fn families() -> Vec<Family> {
     let mut runs = Runs::new();
     let mut list = vec![Family { name: "worked", runs: runs.pairs(&worked::jobs()) }];
@@ -82,7 +85,19 @@ pub fn families() -> Vec<Family> {
     list.push(Family { name: "changes", runs: changes::runs(&mut runs) });
     list.push(Family { name: "handlers", runs: runs.pairs(&handlers::jobs()) });
     list.push(Family { name: "work", runs: work::runs(&mut runs) });
+    list.extend(with_spans(&mut runs));
     list
+}
+
+/// What is about SPAN, which no job before has: some jobs once, in either mode, then pairs.
+fn with_spans(runs: &mut Runs) -> [Family; 4] {
+    let once = [spans::cuts(), spans::limits(), random::damaged_by_span(2)].concat();
+    [
+        Family { name: "spans once", runs: once.iter().map(|job| runs.any(job)).collect() },
+        Family { name: "spans", runs: runs.pairs(&spans::jobs()) },
+        Family { name: "ranges", runs: runs.pairs(&ranges::jobs()) },
+        Family { name: "span pairs", runs: runs.pairs(&pairs::with_spans(12)) },
+    ]
 }
 
 /// The runs of all families.

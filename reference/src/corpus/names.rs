@@ -8,7 +8,9 @@ use crate::table::{self, *};
 pub fn jobs() -> Vec<Job> {
     let plans = [small(), middle(), full()];
     let mut jobs = vec![vec![NODE], vec![NODE, FLOW], vec![FLOW, NODE]];
-    jobs.extend(plans.iter().flat_map(edges));
+    for plan in &plans {
+        jobs.extend(commands_of_01().flat_map(|row| edges(plan, row)));
+    }
     jobs.extend(owners());
     jobs.extend(without_body());
     jobs
@@ -25,17 +27,15 @@ fn declared(plan: &Plan, operand: Operand) -> Option<usize> {
     }
 }
 
-/// Each operand of each command: the last number that is declared, the first that is not, and the largest.
-fn edges(plan: &Plan) -> Vec<Job> {
+/// Each operand of a command: the last number that is declared, the first that is not, and the largest.
+pub fn edges(plan: &Plan, row: &Row) -> Vec<Job> {
     let mut jobs = Vec::new();
-    for row in COMMANDS {
-        for (index, &operand) in row.operands.iter().enumerate() {
-            let Some(count) = declared(plan, operand) else { continue };
-            for number in [count - 1, count, 255] {
-                let mut list = operands(plan, row.byte);
-                list[index] = number as u32;
-                jobs.push([before(plan, row.byte), table::write(row.byte, &list)].concat());
-            }
+    for (index, &operand) in row.operands.iter().enumerate() {
+        let Some(count) = declared(plan, operand) else { continue };
+        for number in [count - 1, count, 255] {
+            let mut list = operands(plan, row.byte);
+            list[index] = number as u32;
+            jobs.push([before(plan, row.byte), table::write(row.byte, &list)].concat());
         }
     }
     jobs

@@ -1,23 +1,52 @@
-//! The generator's valid jobs with runs of 10 to 60 turns, for both modes.
+//! The generator's valid jobs with runs of 10 to 60 turns, for both modes, without SPAN and with it.
 
 use super::Job;
-use crate::generate::{case, Kind};
-use crate::{decode, Mode, Runner, Step};
+use crate::generate::{draw_case, Kind, Random};
+use crate::outcome::kind;
+use crate::{decode, Entry, Mode, Program, Runner, Step};
 
 const SEED: u64 = 0x0A1B_0C2D;
 
-/// So many jobs whose unmonitored run completes 10 to 60 turns.
+/// So many jobs without SPAN whose unmonitored run completes 10 to 60 turns.
 pub fn jobs(count: usize) -> Vec<Job> {
+    let random = |index| Random::for_case(SEED, index).without_spans();
+    drawn(random).take(count).collect()
+}
+
+/// So many jobs with a call whose node and function have a SPAN.
+pub fn with_spans(count: usize) -> Vec<Job> {
+    let jobs = drawn(|index| Random::for_case(!SEED, index));
+    jobs.filter(|job| job.len() < 400 && has_call_by_span(job)).take(count).collect()
+}
+
+/// Whether a call of the unmonitored run is of the node and function of a SPAN.
+fn has_call_by_span(job: &[u8]) -> bool {
+    let program = decode(job).expect("a valid job");
+    let spans: Vec<(u8, u8)> = program.spans.iter().map(|span| (span.node, span.function)).collect();
+    let is_call = |entry: &Entry| entry.kind == kind::CALL && spans.contains(&(entry.node, entry.number));
+    entries(&program).iter().any(is_call)
+}
+
+/// Jobs whose unmonitored run completes 10 to 60 turns, by the generators of the indices.
+fn drawn(random: impl Fn(u64) -> Random) -> impl Iterator<Item = Job> {
     let longest = [150, 450, 900, 1_400];
-    let drawn =
-        (0..).map(|index| case(SEED, index, Kind::Valid, longest[index as usize % longest.len()]).job);
-    drawn.filter(|job| (10..=60).contains(&turns(job))).take(count).collect()
+    let job = move |index: u64| {
+        draw_case(&mut random(index), Kind::Valid, longest[index as usize % longest.len()]).job
+    };
+    (0..).map(job).filter(|job| (10..=60).contains(&turns(job)))
 }
 
 /// Completed turns of the unmonitored run.
 fn turns(job: &[u8]) -> usize {
-    let program = decode(job).expect("a valid job");
-    let mut runner = Runner::new(&program, Mode::Unmonitored);
-    while let Step::Completed(_) = runner.step() {}
-    runner.turns()
+    entries(&decode(job).expect("a valid job")).len()
+}
+
+/// The entries of the unmonitored run.
+fn entries(program: &Program) -> Vec<Entry> {
+    let mut runner = Runner::new(program, Mode::Unmonitored);
+    let mut list = Vec::new();
+    while let Step::Completed(entry) = runner.step() {
+        list.push(entry);
+    }
+    list
 }

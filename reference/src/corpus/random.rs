@@ -1,14 +1,21 @@
-//! The generator's jobs, from a fixed seed: every reason of a refusal, valid jobs and blind damage.
+//! The generator's jobs without SPAN, from a fixed seed: every reason of a refusal, valid jobs and blind damage.
 
 use super::Job;
 use crate::generate::count::Count;
 use crate::generate::damage::damage;
-use crate::generate::{case, valid, Kind, Random, Reason};
+use crate::generate::{draw_case, valid, Kind, Random, Reason};
 
 const SEED: u64 = 0x0C09_0905;
 
 pub fn jobs() -> Vec<Job> {
     [reasons(), cases(Kind::Valid, 250), cases(Kind::Damaged, 250)].concat()
+}
+
+/// Jobs that are damaged by a SPAN: so many for each reason.
+pub fn damaged_by_span(count: usize) -> Vec<Job> {
+    let mut random = Random::new(SEED);
+    let reasons = Reason::all().into_iter().filter(|reason| reason.needs_span());
+    reasons.flat_map(|reason| damaged(reason, count, 400, &mut random)).collect()
 }
 
 /// How many jobs are wanted of a reason, and their largest length: fewer where they have to be long.
@@ -27,17 +34,22 @@ fn wanted(reason: Reason) -> (usize, usize) {
 
 /// Jobs damaged for each reason.
 fn reasons() -> Vec<Job> {
-    let mut random = Random::new(SEED);
+    let mut random = Random::new(SEED).without_spans();
     let mut jobs = Vec::new();
-    for reason in Reason::all() {
+    for reason in Reason::drawn_with(&random) {
         let (count, longest) = wanted(reason);
-        let mut left = count;
-        while left > 0 {
-            let mut plan = valid::medium(&mut random);
-            let damaged = damage(reason, &mut plan, &mut random).filter(|d| d.job.len() <= longest);
-            left -= usize::from(damaged.is_some());
-            jobs.extend(damaged.map(|d| d.job));
-        }
+        jobs.extend(damaged(reason, count, longest, &mut random));
+    }
+    jobs
+}
+
+/// So many jobs damaged for a reason, of at most so many bytes.
+fn damaged(reason: Reason, count: usize, longest: usize, random: &mut Random) -> Vec<Job> {
+    let mut jobs = Vec::new();
+    while jobs.len() < count {
+        let mut plan = valid::medium(random);
+        let damaged = damage(reason, &mut plan, random).filter(|d| d.job.len() <= longest);
+        jobs.extend(damaged.map(|d| d.job));
     }
     jobs
 }
@@ -45,5 +57,9 @@ fn reasons() -> Vec<Job> {
 /// Cases of a kind with small jobs; what their buffers are does not matter here.
 fn cases(kind: Kind, count: u64) -> Vec<Job> {
     let longest = [40, 120, 300, 600];
-    (0..count).map(|index| case(SEED, index, kind, longest[index as usize % longest.len()]).job).collect()
+    let job = |index: u64| {
+        let mut random = Random::for_case(SEED, index).without_spans();
+        draw_case(&mut random, kind, longest[index as usize % longest.len()]).job
+    };
+    (0..count).map(job).collect()
 }

@@ -18,8 +18,9 @@ pub fn accesses() -> Vec<Job> {
     let of_variable = |variable| [GET, PLUS, PUT].map(|byte| [byte, variable]);
     let judged = [&of_variable(1)[..], &of_variable(2), &[[CALL, 0], [CALL, 1]]].concat();
     let permissions = permissions();
-    let with_each = |access| permissions.iter().map(move |permission| access_job(permission, access));
-    let own = of_variable(0).map(|access| access_job(&[], access));
+    let with_each =
+        |access| permissions.iter().map(move |permission| access_job(permission, access, MESSAGE));
+    let own = of_variable(0).map(|access| access_job(&[], access, MESSAGE));
     judged.into_iter().flat_map(with_each).chain(own).collect()
 }
 
@@ -40,11 +41,11 @@ fn permissions() -> Vec<Vec<u8>> {
     list
 }
 
-/// Node 0 takes its message, makes the access and goes on; turns of the others follow.
-fn access_job(permission: &[u8], access: [u8; 2]) -> Job {
+/// Node 0 takes the message, makes the access and goes on; turns of the others follow.
+pub fn access_job(permission: &[u8], access: [u8; 2], message: u32) -> Job {
     let handler = [&[BODY, 0, TAKE][..], &access, &[SEND, 0]].concat();
     let tail = [TURN, 0, TURN, 0, TURN, 0, TURN, 0, TURN, 0, TURN, 2];
-    let start = table::write(START, &[0, MESSAGE]);
+    let start = table::write(START, &[0, message]);
     [&DECLARATIONS, permission, &handler, &start, &tail].concat()
 }
 

@@ -2,7 +2,7 @@
 
 use super::Job;
 use crate::generate::plan::Plan;
-use crate::table::{self, Operand, BODY, MAX_FLOWS, MAX_FUNCTIONS, MAX_NODES, MAX_VARIABLES};
+use crate::table::{self, Operand, BODY, MAX_FLOWS, MAX_FUNCTIONS, MAX_NODES, MAX_VARIABLES, SPAN};
 
 /// Flows of so many nodes each, variables by scope and owner, and so many functions.
 pub fn world(nodes: &[usize], variables: &[(u8, u8)], functions: usize) -> Plan {
@@ -72,4 +72,9 @@ pub fn operands(plan: &Plan, byte: u8) -> Vec<u32> {
 /// A command that passes every test behind the plan's declarations.
 pub fn command(plan: &Plan, byte: u8) -> Vec<u8> {
     table::write(byte, &operands(plan, byte))
+}
+
+/// SPAN of a node and function, from `low` to `high`.
+pub fn span(node: u32, function: u32, low: u32, high: u32) -> Vec<u8> {
+    table::write(SPAN, &[node, function, low, high])
 }

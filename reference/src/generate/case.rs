@@ -33,21 +33,25 @@ pub struct Case {
 
 /// The case `index` of a seed, with a job of at most `max_bytes` bytes, which are at least 1.
 pub fn case(seed: u64, index: u64, kind: Kind, max_bytes: usize) -> Case {
-    let mut random = Random::for_case(seed, index);
+    draw_case(&mut Random::for_case(seed, index), kind, max_bytes)
+}
+
+/// The same for a generator of numbers.
+pub fn draw_case(random: &mut Random, kind: Kind, max_bytes: usize) -> Case {
     let is_valid = match kind {
         Kind::Valid => true,
         Kind::Damaged => false,
         Kind::Mixed => random.chance(60),
     };
     if is_valid {
-        return valid_case(&mut random, max_bytes);
+        return valid_case(random, max_bytes);
     }
     match random.weighted(&[60, 15, 6, 5, 14]) {
-        0 => damaged_case(&mut random, max_bytes),
-        1 => blind_case(&mut random, max_bytes, |job, random| noise::flip(job, random)),
-        2 => blind_case(&mut random, max_bytes, noise::cut),
-        3 => soup_case(&mut random, max_bytes),
-        _ => short_case(&mut random, max_bytes),
+        0 => damaged_case(random, max_bytes),
+        1 => blind_case(random, max_bytes, |job, random| noise::flip(job, random)),
+        2 => blind_case(random, max_bytes, noise::cut),
+        3 => soup_case(random, max_bytes),
+        _ => short_case(random, max_bytes),
     }
 }
 

@@ -11,6 +11,7 @@ pub enum Count {
     Variables,
     Functions,
     BodyCommands,
+    /// ARG and SPAN together.
     Args,
     Turns,
 }
@@ -54,8 +55,16 @@ pub fn fill(plan: &mut Plan, random: &mut Random, count: Count) -> Option<Spot> 
     Some(Spot { group, index: plan.groups[group].len() })
 }
 
-/// A command byte of the counted kind.
-pub fn byte_of(count: Count) -> u8 {
+/// A command byte of the counted kind: of arguments ARG or, if it is drawn, SPAN.
+pub fn draw_byte(count: Count, random: &mut Random) -> u8 {
+    match count {
+        Count::Args if random.draws_spans => random.pick(&[ARG, SPAN]),
+        _ => byte_of(count),
+    }
+}
+
+/// The command byte of the counted kind, or one of its group.
+fn byte_of(count: Count) -> u8 {
     match count {
         Count::Flows => FLOW,
         Count::Nodes => NODE,
@@ -90,17 +99,21 @@ fn fill_args(plan: &mut Plan, random: &mut Random) -> Option<()> {
         return None;
     }
     let mut value = random.value();
-    for _ in plan.indices(ARG).len()..MAX_ARGS {
+    for _ in plan.arguments().len()..MAX_ARGS {
         let permissions = &plan.groups[usize::from(group(ARG))];
         let node = random.below(plan.nodes()) as u32;
         let function = random.below(plan.functions) as u32;
-        let mut arg = table::write(ARG, &[node, function, value]);
-        while permissions.contains(&arg) {
+        let width = (random.draws_spans && random.chance(50)).then(|| random.below(4) as u32);
+        let permission = |value: u32| match width {
+            Some(width) => table::write(SPAN, &[node, function, value, value.saturating_add(width)]),
+            None => table::write(ARG, &[node, function, value]),
+        };
+        while permissions.contains(&permission(value)) {
             value = value.wrapping_add(1);
-            arg = table::write(ARG, &[node, function, value]);
         }
+        let permission = permission(value);
         value = value.wrapping_add(random.below(2) as u32);
-        plan.groups[usize::from(group(ARG))].push(arg);
+        plan.groups[usize::from(group(ARG))].push(permission);
     }
     Some(())
 }

@@ -17,6 +17,6 @@ mod size;
 pub mod valid;
 mod wire;
 
-pub use case::{case, Case, Kind};
+pub use case::{case, draw_case, Case, Kind};
 pub use random::Random;
 pub use reason::Reason;

@@ -1,7 +1,7 @@
 //! Jobs damaged blindly: cut, changed bytes, random commands.
 
 use super::random::Random;
-use crate::table::{self, Operand, COMMANDS};
+use crate::table::{self, Operand};
 
 /// Ends the job anywhere.
 pub fn cut(job: &mut Vec<u8>, random: &mut Random) {
@@ -34,7 +34,8 @@ pub fn soup(random: &mut Random, most: usize) -> Vec<u8> {
 }
 
 fn command(random: &mut Random) -> Vec<u8> {
-    let row = &COMMANDS[random.below(COMMANDS.len())];
+    let commands = random.commands();
+    let row = random.pick(&commands);
     let mut operands = Vec::new();
     for operand in row.operands {
         operands.push(match operand {

@@ -1,6 +1,6 @@
 //! A job in the making: its commands by group, and what they declare.
 
-use crate::table::{self, group, BODY, FLOW, FUN, NODE, TURN, VAR};
+use crate::table::{self, group, ARG, BODY, FLOW, FUN, NODE, SPAN, TURN, VAR};
 
 pub const GROUPS: usize = 7;
 /// The group of handler commands.
@@ -75,8 +75,18 @@ impl Plan {
 
     /// The commands of a group that have this byte: their indices.
     pub fn indices(&self, byte: u8) -> Vec<usize> {
-        let commands = self.groups[usize::from(group(byte))].iter().enumerate();
-        commands.filter(|(_, command)| command[0] == byte).map(|(index, _)| index).collect()
+        self.indices_of(group(byte), |other| other == byte)
+    }
+
+    /// The indices of the ARG and SPAN commands, which share a largest count.
+    pub fn arguments(&self) -> Vec<usize> {
+        self.indices_of(group(ARG), |byte| matches!(byte, ARG | SPAN))
+    }
+
+    /// The commands of a group whose bytes are like this: their indices.
+    fn indices_of(&self, group: u8, is_like_this: impl Fn(u8) -> bool) -> Vec<usize> {
+        let commands = self.groups[usize::from(group)].iter().enumerate();
+        commands.filter(|(_, command)| is_like_this(command[0])).map(|(index, _)| index).collect()
     }
 
     /// The node whose body is open before the handler group's command `index`.

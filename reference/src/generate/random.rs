@@ -1,22 +1,42 @@
-//! A small generator of numbers (splitmix64).
+//! A small generator of numbers (splitmix64), which also knows the commands that are drawn with it.
+
+use crate::table::{commands_of_01, Row, COMMANDS};
 
 #[derive(Clone, Debug)]
-pub struct Random(u64);
+pub struct Random {
+    state: u64,
+    /// Whether SPAN is drawn.
+    pub draws_spans: bool,
+}
 
 impl Random {
     pub fn new(seed: u64) -> Random {
-        Random(seed)
+        Random { state: seed, draws_spans: true }
     }
 
     /// A generator of its own for the case `index` of a seed.
     pub fn for_case(seed: u64, index: u64) -> Random {
-        let mut random = Random(seed);
-        Random(random.next_u64() ^ index.wrapping_mul(0xD1B5_4A32_D192_ED03))
+        let number = Random::new(seed).next_u64();
+        Random::new(number ^ index.wrapping_mul(0xD1B5_4A32_D192_ED03))
+    }
+
+    /// The same numbers for jobs of 01's commands alone: without SPAN, and with its byte as any other that is no
+    /// command.
+    pub fn without_spans(self) -> Random {
+        Random { draws_spans: false, ..self }
+    }
+
+    /// The commands that are drawn.
+    pub fn commands(&self) -> Vec<Row> {
+        if self.draws_spans {
+            return COMMANDS.to_vec();
+        }
+        commands_of_01().copied().collect()
     }
 
     pub fn next_u64(&mut self) -> u64 {
-        self.0 = self.0.wrapping_add(0x9E37_79B9_7F4A_7C15);
-        let mut z = self.0;
+        self.state = self.state.wrapping_add(0x9E37_79B9_7F4A_7C15);
+        let mut z = self.state;
         z = (z ^ (z >> 30)).wrapping_mul(0xBF58_476D_1CE4_E5B9);
         z = (z ^ (z >> 27)).wrapping_mul(0x94D0_49BB_1331_11EB);
         z ^ (z >> 31)

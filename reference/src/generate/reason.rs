@@ -52,6 +52,11 @@ pub enum Reason {
     TwoBadJumps,
     /// Refused for what comes after the jump.
     BadJumpBeforeOtherRefusal,
+    // 15
+    /// If it is not alone, what comes after the SPAN is wrong too.
+    LowAboveHigh {
+        alone: bool,
+    },
 }
 
 use Reason::*;
@@ -76,15 +81,32 @@ impl Reason {
         for byte in [READ, WRITE] {
             list.extend([PermissionUnseen(byte), PermissionNotShared(byte), PermissionUnseenNotShared(byte)]);
         }
-        list.extend([WIRE, ANY, ARG, READ, WRITE].map(Repeated));
+        list.extend([WIRE, ANY, ARG, READ, WRITE, SPAN].map(Repeated));
         list.extend([SecondBody, SecondStartSameNode, SecondStartOtherNode]);
         for byte in [JUMP, JUMPZ] {
             list.extend([JumpOnePastEnd(byte), JumpFarPastEnd(byte)]);
         }
         list.extend([TwoBadJumps, BadJumpBeforeOtherRefusal]);
+        list.extend([true, false].map(|alone| LowAboveHigh { alone }));
         list
     }
+
+    /// Those that are drawn with a generator of numbers.
+    pub fn drawn_with(random: &Random) -> Vec<Reason> {
+        let mut list = Reason::all();
+        list.retain(|reason| random.draws_spans || !reason.needs_span());
+        list
+    }
+
+    /// Whether the damage is a SPAN.
+    pub fn needs_span(self) -> bool {
+        matches!(self, Repeated(SPAN) | Undeclared(SPAN, _)) || self.number() == 15
+    }
 }
+
+/// Numbers of refusals, and how often each is drawn; 15 is the last.
+const NUMBERS: [u8; 10] = [1, 2, 3, 4, 5, 6, 7, 8, 9, 15];
+const WEIGHTS: [usize; 10] = [5, 8, 11, 8, 12, 20, 14, 14, 8, 8];
 
 impl Reason {
     /// The refusal's number.
@@ -102,13 +124,16 @@ impl Reason {
             Repeated(_) | SecondBody | SecondStartSameNode | SecondStartOtherNode => 8,
             JumpOnePastEnd(_) | JumpFarPastEnd(_) | TwoBadJumps => 9,
             BadJumpBeforeOtherRefusal => 6,
+            LowAboveHigh { .. } => 15,
         }
     }
 
     /// Any reason, every number about as often as the others.
     pub fn draw(random: &mut Random) -> Reason {
-        let number = 1 + random.weighted(&[5, 8, 11, 8, 12, 20, 14, 14, 8]) as u8;
-        let reasons: Vec<Reason> = Reason::all().into_iter().filter(|r| r.number() == number).collect();
+        let last = if random.draws_spans { NUMBERS.len() } else { NUMBERS.len() - 1 };
+        let number = NUMBERS[random.weighted(&WEIGHTS[..last])];
+        let mut reasons = Reason::drawn_with(random);
+        reasons.retain(|reason| reason.number() == number);
         random.pick(&reasons)
     }
 }

@@ -5,6 +5,7 @@
 pub mod made;
 
 use std::collections::HashSet;
+use std::ops::RangeInclusive;
 
 use flow_reference::{hex, Mode, Outcome};
 
@@ -57,6 +58,7 @@ pub fn commands(mut job: &[u8]) -> Vec<&[u8]> {
             0x20 => 4,
             0x11 | 0x41 | 0x45 => 5,
             0x50 => 6,
+            0x34 => 11,
             _ => 7,
         };
         let (command, rest) = job.split_at(length);
@@ -71,7 +73,7 @@ pub fn number(command: &[u8]) -> u32 {
     u32::from_le_bytes(command[command.len() - 4..].try_into().unwrap())
 }
 
-/// The permissions of a job: the bytes of its commands ANY, ARG, READ and WRITE.
+/// The permissions of a job: the bytes of its commands ANY, ARG, READ, WRITE and SPAN.
 pub struct Permissions(HashSet<Vec<u8>>);
 
 impl Permissions {
@@ -88,8 +90,18 @@ impl Permissions {
         match kind {
             3 => has(0x32),
             4 => has(0x33),
-            5 => has(0x30) || self.0.contains(&arg),
+            5 => {
+                has(0x30)
+                    || self.0.contains(&arg)
+                    || self.ranges(node, number).any(|range| range.contains(&value))
+            }
             _ => true,
         }
+    }
+
+    /// The ranges of the SPAN commands of a node and function.
+    pub fn ranges(&self, node: u8, function: u8) -> impl Iterator<Item = RangeInclusive<u32>> + '_ {
+        let spans = self.0.iter().filter(move |command| command[..3] == [0x34, node, function]);
+        spans.map(|span| number(&span[..7])..=number(span))
     }
 }

@@ -10,11 +10,11 @@ may-call-any-requires c κs = search needs
 returns : tie.Need-returns
 returns c = rw (sym (c .before .may-call-any .ensures) ∙ c .if1 .taken)
 
-may-call-with-requires : tie.Need-may-call-with-requires
-may-call-with-requires c κs = search needs
+has-range-requires : tie.Need-has-range-requires
+has-range-requires c κs = search needs
 
 returns-2 : tie.Need-returns-2
-returns-2 c = rw (sym (c .before .before .may-call-any .ensures) ∙ c .before .if1 .left) (c .may-call-with .ensures)
+returns-2 c = rw (sym (c .before .before .may-call-any .ensures) ∙ c .before .if1 .left) (c .has-range .ensures)
 
 pub may-call-spec : {M : Type 1} → statement M
-may-call-spec = tie.close (tie.spec may-call-any-requires returns may-call-with-requires returns-2)
+may-call-spec = tie.close (tie.spec may-call-any-requires returns has-range-requires returns-2)

@@ -2,7 +2,7 @@
 use mathlib.Core.Path.{_∙_}
 use denote.Ref.{now}
 use borrow.Author.Needs.{needs}
-use Rattle.tables.specs.Cells.{markAt}
+use Rattle.tables.specs.Cells.{markAt, putHalf}
 use Rattle.tables.specs.Writes.{made}
 use Rattle.notes.proofs.Arms.{known-arm, rest-arm}
 use Rattle.notes.proofs.note_content.Statement.{statement}
@@ -38,14 +38,17 @@ mark-requires c κs = search needs
 mark-requires-2 : tie.Need-mark-requires-2
 mark-requires-2 c κs = search needs
 
-note-operands-requires-2 : tie.Need-note-operands-requires-2
-note-operands-requires-2 c κs = search needs
+note-range-requires : tie.Need-note-range-requires
+note-range-requires c κs = search needs
 
 mark-requires-3 : tie.Need-mark-requires-3
 mark-requires-3 c κs = search needs
 
 mark-requires-4 : tie.Need-mark-requires-4
 mark-requires-4 c κs = search needs
+
+note-range-requires-2 : tie.Need-note-range-requires-2
+note-range-requires-2 c κs = search needs
 
 note-body-requires : tie.Need-note-body-requires
 note-body-requires c κs = search needs
@@ -110,11 +113,11 @@ same-length-6 : tie.Need-same-length-6
 same-length-6 c = search needs
 
 returns-6 : tie.Need-returns-6
-unfolding made
+unfolding made putHalf
 returns-6 c =
     let p = c .before .before .before .before in
     let a = p .before .before .before .before .args in
-    known-arm (now (a .tables)) (a .c) _ _ (p .match .keys6) (rw (p .match .keys6) at (c .before .before .note-operands2 .ensures))
+    known-arm (now (a .tables)) (a .c) _ _ (p .match .keys6) (rw (p .match .keys6) at (c .before .before .note-range .ensures))
 
 same-length-7 : tie.Need-same-length-7
 same-length-7 c = search needs
@@ -140,11 +143,11 @@ same-length-9 : tie.Need-same-length-9
 same-length-9 c = search needs
 
 returns-9 : tie.Need-returns-9
-unfolding made
+unfolding made putHalf
 returns-9 c =
     let p = c .before .before .before .before in
     let a = p .before .before .before .before .args in
-    known-arm (now (a .tables)) (a .c) _ _ (p .match .keys9) (c .before .before .note-body .ensures)
+    known-arm (now (a .tables)) (a .c) _ _ (p .match .keys9) (rw (p .match .keys9) at (c .before .before .note-range2 .ensures))
 
 same-length-10 : tie.Need-same-length-10
 same-length-10 c = search needs
@@ -154,19 +157,30 @@ unfolding made
 returns-10 c =
     let p = c .before .before .before .before in
     let a = p .before .before .before .before .args in
-    known-arm (now (a .tables)) (a .c) _ _ (p .match .keys10) (c .before .before .note-start .ensures)
+    known-arm (now (a .tables)) (a .c) _ _ (p .match .keys10) (c .before .before .note-body .ensures)
 
 same-length-11 : tie.Need-same-length-11
 same-length-11 c = search needs
 
 returns-11 : tie.Need-returns-11
+unfolding made
 returns-11 c =
+    let p = c .before .before .before .before in
+    let a = p .before .before .before .before .args in
+    known-arm (now (a .tables)) (a .c) _ _ (p .match .keys11) (c .before .before .note-start .ensures)
+
+same-length-12 : tie.Need-same-length-12
+same-length-12 c = search needs
+
+returns-12 : tie.Need-returns-12
+returns-12 c =
     let p = c .before .before .before .before in
     let a = p .before .before .before .before .args in
     let n = p .match .rest in
     c .before .before .note-handler .ensures
-    ∙ rest-arm (now (a .tables)) (a .c) (n .0 .0 .0 .0 .0 .0 .0 .0 .0 .1) (n .0 .0 .0 .0 .0 .0 .0 .0 .1) (n .0 .0 .0 .0 .0 .0 .0 .1)
-    (n .0 .0 .0 .0 .0 .0 .1) (n .0 .0 .0 .0 .0 .1) (n .0 .0 .0 .0 .1) (n .0 .0 .0 .1) (n .0 .0 .1) (n .0 .1) (n .1)
+    ∙ rest-arm (now (a .tables)) (a .c) (n .0 .0 .0 .0 .0 .0 .0 .0 .0 .0 .1) (n .0 .0 .0 .0 .0 .0 .0 .0 .0 .1) (n .0 .0 .0 .0 .0 .0 .0 .0 .1)
+    (n .0 .0 .0 .0 .0 .0 .0 .1) (n .0 .0 .0 .0 .0 .0 .1) (n .0 .0 .0 .0 .0 .1) (n .0 .0 .0 .0 .1)
+    (n .0 .0 .0 .1) (n .0 .0 .1) (n .0 .1) (n .1)
 
 pub note-content-spec : {M : Type 1} → statement M
 note-content-spec =
@@ -182,9 +196,10 @@ note-content-spec =
     cast-mark
     mark-requires
     mark-requires-2
-    note-operands-requires-2
+    note-range-requires
     mark-requires-3
     mark-requires-4
+    note-range-requires-2
     note-body-requires
     note-start-requires
     note-handler-requires
@@ -209,4 +224,6 @@ note-content-spec =
     same-length-10
     returns-10
     same-length-11
-    returns-11)
+    returns-11
+    same-length-12
+    returns-12)

@@ -1,6 +1,7 @@
 -- `violations::is_repeated` meets its contract.
 use borrow.Author.Needs.{needs}
-use Rattle.violations.proofs.Judging.{wire-same, any-same, arg-same, read-same, write-same, body-same, start-same, other-same}
+use Rattle.violations.proofs.Judging.{wire-same, any-same, arg-same, span-same, read-same, write-same, body-same, start-same}
+use Rattle.violations.proofs.Judging.{other-same}
 use Rattle.violations.proofs.is_repeated.Statement.{statement}
 use Rattle.violations.proofs.is_repeated.Tie as tie
 
@@ -10,14 +11,17 @@ is-wired-requires c κs = search needs
 may-call-any-requires : tie.Need-may-call-any-requires
 may-call-any-requires c κs = search needs
 
-may-call-with-requires : tie.Need-may-call-with-requires
-may-call-with-requires c κs = search needs
+is-listed-requires : tie.Need-is-listed-requires
+is-listed-requires c κs = search needs
 
 may-read-requires : tie.Need-may-read-requires
 may-read-requires c κs = search needs
 
 may-write-requires : tie.Need-may-write-requires
 may-write-requires c κs = search needs
+
+is-listed-requires-2 : tie.Need-is-listed-requires-2
+is-listed-requires-2 c κs = search needs
 
 has-body-requires : tie.Need-has-body-requires
 has-body-requires c κs = search needs
@@ -37,7 +41,7 @@ returns-2 c = λ past s plain. any-same _ (c .before .before .before .args .c) p
 
 returns-3 : tie.Need-returns-3
 returns-3 c = λ past s plain. arg-same _ (c .before .before .before .args .c) past s plain _ (c .before .match .keys3)
-    (c .may-call-with .ensures)
+    (c .is-listed .ensures)
 
 returns-4 : tie.Need-returns-4
 returns-4 c = λ past s plain. read-same _ (c .before .before .before .args .c) past s plain _ (c .before .match .keys4)
@@ -48,18 +52,22 @@ returns-5 c = λ past s plain. write-same _ (c .before .before .before .args .c)
     (c .may-write .ensures)
 
 returns-6 : tie.Need-returns-6
-returns-6 c = λ past s plain. body-same _ (c .before .before .before .args .c) past s plain _ (c .before .match .keys6)
-    (c .has-body .ensures)
+returns-6 c = λ past s plain. span-same _ (c .before .before .before .args .c) past s plain _ (c .before .match .keys6)
+    (c .is-listed2 .ensures)
 
 returns-7 : tie.Need-returns-7
-returns-7 c = λ past s plain. start-same _ (c .before .before .before .before .args .c) past s plain _ _ (c .before .before .match .keys7)
-    (c .before .flow-of .ensures) (c .has-start .ensures)
+returns-7 c = λ past s plain. body-same _ (c .before .before .before .args .c) past s plain _ (c .before .match .keys7)
+    (c .has-body .ensures)
 
 returns-8 : tie.Need-returns-8
-returns-8 c =
+returns-8 c = λ past s plain. start-same _ (c .before .before .before .before .args .c) past s plain _ _ (c .before .before .match .keys8)
+    (c .before .flow-of .ensures) (c .has-start .ensures)
+
+returns-9 : tie.Need-returns-9
+returns-9 c =
     let n = c .match .rest in
-    λ past s plain. other-same _ (c .before .before .args .c) past s plain (n .0 .0 .0 .0 .0 .0 .1) (n .0 .0 .0 .0 .0 .1)
-    (n .0 .0 .0 .0 .1) (n .0 .0 .0 .1) (n .0 .0 .1) (n .0 .1) (n .1)
+    λ past s plain. other-same _ (c .before .before .args .c) past s plain (n .0 .0 .0 .0 .0 .0 .0 .1) (n .0 .0 .0 .0 .0 .0 .1)
+    (n .0 .0 .0 .0 .0 .1) (n .0 .0 .0 .0 .1) (n .0 .0 .0 .1) (n .0 .0 .1) (n .0 .1) (n .1)
 
 pub is-repeated-spec : {M : Type 1} → statement M
 is-repeated-spec =
@@ -67,9 +75,10 @@ is-repeated-spec =
     (tie.spec
     is-wired-requires
     may-call-any-requires
-    may-call-with-requires
+    is-listed-requires
     may-read-requires
     may-write-requires
+    is-listed-requires-2
     has-body-requires
     flow-of-requires
     has-start-requires
@@ -80,4 +89,5 @@ is-repeated-spec =
     returns-5
     returns-6
     returns-7
-    returns-8)
+    returns-8
+    returns-9)

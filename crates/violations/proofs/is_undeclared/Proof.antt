@@ -63,17 +63,30 @@ names-nothing-requires-3 c κs = search needs
 
 returns-5 : tie.Need-returns-5
 returns-5 c =
+    let p11 = c .before .before .before .before .before .before .before .before .before .before .before in
+    let start = p11 .before .before .before .before in
+    λ past s.
+    undeclared-found _ (start .args .c) past s _ _ _ (start .pre) (p11 .before .before .unpack .ensures)
+    (p11 .before .counts-of .ensures) (p11 .count-of .ensures)
+    4 (rw (c .before .names-nothing3 .ensures) at (c .if5 .taken))
+
+names-nothing-requires-4 : tie.Need-names-nothing-requires-4
+names-nothing-requires-4 c κs = search needs
+
+returns-6 : tie.Need-returns-6
+returns-6 c =
     let p3 = c .before .before .before in
     let p5 = p3 .before .before in
     let p7 = p5 .before .before in
-    let p10 = p7 .before .before .before in
-    let start = p10 .before .before .before .before in
+    let p9 = p7 .before .before in
+    let p12 = p9 .before .before .before in
+    let start = p12 .before .before .before .before in
     λ past s.
-    undeclared-last _ (start .args .c) past s _ _ _ (start .pre) (p10 .before .before .unpack .ensures) (p10 .before .counts-of .ensures)
-    (p10 .count-of .ensures) (p7 .if1 .left) (rw (p5 .before .is-handler .ensures) at (p5 .if2 .left))
-    (rw (p3 .before .names-nothing .ensures) at (p3 .if3 .left))
-    (rw (c .before .before .names-nothing2 .ensures) at (c .before .if4 .left)) _
-    (c .names-nothing3 .ensures)
+    undeclared-last _ (start .args .c) past s _ _ _ (start .pre) (p12 .before .before .unpack .ensures) (p12 .before .counts-of .ensures)
+    (p12 .count-of .ensures) (p9 .if1 .left) (rw (p7 .before .is-handler .ensures) at (p7 .if2 .left))
+    (rw (p5 .before .names-nothing .ensures) at (p5 .if3 .left)) (rw (p3 .before .names-nothing2 .ensures) at (p3 .if4 .left))
+    (rw (c .before .before .names-nothing3 .ensures) at (c .before .if5 .left)) _
+    (c .names-nothing4 .ensures)
 
 pub is-undeclared-spec : {M : Type 1} → statement M
 is-undeclared-spec =
@@ -90,4 +103,6 @@ is-undeclared-spec =
     names-nothing-requires-2
     returns-4
     names-nothing-requires-3
-    returns-5)
+    returns-5
+    names-nothing-requires-4
+    returns-6)

@@ -23,12 +23,24 @@ returns-2 c =
 
 returns-3 : tie.Need-returns-3
 returns-3 c =
+    let p3 = c .before .before .before in
     λ past s plain.
     rw (
-      sym (c .before .before .before .is-out-of-reach .ensures past s) ∙ c .before .before .if1 .left,
-      sym (c .before .is-repeated .ensures past s plain) ∙ c .if2 .left,
+      sym (p3 .before .before .before .is-out-of-reach .ensures past s) ∙ p3 .before .before .if1 .left,
+      sym (p3 .before .is-repeated .ensures past s plain) ∙ p3 .if2 .left,
+      c .if3 .taken,
+    )
+
+returns-4 : tie.Need-returns-4
+returns-4 c =
+    let p3 = c .before .before .before in
+    λ past s plain.
+    rw (
+      sym (p3 .before .before .before .is-out-of-reach .ensures past s) ∙ p3 .before .before .if1 .left,
+      sym (p3 .before .is-repeated .ensures past s plain) ∙ p3 .if2 .left,
+      c .if3 .left,
     )
 
 pub late-violation-spec : {M : Type 1} → statement M
 late-violation-spec =
-    tie.close (tie.spec is-out-of-reach-requires returns is-repeated-requires returns-2 returns-3)
+    tie.close (tie.spec is-out-of-reach-requires returns is-repeated-requires returns-2 returns-3 returns-4)

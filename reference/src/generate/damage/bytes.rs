@@ -1,10 +1,10 @@
 //! Refusals 1 to 3: length, unknown bytes, cut operands.
 
 use super::{operands, Damaged};
-use crate::generate::count::{byte_of, fill, pad, Count};
+use crate::generate::count::{draw_byte, fill, pad, Count};
 use crate::generate::plan::Plan;
 use crate::generate::random::Random;
-use crate::table::{self, COMMANDS, MAX_JOB_BYTES};
+use crate::table::{self, MAX_JOB_BYTES};
 
 /// Valid but for its length.
 pub fn too_long(plan: &mut Plan, random: &mut Random) -> Option<Damaged> {
@@ -19,7 +19,8 @@ pub fn too_long_and_broken(random: &mut Random) -> Damaged {
 }
 
 fn unknown(random: &mut Random) -> u8 {
-    let unknown: Vec<u8> = (0..=255).filter(|&byte| table::row(byte).is_none()).collect();
+    let known: Vec<u8> = random.commands().iter().map(|row| row.byte).collect();
+    let unknown: Vec<u8> = (0..=255).filter(|byte| !known.contains(byte)).collect();
     random.pick(&unknown)
 }
 
@@ -68,8 +69,9 @@ pub fn cut_operands(plan: &Plan, random: &mut Random) -> Option<Damaged> {
 pub fn cut_in_lower_group(plan: &Plan, random: &mut Random) -> Option<Damaged> {
     let last = plan.groups.iter().rposition(|group| !group.is_empty())?;
     let lower = |byte| usize::from(table::group(byte)) < last;
+    let commands = random.commands();
     let rows: Vec<u8> =
-        COMMANDS.iter().filter(|row| row.width > 0 && lower(row.byte)).map(|row| row.byte).collect();
+        commands.iter().filter(|row| row.width > 0 && lower(row.byte)).map(|row| row.byte).collect();
     if rows.is_empty() {
         return None;
     }
@@ -82,7 +84,7 @@ pub fn cut_in_lower_group(plan: &Plan, random: &mut Random) -> Option<Damaged> {
 pub fn cut_over_count(plan: &mut Plan, random: &mut Random, count: Count) -> Option<Damaged> {
     let spot = fill(plan, random, count)?;
     let before = plan.bytes()[..plan.offset(spot.group, spot.index)].to_vec();
-    let byte = byte_of(count);
+    let byte = draw_byte(count, random);
     let command = table::write(byte, &operands(plan, random, byte));
     Some(cut(before, &command, random))
 }

@@ -6,7 +6,7 @@ use crate::generate::random::Random;
 use crate::table::{self, JUMP, JUMPZ, TURN};
 
 /// Inserts a jump whose target lies 1 past the end of its body (`past` 1) or 2 to `past`.
-fn insert_jump(plan: &mut Plan, random: &mut Random, byte: u8, past: usize) -> Option<usize> {
+pub fn insert_jump(plan: &mut Plan, random: &mut Random, byte: u8, past: usize) -> Option<usize> {
     let body = some_body(plan, random)?;
     let count = body.len() + 1;
     let target = count + random.between(past.min(2), past);

@@ -6,6 +6,7 @@ mod names;
 mod order;
 mod repeats;
 mod sight;
+mod spans;
 
 use super::plan::{Plan, HANDLERS};
 use super::random::Random;
@@ -68,6 +69,7 @@ pub fn damage(reason: Reason, plan: &mut Plan, random: &mut Random) -> Option<Da
         JumpFarPastEnd(byte) => jumps::bad_jump(plan, random, byte, 150),
         TwoBadJumps => jumps::two_bad_jumps(plan, random),
         BadJumpBeforeOtherRefusal => jumps::before_other_refusal(plan, random),
+        LowAboveHigh { alone } => spans::low_above_high(plan, random, alone),
     }
 }
 

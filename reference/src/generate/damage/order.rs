@@ -1,7 +1,7 @@
 //! Refusals 4 and 5: groups and largest counts.
 
 use super::{beyond, insert, operands, Damaged};
-use crate::generate::count::{byte_of, fill, Count};
+use crate::generate::count::{draw_byte, fill, Count};
 use crate::generate::plan::Plan;
 use crate::generate::random::Random;
 use crate::table::{self, *};
@@ -40,11 +40,13 @@ pub fn lower_group_undeclared(plan: &mut Plan, random: &mut Random) -> Option<Da
     higher.then(|| append(plan, &table::write(WIRE, &[node, 4, node]), 4))
 }
 
-/// One more command than the largest count allows; otherwise valid.
+/// One more command than the largest count allows; otherwise valid, but for a SPAN's ends.
 pub fn over_count(plan: &mut Plan, random: &mut Random, count: Count) -> Option<Damaged> {
     let spot = fill(plan, random, count)?;
-    let byte =
-        if count == Count::BodyCommands { random.pick(&[SET, TAKE, JUMP, SKIP]) } else { byte_of(count) };
+    let byte = match count {
+        Count::BodyCommands => random.pick(&[SET, TAKE, JUMP, SKIP]),
+        _ => draw_byte(count, random),
+    };
     let command = table::write(byte, &operands(plan, random, byte));
     let place = insert(plan, spot.group, spot.index, command);
     Some(Damaged::new(plan, 5, place))
@@ -60,6 +62,9 @@ pub fn over_count_undeclared(plan: &mut Plan, random: &mut Random, count: Count)
             let byte = random.pick(&[GET, PUT, PLUS, SEND, CALL]);
             table::write(byte, &[255])
         }
+        Count::Args if random.draws_spans && random.chance(50) => {
+            table::write(SPAN, &[node, 0, random.value(), random.value()])
+        }
         Count::Args => table::write(ARG, &[node, 0, random.value()]),
         Count::Turns => table::write(TURN, &[node]),
         _ => return None,
@@ -68,10 +73,10 @@ pub fn over_count_undeclared(plan: &mut Plan, random: &mut Random, count: Count)
     Some(Damaged::new(plan, 5, place))
 }
 
-/// The 257th ARG is a repeated one.
+/// The 257th ARG or SPAN is a repeated one.
 pub fn over_count_repeated(plan: &mut Plan, random: &mut Random) -> Option<Damaged> {
     let spot = fill(plan, random, Count::Args)?;
-    let command = plan.groups[spot.group][random.pick(&plan.indices(ARG))].clone();
+    let command = plan.groups[spot.group][random.pick(&plan.arguments())].clone();
     let place = insert(plan, spot.group, spot.index, command);
     Some(Damaged::new(plan, 5, place))
 }

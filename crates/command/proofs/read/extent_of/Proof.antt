@@ -32,6 +32,12 @@ cast-third-at c = search needs
 add-third-at : tie.Need-add-third-at
 add-third-at c = search needs
 
+cast-fourth-at : tie.Need-cast-fourth-at
+cast-fourth-at c = search needs
+
+add-fourth-at : tie.Need-add-fourth-at
+add-fourth-at c = search needs
+
 cast-next : tie.Need-cast-next
 cast-next c = search needs
 
@@ -40,15 +46,15 @@ add-next c = search needs
 
 returns-2 : tie.Need-returns-2
 returns-2 c =
-    let p6 = c .before .before .before .before .before .before in
-    let says = finds-row _ _ _ (p6 .before .before .before .pre .1) (p6 .found .given .1) in
-    read-cut _ _ _ _ says (c .before .before .before .before .unpack .ensures) (c .if1 .taken)
+    let p7 = c .before .before .before .before .before .before .before in
+    let says = finds-row _ _ _ (p7 .before .before .before .pre .1) (p7 .found .given .1) in
+    read-cut _ _ _ _ says (c .before .before .before .before .before .unpack .ensures) (c .if1 .taken)
 
 returns-3 : tie.Need-returns-3
 returns-3 c =
-    let p6 = c .before .before .before .before .before .before in
-    let says = finds-row _ _ _ (p6 .before .before .before .pre .1) (p6 .found .given .1) in
-    read-reaches _ _ _ _ says (c .before .before .before .before .unpack .ensures) _ refl (c .if1 .left)
+    let p7 = c .before .before .before .before .before .before .before in
+    let says = finds-row _ _ _ (p7 .before .before .before .pre .1) (p7 .found .given .1) in
+    read-reaches _ _ _ _ says (c .before .before .before .before .before .unpack .ensures) _ refl (c .if1 .left)
 
 pub extent-of-spec : {M : Type 1} → statement M
 extent-of-spec =
@@ -63,6 +69,8 @@ extent-of-spec =
     add-second-at-2
     cast-third-at
     add-third-at
+    cast-fourth-at
+    add-fourth-at
     cast-next
     add-next
     returns-2

@@ -1,0 +1,97 @@
+-- `notes::commands::note_range` meets its contract.
+use mathlib.Core.Path.{_∙_}
+use borrow.Author.Needs.{needs}
+use Rattle.notes.proofs.commands.note_range.Statement.{statement}
+use Rattle.notes.proofs.commands.note_range.Tie as tie
+
+range-count-requires : tie.Need-range-count-requires
+range-count-requires c κs = search needs
+
+last-range-requires : tie.Need-last-range-requires
+last-range-requires c κs = search needs
+
+cast-number : tie.Need-cast-number
+cast-number c = search needs
+
+one-more-requires : tie.Need-one-more-requires
+one-more-requires c κs = search needs
+
+cast-place : tie.Need-cast-place
+cast-place c = search needs
+
+mul-place : tie.Need-mul-place
+mul-place c = search needs
+
+cast-place-2 : tie.Need-cast-place-2
+cast-place-2 c = search needs
+
+add-place : tie.Need-add-place
+add-place c = search needs
+
+put-half-requires : tie.Need-put-half-requires
+put-half-requires c κs = search needs
+
+put-requires : tie.Need-put-requires
+put-requires c κs = search needs
+
+put-requires-2 : tie.Need-put-requires-2
+put-requires-2 c κs = search needs
+
+cast-put : tie.Need-cast-put
+cast-put c = search needs
+
+mul-put : tie.Need-mul-put
+mul-put c = search needs
+
+add-put : tie.Need-add-put
+add-put c = search needs
+
+put-requires-3 : tie.Need-put-requires-3
+put-requires-3 c κs = search needs
+
+put-requires-4 : tie.Need-put-requires-4
+put-requires-4 c κs = search needs
+
+same-length : tie.Need-same-length
+same-length c = search needs
+
+returns : tie.Need-returns
+returns c =
+    let p6 = c .before .before .before .before .before .before in
+    let p11 = p6 .before .before .before .before .before in
+    let p15 = p11 .before .before .before .before in
+    let p19 = p15 .before .before .before .before in
+    let p23 = p19 .before .before .before .before in
+    c .before .before .put4 .ensures
+    ∙ rw (
+      p6 .put3 .ensures,
+      p11 .put2 .ensures,
+      p15 .put .ensures,
+      p19 .put-half .ensures,
+      p23 .one-more .ensures,
+      p23 .before .last-range .ensures,
+      p23 .before .before .before .range-count .ensures,
+    )
+
+pub note-range-spec : {M : Type 1} → statement M
+note-range-spec =
+    tie.close
+    (tie.spec
+    range-count-requires
+    last-range-requires
+    cast-number
+    one-more-requires
+    cast-place
+    mul-place
+    cast-place-2
+    add-place
+    put-half-requires
+    put-requires
+    put-requires-2
+    cast-put
+    mul-put
+    add-put
+    put-requires-3
+    put-requires-4
+    same-length
+    returns)
