@@ -8,7 +8,6 @@ ghost use Rattle.allowlists.specs.Asking.{asked};
 use command::numbers::FunNum;
 use command::numbers::NodeNum;
 use command::numbers::VarNum;
-use command::read::Command;
 use declared::last_range;
 use tables::cells;
 use tables::cells::entry;
@@ -79,12 +78,11 @@ fn has_range(tables: &[u32], n: NodeNum, f: FunNum, q: Question) -> bool
     false
 }
 
-// Whether there is an ARG or SPAN command with the byte, node, function and third operand of this one, and with this highest argument.
-pub fn is_listed(tables: &[u32], c: Command, high: u32) -> bool
-    ensures { λ r. ⌜ r ≡ listedIn (now (tables .entry)) (c .byte) (c .first) (c .second) (c .third) high ⌝ }
+// Whether there is a command with this byte, ARG or SPAN, node, function, and lowest and highest argument.
+pub fn is_listed(tables: &[u32], byte: u8, n: NodeNum, f: FunNum, low: u32, high: u32) -> bool
+    ensures { λ r. ⌜ r ≡ listedIn (now (tables .entry)) byte (n .0) (f .0) low high ⌝ }
 {
-    let q = Question::Is(c.byte as u32, c.third, high);
-    has_range(tables, NodeNum(c.first), FunNum(c.second), q)
+    has_range(tables, n, f, Question::Is(byte as u32, low, high))
 }
 
 // Whether a node may call a function with this argument.

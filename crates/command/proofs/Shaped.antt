@@ -18,7 +18,7 @@ use Rattle.model.proofs.Reading.{number-none}
 use Rattle.command.specs.Rows.{unpacked, kindOf, limitOf, Says, rowIn, IsRow}
 use Rattle.command.specs.Reading.{IsWidth}
 
--- what a row says, all columns together: byte, group and widths; kinds; largest count; that its byte is a command
+-- what a row says, all columns together: byte, group, length and widths; kinds; largest count; that its byte is a command
 pub record Said : Type 0 where
   pub numbers : List ℕ
   pub kinds : List OperandKind
@@ -30,17 +30,21 @@ abbrev pub given : ℕ → Said
 given p =
     let s = unpacked p in
     record {
-      numbers = s .byte ∷ s .group ∷ s .«first_width» ∷ s .«second_width» ∷ s .«third_width» ∷ s .«fourth_width» ∷ [];
+      numbers = s .byte ∷ s .group ∷ s .length ∷ s .«first_width» ∷ s .«second_width» ∷ s .«third_width» ∷ s .«fourth_width» ∷ [];
       kinds = kindOf (s .«first_kind») ∷ kindOf (s .«second_kind») ∷ kindOf (s .«third_kind») ∷ kindOf (s .«fourth_kind») ∷ [];
       most = limitOf (s .byte) (s .most);
       operands = some (listOf (operandsOf (s .byte)));
     }
 
+-- the length of a byte's operands
+abbrev lengthOf : ℕ → ℕ
+lengthOf b = width (kindAt b 0) + width (kindAt b 1) + width (kindAt b 2) + width (kindAt b 3)
+
 -- the model says this of a byte
 abbrev pub wanted : ℕ → Said
 wanted b =
     record {
-      numbers = b ∷ groupOf b ∷ width (kindAt b 0) ∷ width (kindAt b 1) ∷ width (kindAt b 2) ∷ width (kindAt b 3) ∷ [];
+      numbers = b ∷ groupOf b ∷ lengthOf b ∷ width (kindAt b 0) ∷ width (kindAt b 1) ∷ width (kindAt b 2) ∷ width (kindAt b 3) ∷ [];
       kinds = kindAt b 0 ∷ kindAt b 1 ∷ kindAt b 2 ∷ kindAt b 3 ∷ [];
       most = largestOf b;
       operands = operandsOf b;
@@ -57,10 +61,11 @@ says-as b p e =
       known = rw same at (sym (ap (λ (x : Said). x .operands) e));
       byte = same;
       group = ap (λ (x : Said). getD (x .numbers) 1 0) e;
-      width₁ = ap (λ (x : Said). getD (x .numbers) 2 0) e;
-      width₂ = ap (λ (x : Said). getD (x .numbers) 3 0) e;
-      width₃ = ap (λ (x : Said). getD (x .numbers) 4 0) e;
-      width₄ = ap (λ (x : Said). getD (x .numbers) 5 0) e;
+      length = ap (λ (x : Said). getD (x .numbers) 2 0) e;
+      width₁ = ap (λ (x : Said). getD (x .numbers) 3 0) e;
+      width₂ = ap (λ (x : Said). getD (x .numbers) 4 0) e;
+      width₃ = ap (λ (x : Said). getD (x .numbers) 5 0) e;
+      width₄ = ap (λ (x : Said). getD (x .numbers) 6 0) e;
       kind₁ = ap (λ (x : Said). getD (x .kinds) 0 absent) e;
       kind₂ = ap (λ (x : Said). getD (x .kinds) 1 absent) e;
       kind₃ = ap (λ (x : Said). getD (x .kinds) 2 absent) e;
@@ -138,6 +143,23 @@ width-is high w e = inl e
 width-is variable w e = inr (inl e)
 width-is jump w e = inr (inl e)
 width-is absent w e = inr (inr e)
+
+-- no operand has no width
+pub width-zero : (k : OperandKind) → width k ≡ 0 → k ≡ absent
+width-zero scope e = absurd (omega arith)
+width-zero owner e = absurd (omega arith)
+width-zero start e = absurd (omega arith)
+width-zero answer e = absurd (omega arith)
+width-zero node e = absurd (omega arith)
+width-zero port e = absurd (omega arith)
+width-zero target e = absurd (omega arith)
+width-zero function e = absurd (omega arith)
+width-zero value e = absurd (omega arith)
+width-zero low e = absurd (omega arith)
+width-zero high e = absurd (omega arith)
+width-zero variable e = absurd (omega arith)
+width-zero jump e = absurd (omega arith)
+width-zero absent e = refl
 
 -- an operand of no width
 pub width-none : (job : List ℕ) (at w : ℕ) → IsWidth w → ¬ (w ≡ 4) → ¬ (w ≡ 1) → 0 ≡ numberAt job at w

@@ -8,7 +8,7 @@ use lib.ListN.{length, getD}
 use Rattle.model.specs.Table.{operandsOf, listOf, kindAt, groupOf}
 use Rattle.model.specs.Command.{Command, numberAt, quaternary, Parsed as ParsedAs, whole, unknown, cutShort, endAt, readCommand}
 use Rattle.model.specs.Refusal.{Refusal as RefusedFor, refuse}
-use Rattle.model.proofs.Reading.{read-unknown, read-short, read-whole}
+use Rattle.model.proofs.Reading.{number-none, read-unknown, read-short, read-whole}
 use Rattle.command.specs.declared.table.Row.{Row as Shape}
 use Rattle.command.specs.declared.table.Lookup.{Lookup}
 use Rattle.command.specs.declared.table.Lookup.the-variants.{Found, Missing}
@@ -18,11 +18,13 @@ use Rattle.command.specs.declared.read.Parsed.{Parsed}
 use Rattle.command.specs.declared.read.Parsed.the-variants.{Whole, Refused}
 use Rattle.command.specs.declared.read.Extent.{Extent}
 use Rattle.command.specs.declared.read.Extent.the-variants as e
+use Rattle.command.specs.declared.read.Others.{Others}
 use Rattle.command.specs.declared.read.Head.{Head}
 use Rattle.command.specs.declared.read.HeadParsed.{HeadParsed}
 use Rattle.command.specs.declared.read.HeadParsed.the-variants as h
 use Rattle.command.specs.Rows.{unpacked, Says, Finds}
-use Rattle.command.specs.Reading.{commandOf, refusalOf, refusalAt, Known, ParsesAs, Reaches, Extends, headOf, headIn, IsWidth}
+use Rattle.command.specs.Reading.{commandOf, refusalOf, refusalAt, Known, ParsesAs, Reaches, Extends, othersAt, headOf, headIn}
+use Rattle.command.specs.Reading.{IsWidth}
 use Rattle.command.proofs.Shaped.{width-is}
 
 -- a byte that is found, and one that is not
@@ -44,18 +46,15 @@ module _ (job : List ℕ) (place : ℕ) where
 
   -- by the row of its byte
   module _ (row : ℕ) (s : Shape) (says : Says (getD job place 0) (unpacked row)) (is : s ≡ unpacked row) where
-    ends : place + 1 + s .«first_width» + s .«second_width» + s .«third_width» + s .«fourth_width» ≡ endAt place (listOf (operandsOf (getD job place 0)))
-    ends = let t = says-shape (getD job place 0) row s says is in rw (t .width₁, t .width₂, t .width₃, t .width₄)
+    ends : place + 1 + s .length ≡ endAt place (listOf (operandsOf (getD job place 0)))
+    ends = let t = says-shape (getD job place 0) row s says is in omega (arith, t .length)
 
     -- a command whose operands run past the end
-    pub read-cut : length job < place + 1 + s .«first_width» + s .«second_width» + s .«third_width» + s .«fourth_width»
-        → refusalAt place (readCommand job place) ≡ some (refuse 3 place)
+    pub read-cut : length job < place + 1 + s .length → refusalAt place (readCommand job place) ≡ some (refuse 3 place)
     read-cut l = rw (read-short job place (listOf (operandsOf (getD job place 0))) (says .known) (rw ends at l))
 
     -- a whole command
-    pub read-reaches :
-        (next : ℕ) → next ≡ place + 1 + s .«first_width» + s .«second_width» + s .«third_width» + s .«fourth_width» → next ≤ length job
-        → Reaches job place row next
+    pub read-reaches : (next : ℕ) → next ≡ place + 1 + s .length → next ≤ length job → Reaches job place row next
     read-reaches next e l = record { says = says; ends = e ∙ ends; inside = l }
 
   -- the operands of a whole command, by the columns of its row
@@ -89,26 +88,49 @@ module _ (job : List ℕ) (place : ℕ) where
       width-is (kindAt (getD job place 0) 3) (s .«fourth_width») (shape .width₄),
     )
 
+    -- there is none after the first
+    pub none-follows : s .length ≡ s .«first_width» → record { second = 0; third = 0; fourth = 0 } ≡ othersAt job place s
+    none-follows e =
+        let second : s .«second_width» ≡ 0 = omega (arith, shape .length, shape .width₁, shape .width₂) in
+        let third : s .«third_width» ≡ 0 = omega (arith, shape .length, shape .width₁, shape .width₃) in
+        let fourth : s .«fourth_width» ≡ 0 = omega (arith, shape .length, shape .width₁, shape .width₄) in
+        rw (
+          second,
+          third,
+          fourth,
+          number-none job (place + 1 + s .«first_width»),
+          number-none job (place + 1 + s .«first_width» + 0),
+          number-none job (place + 1 + s .«first_width» + 0 + 0),
+        )
+
     -- the command
-    pub read-all :
-        (x y z w : ℕ) → x ≡ numberAt job (place + 1) (s .«first_width») → y ≡ numberAt job (place + 1 + s .«first_width») (s .«second_width»)
-        → z ≡ numberAt job (place + 1 + s .«first_width» + s .«second_width») (s .«third_width»)
-        → w ≡ numberAt job (place + 1 + s .«first_width» + s .«second_width» + s .«third_width») (s .«fourth_width»)
-        → readCommand job place ≡ whole (record { place = place; byte = getD job place 0; operands = quaternary x y z w }) next
-    read-all x y z w p q r t =
-        rw (p, q, r, t, shape .width₁, shape .width₂, shape .width₃, shape .width₄, reach .ends)
+    pub read-all : (x : ℕ) (y : Others) → x ≡ numberAt job (place + 1) (s .«first_width») → y ≡ othersAt job place s
+        → readCommand job place
+        ≡ whole (record { place = place; byte = getD job place 0; operands = quaternary x (y .second) (y .third) (y .fourth) }) next
+    read-all x y p q =
+        rw (p, q, shape .width₁, shape .width₂, shape .width₃, shape .width₄, reach .ends)
         (read-whole job place (listOf (operandsOf (getD job place 0))) (reach .says .known) (rw (reach .ends) at (reach .inside)))
 
     -- its row and group
     pub read-known :
-        (x y z w : ℕ)
-        → Known (record { place = place; row = row; byte = getD job place 0; group = s .group; first = x; second = y; third = z; fourth = w })
-    read-known x y z w = record { row = reach .says; group = shape .group }
+        (x : ℕ) (y : Others)
+        → Known
+        (record {
+          place = place;
+          row = row;
+          byte = getD job place 0;
+          group = s .group;
+          first = x;
+          second = y .second;
+          third = y .third;
+          fourth = y .fourth;
+        })
+    read-known x y = record { row = reach .says; group = shape .group }
 
     -- its head
     pub read-first : (x : ℕ) → x ≡ numberAt job (place + 1) (s .«first_width»)
         → some (record { byte = getD job place 0; group = s .group; first = x; next = next }) ≡ headIn (readCommand job place)
-    read-first x p = rw (read-all x _ _ _ p refl refl refl, shape .group)
+    read-first x p = rw (read-all x _ p refl, shape .group)
 
 -- there is no head where a command is refused
 head-none : (place : ℕ) (r : ParsedAs) (q : RefusedFor) → refusalAt place r ≡ some q → none ≡ headIn r

@@ -1,12 +1,12 @@
 -- What the code reads at a place of a job, in the model's words.
-use Prim.Native.Nat.{ℕ, _≤_}
+use Prim.Native.Nat.{ℕ, _+_, _≤_}
 use mathlib.Core.Path.{_≡_}
 use mathlib.Core.List.{List}
 use mathlib.Core.Logic.{_⊎_}
 use mathlib.Core.Option.{Option, none, some}
 use lib.ListN.{length, getD}
 use Rattle.model.specs.Table.{operandsOf, listOf, groupOf}
-use Rattle.model.specs.Command.{Command as Past, Parsed as ParsedAs, whole, unknown, cutShort, quaternary, endAt, readCommand}
+use Rattle.model.specs.Command.{Command as Past, Parsed as ParsedAs, whole, unknown, cutShort, quaternary, numberAt, endAt, readCommand}
 use Rattle.model.specs.Refusal.{Refusal as RefusedFor, refuse}
 use Rattle.command.specs.declared.read.Command.{Command}
 use Rattle.command.specs.declared.refusal.Refusal.{Refusal}
@@ -14,6 +14,8 @@ use Rattle.command.specs.declared.read.Parsed.{Parsed}
 use Rattle.command.specs.declared.read.Parsed.the-variants.{Whole, Refused}
 use Rattle.command.specs.declared.read.Extent.{Extent}
 use Rattle.command.specs.declared.read.Extent.the-variants as e
+use Rattle.command.specs.declared.table.Row.{Row as Shape}
+use Rattle.command.specs.declared.read.Others.{Others}
 use Rattle.command.specs.declared.read.Head.{Head}
 use Rattle.command.specs.declared.read.HeadParsed.{HeadParsed}
 use Rattle.command.specs.declared.read.HeadParsed.the-variants as h
@@ -48,6 +50,15 @@ pub record Reaches (job : List ℕ) (place row next : ℕ) : Type 0 where
   pub says : Says (getD job place 0) (unpacked row)
   pub ends : next ≡ endAt place (listOf (operandsOf (getD job place 0)))
   pub inside : next ≤ length job
+
+-- the operands after the first, by the widths of a row
+abbrev pub othersAt : List ℕ → ℕ → Shape → Others
+othersAt job place s =
+    record {
+      second = numberAt job (place + 1 + s .«first_width») (s .«second_width»);
+      third = numberAt job (place + 1 + s .«first_width» + s .«second_width») (s .«third_width»);
+      fourth = numberAt job (place + 1 + s .«first_width» + s .«second_width» + s .«third_width») (s .«fourth_width»);
+    }
 
 -- what is known before the operands are read: that the command is whole, or a refusal
 abbrev pub Extends : List ℕ → ℕ → Extent → Type 0

@@ -1,5 +1,5 @@
 -- The rows of the code's table, and what they say in the model's words.
-use Prim.Native.Nat.{ℕ, zero, suc, _/_, _%_}
+use Prim.Native.Nat.{ℕ, zero, suc, _+_, _/_, _%_}
 use mathlib.Core.Path.{_≡_}
 use mathlib.Core.Bool.{Bool, cond, _&&_, _||_}
 use mathlib.Core.List.{List, [], _∷_}
@@ -13,12 +13,13 @@ use Rattle.command.specs.declared.table.Row.{Row as Shape}
 use Rattle.command.specs.declared.table.Lookup.{Lookup}
 use Rattle.command.specs.declared.table.Lookup.the-variants.{Found, Missing}
 
--- the columns of a packed row, in hexadecimal digits: largest count (4), kinds (4), widths (4), group (2), byte (2)
+-- the columns of a packed row, in hexadecimal digits: largest count (4), kinds (4), widths (4), length (1), group (1), byte (2)
 abbrev pub unpacked : ℕ → Shape
 unpacked p =
     record {
       byte = p % 0x100;
-      group = p / 0x100 % 0x100;
+      group = p / 0x100 % 0x10;
+      length = p / 0x1000 % 0x10;
       «first_width» = p / 0x1000_0000 % 0x10;
       «second_width» = p / 0x100_0000 % 0x10;
       «third_width» = p / 0x10_0000 % 0x10;
@@ -53,6 +54,7 @@ pub record Says (b : ℕ) (s : Shape) : Type 0 where
   pub known : operandsOf b ≡ some (listOf (operandsOf b))
   pub byte : s .byte ≡ b
   pub group : s .group ≡ groupOf b
+  pub length : s .length ≡ width (kindAt b 0) + width (kindAt b 1) + width (kindAt b 2) + width (kindAt b 3)
   pub width₁ : s .«first_width» ≡ width (kindAt b 0)
   pub width₂ : s .«second_width» ≡ width (kindAt b 1)
   pub width₃ : s .«third_width» ≡ width (kindAt b 2)

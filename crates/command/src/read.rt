@@ -4,10 +4,10 @@ ghost use mathlib.Core.Bool.{cond};
 ghost use Prim.Native.Nat.{_+_, _<_, _≤_};
 ghost use lib.Dec.{eqb};
 ghost use lib.ListN.{length, getD};
-ghost use Rattle.model.specs.Table.{BODY};
-ghost use Rattle.model.specs.Command.{numberAt, readCommand};
-ghost use Rattle.command.specs.Rows.{Finds};
-ghost use Rattle.command.specs.Reading.{ParsesAs, Extends, headOf, headIn, IsWidth};
+ghost use Rattle.model.specs.Table.{BODY, operandsOf, listOf};
+ghost use Rattle.model.specs.Command.{numberAt, endAt, readCommand};
+ghost use Rattle.command.specs.Rows.{unpacked, Finds};
+ghost use Rattle.command.specs.Reading.{ParsesAs, Reaches, Extends, othersAt, headOf, headIn, IsWidth};
 use crate::bytes;
 use crate::numbers::NodeNum;
 use crate::refusal::Refusal;
@@ -25,6 +25,13 @@ pub struct Command {
     pub second: u32,
     pub third: u32,
     pub fourth: u32,
+}
+
+// The operands of a command after its first, 0 where it has none.
+struct Others {
+    second: u32,
+    third: u32,
+    fourth: u32,
 }
 
 // What reading at a place gives: a command with the place after it, or refusal 2 or 3.
@@ -90,10 +97,7 @@ fn extent_of(job: &[u8], at: usize, found: Lookup) -> Extent
         });
     };
     let shape = unpack(row);
-    let second_at = at + 1 + (shape.first_width as usize);
-    let third_at = second_at + (shape.second_width as usize);
-    let fourth_at = third_at + (shape.third_width as usize);
-    let next = fourth_at + (shape.fourth_width as usize);
+    let next = at + 1 + (shape.length as usize);
     if job.len() < next {
         return Extent::Refused(Refusal {
             number: 3,
@@ -101,6 +105,32 @@ fn extent_of(job: &[u8], at: usize, found: Lookup) -> Extent
         });
     }
     Extent::Whole(row, next)
+}
+
+// The operands after the first of a whole command, 0 where there is none. Most commands have none.
+fn read_others(job: &[u8], at: usize, row: u64) -> Others
+    requires { ⌜ Reaches (now job) at row (endAt at (listOf (operandsOf (getD (now job) at 0)))) ⌝ }
+    ensures { λ r. ⌜ r ≡ othersAt (now (job .entry)) at (unpacked row) ⌝ }
+{
+    let shape = unpack(row);
+    if shape.length == shape.first_width {
+        return Others {
+            second: 0,
+            third: 0,
+            fourth: 0,
+        };
+    }
+    let second_at = at + 1 + (shape.first_width as usize);
+    let third_at = second_at + (shape.second_width as usize);
+    let fourth_at = third_at + (shape.third_width as usize);
+    let second = operand(job, second_at, shape.second_width);
+    let third = operand(job, third_at, shape.third_width);
+    let fourth = operand(job, fourth_at, shape.fourth_width);
+    Others {
+        second,
+        third,
+        fourth,
+    }
 }
 
 // The command at a place, or its refusal.
@@ -115,23 +145,17 @@ pub fn read_command(job: &[u8], at: usize) -> Parsed
         Extent::Refused(r) => Parsed::Refused(r),
         Extent::Whole(row, next) => {
             let shape = unpack(row);
-            let first_at = at + 1;
-            let second_at = first_at + (shape.first_width as usize);
-            let third_at = second_at + (shape.second_width as usize);
-            let fourth_at = third_at + (shape.third_width as usize);
-            let first = operand(job, first_at, shape.first_width);
-            let second = operand(job, second_at, shape.second_width);
-            let third = operand(job, third_at, shape.third_width);
-            let fourth = operand(job, fourth_at, shape.fourth_width);
+            let first = operand(job, at + 1, shape.first_width);
+            let others = read_others(job, at, row);
             let command = Command {
                 place: at,
                 row,
                 byte,
                 group: shape.group,
                 first,
-                second,
-                third,
-                fourth,
+                second: others.second,
+                third: others.third,
+                fourth: others.fourth,
             };
             Parsed::Whole(command, next)
         }

@@ -35,38 +35,39 @@ pub const HIGH_OPERAND: u8 = 13;
 const ROW_COUNT: usize = 24;
 
 // The rows, one number each. Its columns, in hexadecimal digits: the largest count over the whole job, 0 for none (4); the kinds of the
-// operands, the first one first (4); their widths (4); the group (2); the byte (2).
+// operands, the first one first (4); their widths (4); their length, the sum of these (1); the group (1); the byte (2).
 const ROWS: [u64; ROW_COUNT] = [
-    0x0008_0000_0000_00_01, // FLOW
-    0x0020_0000_0000_00_02, // NODE
-    0x0040_1280_1140_01_10, // VAR
-    0x0020_9000_4000_01_11, // FUN
-    0x0000_3450_1110_02_20, // WIRE
-    0x0000_3600_1100_03_30, // ANY
-    0x0100_36A0_1140_03_31, // ARG
-    0x0000_3700_1100_03_32, // READ
-    0x0000_3700_1100_03_33, // WRITE
-    0x0100_36CD_1144_03_34, // SPAN
-    0x0000_3000_1000_04_40, // BODY
-    0x0000_A000_4000_04_41, // SET
-    0x0000_0000_0000_04_42, // TAKE
-    0x0000_7000_1000_04_43, // GET
-    0x0000_7000_1000_04_44, // PUT
-    0x0000_A000_4000_04_45, // ADD
-    0x0000_7000_1000_04_46, // PLUS
-    0x0000_B000_1000_04_47, // JUMPZ
-    0x0000_B000_1000_04_48, // JUMP
-    0x0000_4000_1000_04_49, // SEND
-    0x0000_6000_1000_04_4A, // CALL
-    0x0000_0000_0000_04_4B, // SKIP
-    0x0000_3A00_1400_05_50, // START
-    0x1000_3000_1000_06_60, // TURN
+    0x0008_0000_0000_0_0_01, // FLOW
+    0x0020_0000_0000_0_0_02, // NODE
+    0x0040_1280_1140_6_1_10, // VAR
+    0x0020_9000_4000_4_1_11, // FUN
+    0x0000_3450_1110_3_2_20, // WIRE
+    0x0000_3600_1100_2_3_30, // ANY
+    0x0100_36A0_1140_6_3_31, // ARG
+    0x0000_3700_1100_2_3_32, // READ
+    0x0000_3700_1100_2_3_33, // WRITE
+    0x0100_36CD_1144_A_3_34, // SPAN
+    0x0000_3000_1000_1_4_40, // BODY
+    0x0000_A000_4000_4_4_41, // SET
+    0x0000_0000_0000_0_4_42, // TAKE
+    0x0000_7000_1000_1_4_43, // GET
+    0x0000_7000_1000_1_4_44, // PUT
+    0x0000_A000_4000_4_4_45, // ADD
+    0x0000_7000_1000_1_4_46, // PLUS
+    0x0000_B000_1000_1_4_47, // JUMPZ
+    0x0000_B000_1000_1_4_48, // JUMP
+    0x0000_4000_1000_1_4_49, // SEND
+    0x0000_6000_1000_1_4_4A, // CALL
+    0x0000_0000_0000_0_4_4B, // SKIP
+    0x0000_3A00_1400_5_5_50, // START
+    0x1000_3000_1000_1_6_60, // TURN
 ];
 
 // The columns of a row.
 pub struct Row {
     pub byte: u8,
     pub group: u8,
+    pub length: u8,
     pub first_width: u8,
     pub second_width: u8,
     pub third_width: u8,
@@ -84,7 +85,8 @@ pub fn unpack(row: u64) -> Row
 {
     Row {
         byte: (row % 0x100) as u8,
-        group: (row / 0x100 % 0x100) as u8,
+        group: (row / 0x100 % 0x10) as u8,
+        length: (row / 0x1000 % 0x10) as u8,
         first_width: (row / 0x1000_0000 % 0x10) as u8,
         second_width: (row / 0x100_0000 % 0x10) as u8,
         third_width: (row / 0x10_0000 % 0x10) as u8,

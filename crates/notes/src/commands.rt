@@ -7,6 +7,7 @@ ghost use Rattle.command.specs.Rows.{isHandlerByte};
 ghost use Rattle.tables.specs.Cells.{cellCount, putIn};
 ghost use Rattle.tables.specs.Tables.{countIn, openIn, flowIn, lengthIn, flowCells, answerCells, lengthCells, progressCells, bodyCells};
 ghost use Rattle.tables.specs.Tables.{startedCells, firstCells, messageCells};
+ghost use Rattle.tables.specs.Ranges.{range};
 ghost use Rattle.tables.specs.Writes.{oneMore};
 ghost use Rattle.notes.specs.Notes.{rangeNoted};
 use crate::one_less;
@@ -57,22 +58,22 @@ pub(crate) fn note_operands(
 }
 
 // One range more: the last of its node and function, with its lowest and highest argument, its byte, and the range before it.
-pub(crate) fn note_range(tables: &mut [u32], c: Command, high: u32)
-    ensures { λ _. ⌜ now (tables .exit) ≡ rangeNoted (now (tables .entry)) c high ⌝ }
+pub(crate) fn note_range(tables: &mut [u32], byte: u8, n: NodeNum, f: FunNum, low: u32, high: u32)
+    ensures { λ _. ⌜ now (tables .exit) ≡ rangeNoted (now (tables .entry)) (n .0) (f .0) (range byte low high) ⌝ }
 {
     let count = range_count(tables);
-    let before = last_range(tables, NodeNum(c.first), FunNum(c.second));
+    let before = last_range(tables, n, f);
     let number = count as usize;
     let more = one_more(count);
-    let place = (c.first as usize) * 32 + (c.second as usize);
+    let place = (n.0 as usize) * 32 + (f.0 as usize);
     put_half(tables, cells::RANGE_HEAD, place, more);
-    put(tables, cells::RANGE_LOW, number, c.third);
+    put(tables, cells::RANGE_LOW, number, low);
     put(tables, cells::RANGE_HIGH, number, high);
     put(
         tables,
         cells::RANGE_LINK,
         number,
-        (c.byte as u32) * 65536 + before % 65536,
+        (byte as u32) * 65536 + before % 65536,
     );
     put(tables, cells::PROGRESS, 2, more);
 }

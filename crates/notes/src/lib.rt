@@ -7,6 +7,7 @@ ghost use Rattle.command.specs.Reading.{commandOf};
 ghost use Rattle.notes.specs.Notes.{Notes};
 ghost use Rattle.tables.specs.Writes.{commandWrites, oneMore, written};
 use command::bytes;
+use command::numbers::FunNum;
 use command::numbers::NodeNum;
 use command::read::Command;
 use commands::note_body;
@@ -54,10 +55,24 @@ fn note_content(tables: &mut [u32], c: Command)
         bytes::FUN => note_function(tables, c),
         bytes::WIRE => mark(tables, cells::WIRES, first * 4 + second, c.third as usize),
         bytes::ANY => mark(tables, cells::CALLS, first, second),
-        bytes::ARG => note_range(tables, c, c.third),
+        bytes::ARG => note_range(
+            tables,
+            byte,
+            NodeNum(c.first),
+            FunNum(c.second),
+            c.third,
+            c.third,
+        ),
         bytes::READ => mark(tables, cells::READS, first, second),
         bytes::WRITE => mark(tables, cells::WRITES, first, second),
-        bytes::SPAN => note_range(tables, c, c.fourth),
+        bytes::SPAN => note_range(
+            tables,
+            byte,
+            NodeNum(c.first),
+            FunNum(c.second),
+            c.third,
+            c.fourth,
+        ),
         bytes::BODY => note_body(tables, NodeNum(c.first)),
         bytes::START => note_start(tables, NodeNum(c.first), c.second),
         _ => note_handler(tables, byte),

@@ -21,6 +21,7 @@ use Rattle.command.specs.declared.read.Command.{Command as Code}
 use Rattle.command.specs.Rows.{unpacked, kindOf, isRangeByte, sharing, limitOf, Says, isHandlerByte}
 use Rattle.command.specs.Reading.{commandOf, Known}
 use Rattle.command.proofs.Known.{byte-low, permission-byte}
+use Rattle.command.proofs.Shaped.{width-zero}
 use Rattle.tables.specs.Tables.{countIn, groupIn, openIn, flowIn, lengthIn, seesIn, sharedIn, wiredIn, anyIn, listedIn, readIn, writeIn}
 use Rattle.tables.specs.Tables.{bodyIn, startedAt, rangeCountIn}
 use Rattle.tables.specs.Stands.{Stands}
@@ -126,6 +127,16 @@ module _ (t : List ℕ) (c : Code) (past : List Command) (s : Stands t past) whe
     -- one of them is true
     pub undeclared-found : (i : ℕ) → getD tests i false ≡ true → true ≡ undeclared past (commandOf c)
     undeclared-found i e = sym (undeclared-as ∙ any-found i tests e)
+
+    -- there is no operand after the first
+    pub undeclared-single : getD tests 0 false ≡ false → getD tests 1 false ≡ false → getD tests 2 false ≡ false
+        → row .length ≡ row .«first_width» → false ≡ undeclared past (commandOf c)
+    undeclared-single e f g l =
+        let says : Says (c .byte) row = rw is (k .row) in
+        let second : kindOf (row .«second_kind») ≡ absent = says .kind₂ ∙ width-zero _ (omega (arith, says .length, says .width₁, says .width₂)) in
+        let third : kindOf (row .«third_kind») ≡ absent = says .kind₃ ∙ width-zero _ (omega (arith, says .length, says .width₁, says .width₃)) in
+        let fourth : kindOf (row .«fourth_kind») ≡ absent = says .kind₄ ∙ width-zero _ (omega (arith, says .length, says .width₁, says .width₄)) in
+        sym (undeclared-as ∙ rw (any-next, any-next, any-next, any-next, any-next, any-last, e, f, g, second, third, fourth))
 
     -- all but the last are false
     pub undeclared-last :

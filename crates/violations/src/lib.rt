@@ -112,6 +112,9 @@ fn is_undeclared(tables: &[u32], c: Command) -> bool
     if names_nothing(d, c.first, shape.first_kind, c.first) {
         return true;
     }
+    if shape.length == shape.first_width {
+        return false;
+    }
     if names_nothing(d, c.first, shape.second_kind, c.second) {
         return true;
     }
@@ -167,10 +170,10 @@ fn is_repeated(tables: &[u32], c: Command) -> bool
     match b {
         bytes::WIRE => declared::is_wired(tables, n, c.second, NodeNum(c.third)),
         bytes::ANY => allowlists::may_call_any(tables, n, FunNum(c.second)),
-        bytes::ARG => allowlists::is_listed(tables, c, c.third),
+        bytes::ARG => allowlists::is_listed(tables, b, n, FunNum(c.second), c.third, c.third),
         bytes::READ => allowlists::may_read(tables, n, VarNum(c.second)),
         bytes::WRITE => allowlists::may_write(tables, n, VarNum(c.second)),
-        bytes::SPAN => allowlists::is_listed(tables, c, c.fourth),
+        bytes::SPAN => allowlists::is_listed(tables, b, n, FunNum(c.second), c.third, c.fourth),
         bytes::BODY => declared::has_body(tables, n),
         bytes::START => {
             let flow = declared::flow_of(tables, n);
@@ -188,10 +191,12 @@ fn late_violation(tables: &[u32], c: Command) -> u8
     if is_out_of_reach(tables, c) {
         return 7;
     }
-    if is_repeated(tables, c) {
+    let repeated = is_repeated(tables, c);
+    let empty = (c.byte == bytes::SPAN) & (c.fourth < c.third);
+    if repeated {
         return 8;
     }
-    if (c.byte == bytes::SPAN) & (c.fourth < c.third) {
+    if empty {
         return 15;
     }
     0

@@ -15,29 +15,30 @@ is-repeated-requires c κs = search needs
 
 returns-2 : tie.Need-returns-2
 returns-2 c =
+    let p3 = c .before .before .before in
     λ past s plain.
     rw (
-      sym (c .before .before .before .is-out-of-reach .ensures past s) ∙ c .before .before .if1 .left,
-      sym (c .before .is-repeated .ensures past s plain) ∙ c .if2 .taken,
+      sym (p3 .before .before .is-out-of-reach .ensures past s) ∙ p3 .before .if1 .left,
+      sym (p3 .is-repeated .ensures past s plain) ∙ c .if2 .taken,
     )
 
 returns-3 : tie.Need-returns-3
 returns-3 c =
-    let p3 = c .before .before .before in
+    let p4 = c .before .before .before .before in
     λ past s plain.
     rw (
-      sym (p3 .before .before .before .is-out-of-reach .ensures past s) ∙ p3 .before .before .if1 .left,
-      sym (p3 .before .is-repeated .ensures past s plain) ∙ p3 .if2 .left,
+      sym (p4 .before .before .is-out-of-reach .ensures past s) ∙ p4 .before .if1 .left,
+      sym (p4 .is-repeated .ensures past s plain) ∙ c .before .if2 .left,
       c .if3 .taken,
     )
 
 returns-4 : tie.Need-returns-4
 returns-4 c =
-    let p3 = c .before .before .before in
+    let p4 = c .before .before .before .before in
     λ past s plain.
     rw (
-      sym (p3 .before .before .before .is-out-of-reach .ensures past s) ∙ p3 .before .before .if1 .left,
-      sym (p3 .before .is-repeated .ensures past s plain) ∙ p3 .if2 .left,
+      sym (p4 .before .before .is-out-of-reach .ensures past s) ∙ p4 .before .if1 .left,
+      sym (p4 .is-repeated .ensures past s plain) ∙ c .before .if2 .left,
       c .if3 .left,
     )
 

@@ -17,44 +17,26 @@ returns c = read-missing _ _ _ (c .before .before .before .pre .1) (c .enum-told
 unpack-requires : tie.Need-unpack-requires
 unpack-requires c κs = search needs
 
-add-second-at : tie.Need-add-second-at
-add-second-at c = search needs
-
-cast-second-at : tie.Need-cast-second-at
-cast-second-at c = search needs
-
-add-second-at-2 : tie.Need-add-second-at-2
-add-second-at-2 c = search needs
-
-cast-third-at : tie.Need-cast-third-at
-cast-third-at c = search needs
-
-add-third-at : tie.Need-add-third-at
-add-third-at c = search needs
-
-cast-fourth-at : tie.Need-cast-fourth-at
-cast-fourth-at c = search needs
-
-add-fourth-at : tie.Need-add-fourth-at
-add-fourth-at c = search needs
+add-next : tie.Need-add-next
+add-next c = search needs
 
 cast-next : tie.Need-cast-next
 cast-next c = search needs
 
-add-next : tie.Need-add-next
-add-next c = search needs
+add-next-2 : tie.Need-add-next-2
+add-next-2 c = search needs
 
 returns-2 : tie.Need-returns-2
 returns-2 c =
-    let p7 = c .before .before .before .before .before .before .before in
-    let says = finds-row _ _ _ (p7 .before .before .before .pre .1) (p7 .found .given .1) in
-    read-cut _ _ _ _ says (c .before .before .before .before .before .unpack .ensures) (c .if1 .taken)
+    let p4 = c .before .before .before .before in
+    let says = finds-row _ _ _ (p4 .before .before .before .pre .1) (p4 .found .given .1) in
+    read-cut _ _ _ _ says (c .before .before .unpack .ensures) (c .if1 .taken)
 
 returns-3 : tie.Need-returns-3
 returns-3 c =
-    let p7 = c .before .before .before .before .before .before .before in
-    let says = finds-row _ _ _ (p7 .before .before .before .pre .1) (p7 .found .given .1) in
-    read-reaches _ _ _ _ says (c .before .before .before .before .before .unpack .ensures) _ refl (c .if1 .left)
+    let p4 = c .before .before .before .before in
+    let says = finds-row _ _ _ (p4 .before .before .before .pre .1) (p4 .found .given .1) in
+    read-reaches _ _ _ _ says (c .before .before .unpack .ensures) _ refl (c .if1 .left)
 
 pub extent-of-spec : {M : Type 1} → statement M
 extent-of-spec =
@@ -64,14 +46,8 @@ extent-of-spec =
     enum-told
     returns
     unpack-requires
-    add-second-at
-    cast-second-at
-    add-second-at-2
-    cast-third-at
-    add-third-at
-    cast-fourth-at
-    add-fourth-at
-    cast-next
     add-next
+    cast-next
+    add-next-2
     returns-2
     returns-3)

@@ -1,7 +1,8 @@
 -- `command::read::read_command` meets its contract.
+use mathlib.Core.Path.{sym, ap, _∙_}
 use borrow.Author.Needs.{needs}
-use Rattle.command.proofs.Taken.{extends-known, extends-refused, first-fits, second-fits, third-fits, fourth-fits, read-all}
-use Rattle.command.proofs.Taken.{read-known}
+use Rattle.command.specs.Reading.{othersAt}
+use Rattle.command.proofs.Taken.{extends-known, extends-refused, first-fits, read-all, read-known}
 use Rattle.command.proofs.read.read_command.Statement.{statement}
 use Rattle.command.proofs.read.read_command.Tie as tie
 
@@ -23,66 +24,31 @@ enum-known-extent-2 c = search needs
 unpack-requires : tie.Need-unpack-requires
 unpack-requires c κs = search needs
 
-add-first-at : tie.Need-add-first-at
-add-first-at c = search needs
-
-cast-second-at : tie.Need-cast-second-at
-cast-second-at c = search needs
-
-add-second-at : tie.Need-add-second-at
-add-second-at c = search needs
-
-cast-third-at : tie.Need-cast-third-at
-cast-third-at c = search needs
-
-add-third-at : tie.Need-add-third-at
-add-third-at c = search needs
-
-cast-fourth-at : tie.Need-cast-fourth-at
-cast-fourth-at c = search needs
-
-add-fourth-at : tie.Need-add-fourth-at
-add-fourth-at c =
-    let p5 = c .before .before .before .before .before in
-    let reach = extends-known _ _ _ _ _ (p5 .before .before .extent-of .ensures) (p5 .extent2 .given .1) in
-    let inside = third-fits _ _ _ _ reach _ (c .before .before .before .unpack .ensures) .0 in
-    search needs
+add-operand : tie.Need-add-operand
+add-operand c = search needs
 
 operand-requires : tie.Need-operand-requires
 operand-requires c κs =
-    let p5 = c .before .before .before .before .before in
-    let reach = extends-known _ _ _ _ _ (p5 .before .before .extent-of .ensures) (p5 .extent2 .given .1) in
-    first-fits _ _ _ _ reach _ (c .before .before .before .unpack .ensures)
+    let p2 = c .before .before in
+    let reach = extends-known _ _ _ _ _ (p2 .before .before .extent-of .ensures) (p2 .extent2 .given .1) in
+    first-fits _ _ _ _ reach _ (c .unpack .ensures)
 
-operand-requires-2 : tie.Need-operand-requires-2
-operand-requires-2 c κs =
-    let p6 = c .before .before .before .before .before .before in
-    let reach = extends-known _ _ _ _ _ (p6 .before .before .extent-of .ensures) (p6 .extent2 .given .1) in
-    second-fits _ _ _ _ reach _ (c .before .before .before .before .unpack .ensures)
-
-operand-requires-3 : tie.Need-operand-requires-3
-operand-requires-3 c κs =
-    let p7 = c .before .before .before .before .before .before .before in
-    let reach = extends-known _ _ _ _ _ (p7 .before .before .extent-of .ensures) (p7 .extent2 .given .1) in
-    third-fits _ _ _ _ reach _ (c .before .before .before .before .before .unpack .ensures)
-
-operand-requires-4 : tie.Need-operand-requires-4
-operand-requires-4 c κs =
-    let p8 = c .before .before .before .before .before .before .before .before in
-    let reach = extends-known _ _ _ _ _ (p8 .before .before .extent-of .ensures) (p8 .extent2 .given .1) in
-    fourth-fits _ _ _ _ reach _ (c .before .before .before .before .before .before .unpack .ensures)
+read-others-requires : tie.Need-read-others-requires
+read-others-requires c κs =
+    let p3 = c .before .before .before in
+    let reach = extends-known _ _ _ _ _ (p3 .before .before .extent-of .ensures) (p3 .extent2 .given .1) in
+    rw (reach .ends) at reach
 
 returns : tie.Need-returns
 returns c = extends-refused _ _ _ _ (c .before .before .before .extent-of .ensures) (c .before .extent .given .1)
 
 returns-2 : tie.Need-returns-2
 returns-2 c =
-    let p9 = c .before .before .before .before .before .before .before .before .before in
-    let reach = extends-known _ _ _ _ _ (p9 .before .before .extent-of .ensures) (p9 .extent2 .given .1) in
-    let shape = c .before .before .before .before .before .before .before .unpack .ensures in (
-      read-all _ _ _ _ reach _ shape _ _ _ _ (c .before .before .before .operand .ensures) (c .before .before .operand2 .ensures)
-          (c .before .operand3 .ensures) (c .operand4 .ensures),
-      read-known _ _ _ _ reach _ shape _ _ _ _,
+    let p4 = c .before .before .before .before in
+    let reach = extends-known _ _ _ _ _ (p4 .before .before .extent-of .ensures) (p4 .extent2 .given .1) in
+    let shape = c .before .before .unpack .ensures in (
+      read-all _ _ _ _ reach _ shape _ _ (c .before .operand .ensures) (c .read-others .ensures ∙ ap (othersAt _ _) (sym shape)),
+      read-known _ _ _ _ reach _ shape _ (c .read-others .result),
     )
 
 pub read-command-spec : {M : Type 1} → statement M
@@ -95,16 +61,8 @@ read-command-spec =
     enum-known-extent
     enum-known-extent-2
     unpack-requires
-    add-first-at
-    cast-second-at
-    add-second-at
-    cast-third-at
-    add-third-at
-    cast-fourth-at
-    add-fourth-at
+    add-operand
     operand-requires
-    operand-requires-2
-    operand-requires-3
-    operand-requires-4
+    read-others-requires
     returns
     returns-2)

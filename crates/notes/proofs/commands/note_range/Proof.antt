@@ -37,9 +37,6 @@ put-requires c κs = search needs
 put-requires-2 : tie.Need-put-requires-2
 put-requires-2 c κs = search needs
 
-cast-put : tie.Need-cast-put
-cast-put c = search needs
-
 mul-put : tie.Need-mul-put
 mul-put c = search needs
 
@@ -58,19 +55,19 @@ same-length c = search needs
 returns : tie.Need-returns
 returns c =
     let p6 = c .before .before .before .before .before .before in
-    let p11 = p6 .before .before .before .before .before in
-    let p15 = p11 .before .before .before .before in
-    let p19 = p15 .before .before .before .before in
-    let p23 = p19 .before .before .before .before in
+    let p10 = p6 .before .before .before .before in
+    let p14 = p10 .before .before .before .before in
+    let p18 = p14 .before .before .before .before in
+    let p22 = p18 .before .before .before .before in
     c .before .before .put4 .ensures
     ∙ rw (
       p6 .put3 .ensures,
-      p11 .put2 .ensures,
-      p15 .put .ensures,
-      p19 .put-half .ensures,
-      p23 .one-more .ensures,
-      p23 .before .last-range .ensures,
-      p23 .before .before .before .range-count .ensures,
+      p10 .put2 .ensures,
+      p14 .put .ensures,
+      p18 .put-half .ensures,
+      p22 .one-more .ensures,
+      p22 .before .last-range .ensures,
+      p22 .before .before .before .range-count .ensures,
     )
 
 pub note-range-spec : {M : Type 1} → statement M
@@ -88,7 +85,6 @@ note-range-spec =
     put-half-requires
     put-requires
     put-requires-2
-    cast-put
     mul-put
     add-put
     put-requires-3
