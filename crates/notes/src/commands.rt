@@ -65,16 +65,12 @@ pub(crate) fn note_range(tables: &mut [u32], byte: u8, n: NodeNum, f: FunNum, lo
     let before = last_range(tables, n, f);
     let number = count as usize;
     let more = one_more(count);
+    let link = (byte as u32) * 65536 + before % 65536;
     let place = (n.0 as usize) * 32 + (f.0 as usize);
     put_half(tables, cells::RANGE_HEAD, place, more);
     put(tables, cells::RANGE_LOW, number, low);
     put(tables, cells::RANGE_HIGH, number, high);
-    put(
-        tables,
-        cells::RANGE_LINK,
-        number,
-        (byte as u32) * 65536 + before % 65536,
-    );
+    put(tables, cells::RANGE_LINK, number, link);
     put(tables, cells::PROGRESS, 2, more);
 }
 

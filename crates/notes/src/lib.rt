@@ -48,6 +48,8 @@ fn note_content(tables: &mut [u32], c: Command)
 {
     let first = c.first as usize;
     let second = c.second as usize;
+    let node = NodeNum(c.first);
+    let function = FunNum(c.second);
     let byte = c.byte;
     match byte {
         bytes::NODE => note_node(tables),
@@ -55,26 +57,12 @@ fn note_content(tables: &mut [u32], c: Command)
         bytes::FUN => note_function(tables, c),
         bytes::WIRE => mark(tables, cells::WIRES, first * 4 + second, c.third as usize),
         bytes::ANY => mark(tables, cells::CALLS, first, second),
-        bytes::ARG => note_range(
-            tables,
-            byte,
-            NodeNum(c.first),
-            FunNum(c.second),
-            c.third,
-            c.third,
-        ),
+        bytes::ARG => note_range(tables, byte, node, function, c.third, c.third),
         bytes::READ => mark(tables, cells::READS, first, second),
         bytes::WRITE => mark(tables, cells::WRITES, first, second),
-        bytes::SPAN => note_range(
-            tables,
-            byte,
-            NodeNum(c.first),
-            FunNum(c.second),
-            c.third,
-            c.fourth,
-        ),
-        bytes::BODY => note_body(tables, NodeNum(c.first)),
-        bytes::START => note_start(tables, NodeNum(c.first), c.second),
+        bytes::SPAN => note_range(tables, byte, node, function, c.third, c.fourth),
+        bytes::BODY => note_body(tables, node),
+        bytes::START => note_start(tables, node, c.second),
         _ => note_handler(tables, byte),
     }
 }

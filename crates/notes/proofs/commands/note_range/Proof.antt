@@ -16,6 +16,12 @@ cast-number c = search needs
 one-more-requires : tie.Need-one-more-requires
 one-more-requires c κs = search needs
 
+mul-link : tie.Need-mul-link
+mul-link c = search needs
+
+add-link : tie.Need-add-link
+add-link c = search needs
+
 cast-place : tie.Need-cast-place
 cast-place c = search needs
 
@@ -36,12 +42,6 @@ put-requires c κs = search needs
 
 put-requires-2 : tie.Need-put-requires-2
 put-requires-2 c κs = search needs
-
-mul-put : tie.Need-mul-put
-mul-put c = search needs
-
-add-put : tie.Need-add-put
-add-put c = search needs
 
 put-requires-3 : tie.Need-put-requires-3
 put-requires-3 c κs = search needs
@@ -78,6 +78,8 @@ note-range-spec =
     last-range-requires
     cast-number
     one-more-requires
+    mul-link
+    add-link
     cast-place
     mul-place
     cast-place-2
@@ -85,8 +87,6 @@ note-range-spec =
     put-half-requires
     put-requires
     put-requires-2
-    mul-put
-    add-put
     put-requires-3
     put-requires-4
     same-length
