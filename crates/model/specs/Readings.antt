@@ -7,8 +7,9 @@ use Rattle.model.specs.Table.{ARG, SPAN}
 use Rattle.model.specs.Command.{Command, is}
 use Rattle.model.specs.Declared.{countOf}
 use Rattle.model.specs.Turn.{entry}
-use Rattle.model.specs.Refusal.{groupFalls, exceedsCount, violation, refuse, Sizes, sizes}
+use Rattle.model.specs.Refusal.{groupFalls, exceedsCount, repeated, emptySpan, violation, refuse, Sizes, sizes}
 use Rattle.model.specs.Result.{Result, refused}
+use Rattle.model.specs.Conclusion.{Reads}
 use Rattle.model.specs.Examples.{Example, RowsHold, monitoredRow, unmonitoredRow, times, inFour, traced, nodePart, idleNode, ends}
 use Rattle.model.specs.Examples.{noEntry}
 
@@ -254,3 +255,7 @@ pub record RangeLimit (past : List Command) (c : Command) : Type 0 where
 
 abbrev pub RangeLimitHolds : Type 0
 RangeLimitHolds = (past : List Command) (c : Command) → (is ARG c || is SPAN c) ≡ true → RangeLimit past c
+
+-- 8 and 15 never both refuse one command: a SPAN that repeats one before it has its low and high, and that one passed test 15 (S-5)
+abbrev pub NeverBoth : Type 0
+NeverBoth = (job : List ℕ) (place : ℕ) (past : List Command) (c : Command) → Reads job place past → repeated past c ≡ true → emptySpan c ≡ false
