@@ -21,6 +21,6 @@ fn groups_and_jobs() {
 fn stack() {
     for group in all() {
         let bytes = most(Engine::Proved, &group);
-        assert!((7_168 + 2_720..20_000).contains(&bytes), "{}: {bytes}", group.name);
+        assert!((9_216 + 2_720..20_000).contains(&bytes), "{}: {bytes}", group.name);
     }
 }

@@ -1,14 +1,14 @@
 -- The rows of the code's table, and what they say in the model's words.
 use Prim.Native.Nat.{ℕ, zero, suc, _+_, _/_, _%_}
 use mathlib.Core.Path.{_≡_}
-use mathlib.Core.Bool.{Bool, cond, _&&_, _||_}
+use mathlib.Core.Bool.{Bool, cond, _&&_}
 use mathlib.Core.List.{List, [], _∷_}
 use mathlib.Core.Logic.{_⊎_}
 use mathlib.Core.Option.{Option, none, some}
 use lib.Dec.{leb, eqb}
 use lib.ListN.{getD}
 use Rattle.model.specs.Table.{ARG, SPAN, SET, SKIP, OperandKind, scope, owner, start, answer, node, port, target, function, value, low}
-use Rattle.model.specs.Table.{high, variable, jump, absent, width, operandsOf, listOf, kindAt, groupOf, Limit, limit, largestOf}
+use Rattle.model.specs.Table.{high, variable, jump, absent, isRangeByte, width, operandsOf, listOf, kindAt, groupOf, Limit, limit, largestOf}
 use Rattle.command.specs.declared.table.Row.{Row as Shape}
 use Rattle.command.specs.declared.table.Lookup.{Lookup}
 use Rattle.command.specs.declared.table.Lookup.the-variants.{Found, Missing}
@@ -35,10 +35,6 @@ unpacked p =
 abbrev pub kindOf : ℕ → OperandKind
 kindOf i =
     getD (absent ∷ scope ∷ owner ∷ node ∷ port ∷ target ∷ function ∷ variable ∷ start ∷ answer ∷ value ∷ jump ∷ low ∷ high ∷ []) i absent
-
--- the byte is that of a range of arguments: ARG or SPAN
-abbrev pub isRangeByte : ℕ → Bool
-isRangeByte b = eqb b ARG || eqb b SPAN
 
 -- the bytes that share a largest count with this one: ARG and SPAN do, every other has its own
 abbrev pub sharing : ℕ → List ℕ

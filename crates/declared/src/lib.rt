@@ -141,7 +141,7 @@ pub fn range_count(tables: &[u32]) -> u32
     entry(tables, cells::PROGRESS, 2)
 }
 
-// The last range of a node and a function: its number and 1, 0 if there is none.
+// The last range of a node and a function: its number plus 1, or 0 if there is none.
 pub fn last_range(tables: &[u32], n: NodeNum, f: FunNum) -> u32
     ensures { λ r. ⌜ r ≡ headIn (now (tables .entry)) (n .0) (f .0) ⌝ }
 {

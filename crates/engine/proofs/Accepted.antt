@@ -3,7 +3,7 @@ use mathlib.Core.Path.{_∙_, ap, subst}
 use native.Mathlib.Omega.{arith}
 use Rattle.model.specs.Program.{Program}
 use Rattle.model.specs.State.{initialState}
-use Rattle.model.proofs.Ranges.{turns-inside}
+use Rattle.model.proofs.Naming.{turns-inside}
 use Rattle.model.proofs.Valid.{job-valid, limits}
 use Rattle.handlers.specs.Loading.{handlersIn, loaded}
 use Rattle.job.proofs.Prepared.{prepared}

@@ -16,7 +16,7 @@ use Rattle.model.specs.Valid.{Valid}
 use Rattle.model.proofs.Logic.{and-left}
 use Rattle.model.proofs.Growth.{length-handler}
 use Rattle.model.proofs.Lists.{length-tabulate, getD-tabulate, getD-default}
-use Rattle.model.proofs.Ranges.{handler-outside}
+use Rattle.model.proofs.Naming.{handler-outside}
 use Rattle.model.proofs.Reading.{read-at}
 use Rattle.model.proofs.Valid.{limits, reads-valid, named}
 use Rattle.command.specs.Instructions.{instructionFrom, commandIn}

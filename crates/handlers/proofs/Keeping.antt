@@ -17,7 +17,7 @@ use Rattle.model.proofs.Decoding.{decode-end, fuel-left}
 use Rattle.model.proofs.Scanning.{accepted-from, Passing, passing, stays-from}
 use Rattle.model.proofs.Retracing.{read-accepted}
 use Rattle.model.proofs.Growth.{open-next, body-next}
-use Rattle.model.proofs.Ranges.{body-fresh}
+use Rattle.model.proofs.Naming.{body-fresh}
 use Rattle.model.proofs.Valid.{job-accepted, limits}
 use Rattle.command.specs.declared.read.HeadParsed.{HeadParsed}
 use Rattle.command.specs.declared.read.HeadParsed.the-variants as heads

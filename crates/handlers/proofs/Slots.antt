@@ -15,7 +15,7 @@ use Rattle.model.specs.Valid.{Valid}
 use Rattle.model.proofs.Logic.{and-left, and-right}
 use Rattle.model.proofs.Lists.{length-only, only-each}
 use Rattle.model.proofs.Growth.{body-next}
-use Rattle.model.proofs.Ranges.{open-inside}
+use Rattle.model.proofs.Naming.{open-inside}
 use Rattle.model.proofs.Reading.{read-at}
 use Rattle.model.proofs.Valid.{limits, reads-valid}
 use Rattle.writing.specs.Writing.{placed, Writes}

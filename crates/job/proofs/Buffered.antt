@@ -19,7 +19,7 @@ use Rattle.job.specs.Decoding.{verdictOf, Decides}
 use Rattle.job.proofs.Judged.{decides-accepted, decides-refused}
 
 module _ (job : List ℕ) (b : Sizes) (t : List ℕ) where
-  -- refused by the tests 1 to 9
+  -- refused by the tests 1 to 9 and 15
   pub refused-before : (q : Refused) → decodeJob job ≡ rejected (refusalOf q) → t ≡ blank → Decides (decodeFor job b) t (v.Refused q)
   unfolding decodeFor
   refused-before q e = decides-refused (decodeFor job b) t q (rw e)

@@ -37,7 +37,7 @@ module _ (job : List ℕ) (place : ℕ) (inside : place < length job) (past : Li
     pub read-plain : Plain (commandOf c)
     read-plain = read-at job place (commandOf c) next read .plain
 
-    -- 4 to 8
+    -- 4 to 8 and 15
     pub step-refused : (k : ℕ) → k ≡ violation past (commandOf c) → ¬ (k ≡ 0) → (fuel : ℕ)
         → decodeFrom (suc fuel) job place past ≡ rejected (refuse k place)
     step-refused k v n fuel = decode-refused fuel job place past inside (commandOf c) next k read (sym v) n

@@ -1,4 +1,4 @@
--- The second look at the commands of a job that passed the tests 1 to 8: what its loop keeps.
+-- The second look at the commands of a job that passed the tests 1 to 8 and 15: what its loop keeps.
 use Prim.Native.Nat.{ℕ, _≤_, _<_}
 use mathlib.Core.Path.{_≡_, refl, sym, _∙_}
 use mathlib.Core.Bool.{Bool, true, false, cond, _&&_, _||_}

@@ -1,4 +1,4 @@
-// The tests 1 to 12 of a job with its buffers.
+// All tests of a job with its buffers.
 ghost use mathlib.Core.Path.{_≡_};
 ghost use mathlib.Core.List.{List};
 ghost use Prim.Native.Nat.{ℕ};

@@ -21,7 +21,7 @@ pub enum Verdict {
     Refused(Refusal),
 }
 
-// The tests 1 to 9: the verdict, and the tables of an accepted job.
+// The tests 1 to 9 and 15: the verdict, and the tables of an accepted job.
 fn judge_commands(job: &[u8], tables: &mut [u32]) -> Verdict
     requires { ⌜ length (now tables) ≡ cellCount ⌝ }
     ensures { λ r. ⌜ Verdicts (decodeJob (now (job .entry))) (now (tables .exit)) r ⌝ }

@@ -1,4 +1,4 @@
-// The walk over the commands of a job: the tests 1 to 8.
+// The walk over the commands of a job: the tests 1 to 8 and 15.
 ghost use mathlib.Core.Path.{_≡_};
 ghost use mathlib.Core.List.{List};
 ghost use Prim.Native.Nat.{_≤_, _<_};
@@ -53,7 +53,7 @@ fn advance(job: &[u8], at: usize, tables: &mut [u32]) -> Continuation
     }
 }
 
-// The tests 1 to 8: the verdict, and the tables of an accepted job.
+// The tests 1 to 8 and 15: the verdict, and the tables of an accepted job.
 pub(crate) fn walk(job: &[u8], tables: &mut [u32]) -> Verdict
     requires { ⌜ length (now tables) ≡ cellCount ⌝ }
     ensures { λ r. ⌜ Verdicts (decode (now (job .entry))) (now (tables .exit)) r ⌝ }

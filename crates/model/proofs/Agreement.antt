@@ -12,7 +12,7 @@ use Rattle.model.specs.Run.{runFrom, unmonitoredRun, monitoredRun}
 use Rattle.model.specs.Output.{traceBytes, numbersBytes, nodesBytes, variablesBytes, snapshotBytes}
 use Rattle.model.specs.Refusal.{anyOf, groupFalls, violation, decodeFrom, decode, refuseFirst, decodeJob, decodeFor}
 use Rattle.model.specs.Result.{report, monitored, unmonitored}
-use Rattle.model.specs.Examples.{outcome, enough, monitoredRow, unmonitoredRow, times, k1, k1Read, k7, inFour, traced, nodePart}
+use Rattle.model.specs.Examples.{outcome, enough, monitoredRow, unmonitoredRow, times, k1, k1Read, k7, four, traced, nodePart}
 use Rattle.model.specs.Examples.{idleNode, ends, noEntry, k1First, k1Last, examples, ExamplesHold}
 use Rattle.model.specs.Readings.{within, nodes, global, turns, orderRows, variable, undeclaredRows, sightRows, declaredRows, turnRows}
 use Rattle.model.specs.Readings.{calling, span, arg, called, forbidden, spanRows, ReadingsHold}
@@ -27,7 +27,7 @@ unfolding operandsIn operandsOf isAmong largestIn largestOf
     traceBytes numbersBytes nodesBytes variablesBytes snapshotBytes
     anyOf groupFalls violation decodeFrom decode refuseFirst decodeJob decodeFor
     report monitored unmonitored
-    outcome enough monitoredRow unmonitoredRow times inFour traced nodePart idleNode ends noEntry
+    outcome enough monitoredRow unmonitoredRow times four traced nodePart idleNode ends noEntry
     k1 k1Read k7 k1First k1Last examples
     within nodes global turns orderRows variable undeclaredRows sightRows declaredRows turnRows
     calling span arg called forbidden spanRows

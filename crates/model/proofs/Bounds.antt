@@ -22,7 +22,7 @@ use Rattle.model.proofs.Logic.{and-rest}
 use Rattle.model.proofs.Valid.{limits}
 use Rattle.model.proofs.Lists.{set-each, tabulate-each}
 use Rattle.model.proofs.Ways.{Keeps, performed-by, turn-by, monitored-by}
-use Rattle.model.proofs.Ranges.{starts-one}
+use Rattle.model.proofs.Naming.{starts-one}
 use Rattle.model.proofs.Turns.{some-none, delivered-later}
 
 -- 7 bytes an entry

@@ -107,7 +107,7 @@ module _ (job : List ℕ) (place : ℕ) (past : List Command) (d : Decoding job 
     left : (f : ℕ) × (decodeFrom (suc f) job place past ≡ decode job) × (d .fuel ≡ suc f)
     left = let f = fuel-left job place (d .fuel) h (d .enough) in (f .0, rw (f .1) at (d .goesOn), f .1)
 
-    -- refused at this place by 2, by 3, by 4 to 8
+    -- refused at this place by 2, by 3, by 4 to 8 or 15
     pub decoding-unknown : readCommand job place ≡ unknown → decode job ≡ rejected (refuse 2 place)
     decoding-unknown e = sym (left .1) ∙ decode-unknown (left .0) job place past h e
 

@@ -10,7 +10,7 @@ use borrow.Author.Tests.{ltb-true, ltb-false, lt-ltb, le-ltb, eq-eqb, ne-eqb}
 use Rattle.model.specs.Table.{BODY, START, TURN, groupOf}
 use Rattle.model.specs.Command.{Operands, Command, is}
 use Rattle.model.specs.Declared.{countOf, countAmong, declared, belongs, bodyLength, instruction, handlerOf, turnsOf, only, isSame}
-use Rattle.model.specs.Declared.{occurs, spans, inSpan, flowOf, openBody, startsOf, startedIn}
+use Rattle.model.specs.Declared.{occurs, spanPermits, inSpan, flowOf, openBody, startsOf, startedIn}
 use Rattle.model.specs.Refusal.{groupFalls}
 use Rattle.model.proofs.Lists.{length-only}
 
@@ -124,7 +124,7 @@ module _ (c : Command) (past : List Command) where
   unfolding occurs
   occurs-next b x = refl
 
-  pub span-next : (n f argument : ℕ) → inSpan n f argument (c ∷ past) ≡ (spans n f argument c || inSpan n f argument past)
+  pub span-next : (n f argument : ℕ) → inSpan n f argument (c ∷ past) ≡ (spanPermits n f argument c || inSpan n f argument past)
   unfolding inSpan
   span-next n f argument = refl
 

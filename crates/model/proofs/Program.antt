@@ -52,7 +52,8 @@ occurs-other : (b : ℕ) (x : Operands) (c : Command) (past : List Command) → 
 unfolding occurs
 occurs-other b x c past e = rw e
 
-span-other : (n f argument : ℕ) (c : Command) (past : List Command) → is SPAN c ≡ false → inSpan n f argument (c ∷ past) ≡ inSpan n f argument past
+span-other : (n f argument : ℕ) (c : Command) (past : List Command) → is SPAN c ≡ false
+    → inSpan n f argument (c ∷ past) ≡ inSpan n f argument past
 unfolding inSpan
 span-other n f argument c past e = rw e
 

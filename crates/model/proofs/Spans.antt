@@ -1,6 +1,6 @@
 -- ARG and SPAN share their largest count; 8 and 15 never both refuse one command.
 use Prim.Native.Nat.{_+_}
-use mathlib.Core.Path.{_≡_, refl, sym, _∙_}
+use mathlib.Core.Path.{_≡_, refl, _∙_}
 use mathlib.Core.Bool.{Bool, true, false, _&&_, _||_, or-false}
 use mathlib.Core.List.{List, [], _∷_}
 use mathlib.Core.Option.{some}
@@ -9,12 +9,12 @@ use lib.Dec.{leb, ltb, eqb}
 use borrow.Author.Tests.{lt-leb, eqb-true}
 use Rattle.model.specs.Table.{ARG, SPAN, isAmong, limit, largestIn, largestOf, maxRanges}
 use Rattle.model.specs.Command.{Operands, Command, is}
-use Rattle.model.specs.Declared.{countOf, countAmong, isSame, occurs, isHandler}
+use Rattle.model.specs.Declared.{countOf, countAmong, occurs, isHandler}
 use Rattle.model.specs.Refusal.{anyOf, exceedsCount, violation}
-use Rattle.model.specs.Readings.{RangeLimit, RangeLimitHolds, NeverBoth}
+use Rattle.model.specs.Spans.{RangeLimit, RangeLimitHolds, NeverBoth}
 use Rattle.model.specs.Valid.{Valid}
-use Rattle.model.proofs.Logic.{true-false, and-left, and-right, and-rest}
 use Rattle.model.proofs.Valid.{passes, reads-valid}
+use Rattle.model.proofs.Naming.{occurs-each}
 
 module _ (past : List Command) (c : Command) where
   -- the largest count of both
@@ -45,25 +45,8 @@ range-limit = limited
 
 -- a SPAN that was accepted has its low at most at its high, and so has one with its operands
 span-ascends : (past : List Command) → Valid past → (x : Operands) → occurs SPAN x past ≡ true → ltb (x .fourth) (x .third) ≡ false
-unfolding occurs
-span-ascends [] v x e = true-false (sym e)
-span-ascends (c ∷ past) v x e = by-command (isSame SPAN x c) refl e (span-ascends past (v .0) x)
-  where
-    here : isSame SPAN x c ≡ true → ltb (x .fourth) (x .third) ≡ false
-    here s =
-        let t = and-right (is SPAN c) _ s in
-        let u = and-right (eqb (c .operands .first) (x .first)) _ t in
-        let w = and-right (eqb (c .operands .second) (x .second)) _ u in
-        let third : c .operands .third ≡ x .third = eqb-true (c .operands .third) (x .third)
-        (and-left (eqb (c .operands .third) (x .third)) _ w) in
-        let fourth : c .operands .fourth ≡ x .fourth = eqb-true (c .operands .fourth) (x .fourth)
-        (and-right (eqb (c .operands .third) (x .third)) _ w) in
-        rw (third, fourth) at (and-rest (is SPAN c) _ (and-left (is SPAN c) _ s) (passes past c (v .2) .ascends))
-
-    by-command : (t : Bool) → isSame SPAN x c ≡ t → (t || occurs SPAN x past) ≡ true
-        → (occurs SPAN x past ≡ true → ltb (x .fourth) (x .third) ≡ false) → ltb (x .fourth) (x .third) ≡ false
-    by-command true s f rest = here s
-    by-command false s f rest = rest f
+span-ascends past v x = occurs-each (λ b x. (eqb b SPAN && ltb (x .fourth) (x .third)) ≡ false) (λ past c v. passes past c (v .2) .ascends)
+    past v SPAN x
 
 any-first : (a : Bool) → anyOf (a ∷ false ∷ []) ≡ true → a ≡ true
 unfolding anyOf

@@ -16,7 +16,7 @@ use Rattle.model.specs.Run.{runFrom, monitoredRun}
 use Rattle.model.specs.Output.{traceBytes, numbersBytes, nodesBytes, variablesBytes, snapshotBytes}
 use Rattle.model.specs.Refusal.{anyOf, groupFalls, violation, refuse, accepted, rejected, decodeFrom, decode, refuseFirst, decodeJob}
 use Rattle.model.specs.Result.{refused, report, monitored}
-use Rattle.model.specs.Examples.{enough, times, inFour, nodePart, idleNode, ends, manyTurns, TurnLimit}
+use Rattle.model.specs.Examples.{enough, times, four, nodePart, idleNode, ends, manyTurns, TurnLimit}
 use Rattle.model.proofs.Program.{program-turn}
 use Rattle.model.proofs.Valid.{job-accepted}
 use Rattle.model.proofs.Results.{decode-job-rejected, decode-for-rejected, decode-for-accepted, monitored-refused, monitored-ran}
@@ -81,7 +81,7 @@ decoded (suc k) h =
 stops-at-once : (turns : List ℕ) → report (programOf (turnCommands 0)) (monitoredRun (programOf (turnCommands 0)) (0 ∷ turns)) ≡ ends 2 0
     (entry 0 0 0 0) [] idleNode
 unfolding report monitoredRun runFrom monitoredTurn turn initialState tabulate programOf declared countOf startsOf traceBytes snapshotBytes
-    nodesBytes numbersBytes variablesBytes ends idleNode nodePart inFour
+    nodesBytes numbersBytes variablesBytes ends idleNode nodePart four
 stops-at-once turns = refl
 
 many-accepted : (k : ℕ) → suc k ≤ maxTurns → monitored (manyTurns (suc k)) enough ≡ ends 2 0 (entry 0 0 0 0) [] idleNode

@@ -8,14 +8,14 @@ use native.Mathlib.Omega.{arith}
 use lib.Dec.{leb, eqb}
 use borrow.Author.Tests.{leb-false, ltb-false, eqb-true}
 use Rattle.model.specs.Table.{FLOW, NODE, VAR, FUN, ARG, SPAN, TURN, OperandKind, scope, owner, start, answer, node, port, target}
-use Rattle.model.specs.Table.{function, value, low, high, variable, jump, absent, limit, isAmong, largestIn, largestOf, maxFlows, maxNodes}
-use Rattle.model.specs.Table.{maxVariables, maxFunctions, maxRanges, maxTurns}
+use Rattle.model.specs.Table.{function, value, low, high, variable, jump, absent, limit, isAmong, largestIn, largestOf, maxFlows}
+use Rattle.model.specs.Table.{maxNodes, maxVariables, maxFunctions, maxRanges, maxTurns}
 use Rattle.model.specs.Command.{Command, is}
 use Rattle.model.specs.Declared.{countOf, countAmong, isHandler, openBody, belongs, bodyLength}
 use Rattle.model.specs.Refusal.{groupFalls, isReached, exceedsCount, countsOf, noOwner, namesNothing, undeclared, outOfReach}
 use Rattle.model.specs.Refusal.{repeated, emptySpan, violation, accepted, decode, decodeJob, sizes}
 use Rattle.model.specs.Conclusion.{Reads, begin, further, Refuses}
-use Rattle.model.specs.Valid.{InRange, Valid, Passes, ValidJob, Named, Limits}
+use Rattle.model.specs.Valid.{Allowed, Valid, Passes, ValidJob, Named, Limits}
 use Rattle.model.proofs.Reading.{read-at}
 use Rattle.model.proofs.Walking.{Decides, PassedEight, PassedNine, decode-walked, decode-job-walked}
 use Rattle.model.proofs.Logic.{true-false, and-rest, and-left, and-right, none-of}
@@ -85,7 +85,8 @@ among-grows all most c past (b ∷ bytes) s = by-byte (is b c) refl (among-grows
         by-rest false k = omega arith
 
 -- the largest count of a byte that is among them
-among-limit : (all : List ℕ) (most d : ℕ) (bytes : List ℕ) → Share all most bytes → isAmong d bytes ≡ true → largestOf d ≡ some (limit all most)
+among-limit : (all : List ℕ) (most d : ℕ) (bytes : List ℕ) → Share all most bytes
+    → isAmong d bytes ≡ true → largestOf d ≡ some (limit all most)
 unfolding isAmong
 among-limit all most d [] s e = true-false (sym e)
 among-limit all most d (b ∷ bytes) s e = by-byte (eqb d b) refl e (among-limit all most d bytes (s .1 .1))
@@ -137,7 +138,8 @@ handler-limit (c ∷ past) v n = handler-step past c n (handler-limit past (v .0
 pub limits : (past : List Command) → Valid past → Limits past
 unfolding largestOf largestIn isAmong countAmong
 limits past v =
-    let kept : (b most : ℕ) → Share (b ∷ []) most (b ∷ []) → countAmong (b ∷ []) past ≤ most = λ b most s. count-limit (b ∷ []) most s past v in
+    let kept : (b most : ℕ) → Share (b ∷ []) most (b ∷ []) → countAmong (b ∷ []) past ≤ most = λ b most s.
+    count-limit (b ∷ []) most s past v in
     record {
       flows = omega (arith, kept FLOW maxFlows (refl, (refl, tt)));
       nodes = omega (arith, kept NODE maxNodes (refl, (refl, tt)));
@@ -162,29 +164,29 @@ module _ (past : List Command) (l : Limits past) (s : ℕ) where
       by-scope false true e = omega (arith, leb-false (countOf FLOW past) x e, l .flows)
       by-scope false false e = zero-owner (eqb x 0) refl e
 
-  in-range : (k : OperandKind) (x : ℕ) → (k ≡ absent → x ≡ 0) → namesNothing (countsOf past) s k x ≡ false → InRange k x
-  in-range scope x z e = omega (arith, ltb-false 2 x e)
-  in-range owner x z e = owner-range x e
-  in-range start x z e = tt
-  in-range answer x z e = tt
-  in-range node x z e = omega (arith, leb-false (countOf NODE past) x e, l .nodes)
-  in-range port x z e = omega (arith, ltb-false 3 x e)
-  in-range target x z e = omega (arith, leb-false (countOf NODE past) x e, l .nodes)
-  in-range function x z e = omega (arith, leb-false (countOf FUN past) x e, l .functions)
-  in-range value x z e = tt
-  in-range low x z e = tt
-  in-range high x z e = tt
-  in-range variable x z e = omega (arith, leb-false (countOf VAR past) x e, l .variables)
-  in-range jump x z e = tt
-  in-range absent x z e = z refl
+  allowed : (k : OperandKind) (x : ℕ) → (k ≡ absent → x ≡ 0) → namesNothing (countsOf past) s k x ≡ false → Allowed k x
+  allowed scope x z e = omega (arith, ltb-false 2 x e)
+  allowed owner x z e = owner-range x e
+  allowed start x z e = tt
+  allowed answer x z e = tt
+  allowed node x z e = omega (arith, leb-false (countOf NODE past) x e, l .nodes)
+  allowed port x z e = omega (arith, ltb-false 3 x e)
+  allowed target x z e = omega (arith, leb-false (countOf NODE past) x e, l .nodes)
+  allowed function x z e = omega (arith, leb-false (countOf FUN past) x e, l .functions)
+  allowed value x z e = tt
+  allowed low x z e = tt
+  allowed high x z e = tt
+  allowed variable x z e = omega (arith, leb-false (countOf VAR past) x e, l .variables)
+  allowed jump x z e = tt
+  allowed absent x z e = z refl
 
 pub named : (past : List Command) (c : Command) → Valid (c ∷ past) → Named (c .byte) (c .operands)
 named past c v =
     let l = limits past (v .0) in
     let e = passes past c (v .2) .declares in
     record {
-      first = in-range past l (c .operands .first) _ (c .operands .first) (v .1 .first) (none-of 2 _ e);
-      second = in-range past l (c .operands .first) _ (c .operands .second) (v .1 .second) (none-of 3 _ e);
-      third = in-range past l (c .operands .first) _ (c .operands .third) (v .1 .third) (none-of 4 _ e);
-      fourth = in-range past l (c .operands .first) _ (c .operands .fourth) (v .1 .fourth) (none-of 5 _ e);
+      first = allowed past l (c .operands .first) _ (c .operands .first) (v .1 .first) (none-of 2 _ e);
+      second = allowed past l (c .operands .first) _ (c .operands .second) (v .1 .second) (none-of 3 _ e);
+      third = allowed past l (c .operands .first) _ (c .operands .third) (v .1 .third) (none-of 4 _ e);
+      fourth = allowed past l (c .operands .first) _ (c .operands .fourth) (v .1 .fourth) (none-of 5 _ e);
     }

@@ -57,12 +57,12 @@ module _ (job : List ℕ) (b : Sizes) (size : HasLength job) where
           (readCommand job place) refl
       by-place false t ih = let here : place ≡ length job = omega (arith, ltb-false place (length job) t) in rw here at reads
 
--- a job whose commands pass the tests 1 to 8
+-- a job whose commands pass the tests 1 to 8 and 15
 pub record PassedEight (job : List ℕ) (past : List Command) : Type 0 where
   pub size : HasLength job
   pub reads : Reads job (length job) past
 
--- after the tests 1 to 8
+-- after the tests 1 to 8 and 15
 pub decode-walked : (job : List ℕ) (b : Sizes) → Decides (PassedEight job) (Refuses job b) (decode job)
 unfolding decode
 decode-walked job b = by-length (eqb (length job) 0) refl (ltb maxJob (length job)) refl
@@ -98,7 +98,7 @@ and-then-walked Q S R test (accepted past) pass fail q = by-test (test past) ref
     by-test none e = pass past q e
     by-test (some r) e = fail past r q e
 
--- after the tests 1 to 9
+-- after the tests 1 to 9 and 15
 pub record PassedNine (job : List ℕ) (past : List Command) : Type 0 where
   pub read : PassedEight job past
   pub jumps : farJump past ≡ none
@@ -111,7 +111,7 @@ decode-job-walked job b =
     (λ past r q e. jumpsFar (q .size) past r (q .reads) e)
     (decode-walked job b)
 
--- after the tests 1 to 12
+-- after all tests
 pub decode-for-walked : (job : List ℕ) (b : Sizes) → Decides (Accepts job b) (Refuses job b) (decodeFor job b)
 unfolding decodeFor
 decode-for-walked job b =

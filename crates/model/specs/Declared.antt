@@ -32,8 +32,8 @@ occurs b x [] = false
 occurs b x (c ∷ past) = isSame b x c || occurs b x past
 
 -- the command is a SPAN of the node and the function that permits the argument: from low to high, both ends included
-abbrev pub spans : ℕ → ℕ → ℕ → Command → Bool
-spans n f argument c =
+abbrev pub spanPermits : ℕ → ℕ → ℕ → Command → Bool
+spanPermits n f argument c =
     is SPAN c
     && (eqb (c .operands .first) n
     && (eqb (c .operands .second) f
@@ -43,7 +43,7 @@ spans n f argument c =
 -- some command is such a SPAN
 unfoldable pub inSpan : ℕ → ℕ → ℕ → List Command → Bool
 inSpan n f argument [] = false
-inSpan n f argument (c ∷ past) = spans n f argument c || inSpan n f argument past
+inSpan n f argument (c ∷ past) = spanPermits n f argument c || inSpan n f argument past
 
 -- what `value` gives for command x of those with this byte, and for the commands before it; 0 if there is none
 unfoldable pub declared : (Command → List Command → ℕ) → ℕ → List Command → ℕ → ℕ

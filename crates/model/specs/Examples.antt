@@ -70,16 +70,16 @@ k7 =
     ++ times 34 (0x60 ∷ 0x00 ∷ [])
 
 -- the 4 bytes of a number below 256
-unfoldable pub inFour : ℕ → List ℕ
-inFour v = v ∷ 0 ∷ 0 ∷ 0 ∷ []
+unfoldable pub four : ℕ → List ℕ
+four v = v ∷ 0 ∷ 0 ∷ 0 ∷ []
 
 -- the 7 bytes of an entry whose value is below 256
 unfoldable pub traced : ℕ → ℕ → ℕ → ℕ → List ℕ
-traced n kind number v = n ∷ kind ∷ number ∷ inFour v
+traced n kind number v = n ∷ kind ∷ number ∷ four v
 
 -- a node at a position, with accumulator and message below 256 and this count of waiting messages, as it stands in the snapshot
 unfoldable pub nodePart : ℕ → ℕ → ℕ → ℕ → List ℕ
-nodePart position accumulator message waiting = position ∷ inFour accumulator ++ inFour message ++ (waiting ∷ [])
+nodePart position accumulator message waiting = position ∷ four accumulator ++ four message ++ (waiting ∷ [])
 
 -- an idle node with no waiting message
 unfoldable pub idleNode : List ℕ
@@ -105,21 +105,21 @@ k1Last sent = traced 1 5 0 sent ++ traced 1 2 0 0
 unfoldable pub examples : List Example
 examples =
     -- K1
-    monitoredRow (k1 k1Read (inFour 2) 0) (ends 0 9 noEntry (k1First (inFour 2) 7 ++ k1Last 7) (idleNode ++ idleNode ++ inFour 5))
+    monitoredRow (k1 k1Read (four 2) 0) (ends 0 9 noEntry (k1First (four 2) 7 ++ k1Last 7) (idleNode ++ idleNode ++ four 5))
     -- K2
-    ∷ monitoredRow (k1 k1Read (inFour 3) 0) (ends 1 7 (entry 1 5 0 8) (k1First (inFour 3) 8) (idleNode ++ nodePart 1 8 8 0 ++ inFour 5))
+    ∷ monitoredRow (k1 k1Read (four 3) 0) (ends 1 7 (entry 1 5 0 8) (k1First (four 3) 8) (idleNode ++ nodePart 1 8 8 0 ++ four 5))
     -- K3
-    ∷ unmonitoredRow (k1 k1Read (inFour 3) 0) (ends 0 9 noEntry (k1First (inFour 3) 8 ++ k1Last 8) (idleNode ++ idleNode ++ inFour 5))
+    ∷ unmonitoredRow (k1 k1Read (four 3) 0) (ends 0 9 noEntry (k1First (four 3) 8 ++ k1Last 8) (idleNode ++ idleNode ++ four 5))
     -- K4
-    ∷ monitoredRow (k1 [] (inFour 2) 0) (ends 1 2 (entry 0 3 0 0) (traced 0 1 0 2 ++ traced 0 0 0 0) (nodePart 1 2 2 0 ++ idleNode ++ inFour 5))
+    ∷ monitoredRow (k1 [] (four 2) 0) (ends 1 2 (entry 0 3 0 0) (traced 0 1 0 2 ++ traced 0 0 0 0) (nodePart 1 2 2 0 ++ idleNode ++ four 5))
     -- K5
-    ∷ monitoredRow (k1 k1Read (inFour 2) 1) (ends 2 0 (entry 1 0 0 0) [] (nodePart 255 0 0 1 ++ inFour 2 ++ idleNode ++ inFour 5))
+    ∷ monitoredRow (k1 k1Read (four 2) 1) (ends 2 0 (entry 1 0 0 0) [] (nodePart 255 0 0 1 ++ four 2 ++ idleNode ++ four 5))
     -- K6
     ∷ monitoredRow (k1 k1Read (0xFE ∷ 0xFF ∷ 0xFF ∷ 0xFF ∷ []) 0)
-    (ends 1 7 (entry 1 5 0 3) (k1First (0xFE ∷ 0xFF ∷ 0xFF ∷ 0xFF ∷ []) 3) (idleNode ++ nodePart 1 3 3 0 ++ inFour 5))
+    (ends 1 7 (entry 1 5 0 3) (k1First (0xFE ∷ 0xFF ∷ 0xFF ∷ 0xFF ∷ []) 3) (idleNode ++ nodePart 1 3 3 0 ++ four 5))
     -- K7
     ∷ monitoredRow k7 (ends 3 33 (entry 0 6 0 0) (traced 0 1 0 1 ++ times 16 (traced 0 6 0 0 ++ traced 0 0 0 0))
-    (nodePart 0 0 1 16 ++ times 16 (inFour 0)))
+    (nodePart 0 0 1 16 ++ times 16 (four 0)))
     -- K8
     ∷ monitoredRow [] (refused (refuse 1 0))
     -- K9

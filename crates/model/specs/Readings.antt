@@ -1,16 +1,11 @@
 -- How the definitions read what the paper leaves open or what is easily misread (docs/DECISIONS.md), as rows of one list, claimed once.
-use Prim.Native.Nat.{ℕ, _+_, _<_}
-use mathlib.Core.Path.{_≡_}
-use mathlib.Core.Bool.{true, false, _||_}
+use Prim.Native.Nat.{ℕ}
+use mathlib.Core.Bool.{true}
 use mathlib.Core.List.{List, [], _∷_, _++_}
-use Rattle.model.specs.Table.{ARG, SPAN}
-use Rattle.model.specs.Command.{Command, is}
-use Rattle.model.specs.Declared.{countOf}
 use Rattle.model.specs.Turn.{entry}
-use Rattle.model.specs.Refusal.{groupFalls, exceedsCount, repeated, emptySpan, violation, refuse, Sizes, sizes}
+use Rattle.model.specs.Refusal.{refuse, Sizes, sizes}
 use Rattle.model.specs.Result.{Result, refused}
-use Rattle.model.specs.Conclusion.{Reads}
-use Rattle.model.specs.Examples.{Example, RowsHold, monitoredRow, unmonitoredRow, times, inFour, traced, nodePart, idleNode, ends}
+use Rattle.model.specs.Examples.{Example, RowsHold, monitoredRow, unmonitoredRow, times, four, traced, nodePart, idleNode, ends}
 use Rattle.model.specs.Examples.{noEntry}
 
 -- a monitored row with buffers of these lengths
@@ -23,7 +18,7 @@ nodes k = 0x01 ∷ times k (0x02 ∷ [])
 
 -- a global variable with this start
 unfoldable pub global : ℕ → List ℕ
-global start = 0x10 ∷ 0x02 ∷ 0x00 ∷ inFour start
+global start = 0x10 ∷ 0x02 ∷ 0x00 ∷ four start
 
 -- this many turns of a node
 unfoldable pub turns : ℕ → ℕ → List ℕ
@@ -41,7 +36,7 @@ orderRows =
     -- 4 before 6: a lower group and an undeclared node
     ∷ monitoredRow (nodes 1 ++ turns 1 0 ++ (0x20 ∷ 0x05 ∷ 0x00 ∷ 0x00 ∷ [])) (refused (refuse 4 4))
     -- 5 before 6: the 65th variable, of scope 9
-    ∷ monitoredRow (times 64 (global 0) ++ 0x10 ∷ 0x09 ∷ 0x00 ∷ inFour 0) (refused (refuse 5 448))
+    ∷ monitoredRow (times 64 (global 0) ++ 0x10 ∷ 0x09 ∷ 0x00 ∷ four 0) (refused (refuse 5 448))
     -- 6 before 7: a variable that is not declared, and so not seen
     ∷ monitoredRow (nodes 2 ++ (0x40 ∷ 0x01 ∷ 0x43 ∷ 0x00 ∷ [])) (refused (refuse 6 5))
     -- 6: a handler command before every BODY
@@ -62,7 +57,7 @@ orderRows =
 
 -- a variable of this scope and owner, with start 0
 unfoldable pub variable : ℕ → ℕ → List ℕ
-variable scope owner = 0x10 ∷ scope ∷ owner ∷ inFour 0
+variable scope owner = 0x10 ∷ scope ∷ owner ∷ four 0
 
 -- 6: what is not declared before, and numbers that are not allowed
 unfoldable pub undeclaredRows : List Example
@@ -76,7 +71,7 @@ undeclaredRows =
     ∷ monitoredRow (nodes 1 ++ (0x40 ∷ 0x00 ∷ 0x4A ∷ 0x00 ∷ [])) (refused (refuse 6 4))
     -- the node of a BODY, of a START and of a TURN
     ∷ monitoredRow (nodes 1 ++ (0x40 ∷ 0x01 ∷ [])) (refused (refuse 6 2))
-    ∷ monitoredRow (nodes 1 ++ 0x50 ∷ 0x01 ∷ inFour 0) (refused (refuse 6 2))
+    ∷ monitoredRow (nodes 1 ++ 0x50 ∷ 0x01 ∷ four 0) (refused (refuse 6 2))
     ∷ monitoredRow (nodes 1 ++ turns 1 1) (refused (refuse 6 2))
     -- port 4, though there is a node 4, of a wire and of a SEND
     ∷ monitoredRow (nodes 5 ++ (0x20 ∷ 0x00 ∷ 0x04 ∷ 0x00 ∷ [])) (refused (refuse 6 6))
@@ -100,8 +95,8 @@ sightRows =
     ∷ monitoredRow (nodes 1 ++ variable 2 0 ++ variable 0 0 ++ (0x32 ∷ 0x00 ∷ 0x01 ∷ [])) (refused (refuse 7 16))
     -- the variable of the second flow, read by its node
     ∷ monitoredRow
-    (nodes 1 ++ nodes 1 ++ variable 1 1 ++ 0x32 ∷ 0x01 ∷ 0x00 ∷ 0x40 ∷ 0x01 ∷ 0x43 ∷ 0x00 ∷ 0x50 ∷ 0x01 ∷ inFour 5 ++ turns 2 1)
-    (ends 0 2 noEntry (traced 1 1 0 5 ++ traced 1 3 0 0) (idleNode ++ nodePart 1 0 5 0 ++ inFour 0))
+    (nodes 1 ++ nodes 1 ++ variable 1 1 ++ 0x32 ∷ 0x01 ∷ 0x00 ∷ 0x40 ∷ 0x01 ∷ 0x43 ∷ 0x00 ∷ 0x50 ∷ 0x01 ∷ four 5 ++ turns 2 1)
+    (ends 0 2 noEntry (traced 1 1 0 5 ++ traced 1 3 0 0) (idleNode ++ nodePart 1 0 5 0 ++ four 0))
     ∷ []
 
 -- what is declared
@@ -114,25 +109,25 @@ declaredRows =
     ∷ monitoredRow (times 8 (0x01 ∷ [])) (ends 0 0 noEntry [] [])
     ∷ monitoredRow (times 9 (0x01 ∷ [])) (refused (refuse 5 8))
     -- 33 functions
-    ∷ monitoredRow (times 33 (0x11 ∷ inFour 9)) (refused (refuse 5 160))
+    ∷ monitoredRow (times 33 (0x11 ∷ four 9)) (refused (refuse 5 160))
     -- one global variable is a job
-    ∷ monitoredRow (global 5) (ends 0 0 noEntry [] (inFour 5))
+    ∷ monitoredRow (global 5) (ends 0 0 noEntry [] (four 5))
     -- ARG beside ANY and beside ARG with another argument is no repetition
     ∷ monitoredRow
-    (nodes 1 ++ 0x11 ∷ inFour 0 ++ 0x30 ∷ 0x00 ∷ 0x00 ∷ 0x31 ∷ 0x00 ∷ 0x00 ∷ inFour 1 ++ 0x31 ∷ 0x00 ∷ 0x00 ∷ inFour 2)
+    (nodes 1 ++ 0x11 ∷ four 0 ++ 0x30 ∷ 0x00 ∷ 0x00 ∷ 0x31 ∷ 0x00 ∷ 0x00 ∷ four 1 ++ 0x31 ∷ 0x00 ∷ 0x00 ∷ four 2)
     (ends 0 0 noEntry [] idleNode)
     -- 8: the same WIRE, ANY, ARG, READ or WRITE again
     ∷ monitoredRow (nodes 1 ++ times 2 (0x20 ∷ 0x00 ∷ 0x03 ∷ 0x00 ∷ [])) (refused (refuse 8 6))
-    ∷ monitoredRow (nodes 1 ++ 0x11 ∷ inFour 0 ++ times 2 (0x30 ∷ 0x00 ∷ 0x00 ∷ [])) (refused (refuse 8 10))
-    ∷ monitoredRow (nodes 1 ++ 0x11 ∷ inFour 0 ++ times 2 (0x31 ∷ 0x00 ∷ 0x00 ∷ inFour 1)) (refused (refuse 8 14))
+    ∷ monitoredRow (nodes 1 ++ 0x11 ∷ four 0 ++ times 2 (0x30 ∷ 0x00 ∷ 0x00 ∷ [])) (refused (refuse 8 10))
+    ∷ monitoredRow (nodes 1 ++ 0x11 ∷ four 0 ++ times 2 (0x31 ∷ 0x00 ∷ 0x00 ∷ four 1)) (refused (refuse 8 14))
     ∷ monitoredRow (nodes 1 ++ global 0 ++ times 2 (0x32 ∷ 0x00 ∷ 0x00 ∷ [])) (refused (refuse 8 12))
     ∷ monitoredRow (nodes 1 ++ global 0 ++ times 2 (0x33 ∷ 0x00 ∷ 0x00 ∷ [])) (refused (refuse 8 12))
     -- a START in each of two flows
     ∷ monitoredRow
-    (nodes 1 ++ nodes 1 ++ 0x50 ∷ 0x00 ∷ inFour 1 ++ 0x50 ∷ 0x01 ∷ inFour 2)
-    (ends 0 0 noEntry [] (nodePart 255 0 0 1 ++ inFour 1 ++ nodePart 255 0 0 1 ++ inFour 2))
+    (nodes 1 ++ nodes 1 ++ 0x50 ∷ 0x00 ∷ four 1 ++ 0x50 ∷ 0x01 ∷ four 2)
+    (ends 0 0 noEntry [] (nodePart 255 0 0 1 ++ four 1 ++ nodePart 255 0 0 1 ++ four 2))
     -- a second START in the flow, of another node
-    ∷ monitoredRow (nodes 2 ++ 0x50 ∷ 0x00 ∷ inFour 1 ++ 0x50 ∷ 0x01 ∷ inFour 2) (refused (refuse 8 9))
+    ∷ monitoredRow (nodes 2 ++ 0x50 ∷ 0x00 ∷ four 1 ++ 0x50 ∷ 0x01 ∷ four 2) (refused (refuse 8 9))
     ∷ []
 
 -- what a turn does
@@ -141,62 +136,62 @@ turnRows =
     -- numbers in trace and snapshot, lowest byte first
     monitoredRow
     (nodes 1 ++ 0x50 ∷ 0x00 ∷ 0x01 ∷ 0x02 ∷ 0x03 ∷ 0x04 ∷ turns 1 0)
-    (ends 0 1 noEntry (0 ∷ 1 ∷ 0 ∷ 1 ∷ 2 ∷ 3 ∷ 4 ∷ []) (0 ∷ inFour 0 ++ (1 ∷ 2 ∷ 3 ∷ 4 ∷ 0 ∷ [])))
+    (ends 0 1 noEntry (0 ∷ 1 ∷ 0 ∷ 1 ∷ 2 ∷ 3 ∷ 4 ∷ []) (0 ∷ four 0 ++ (1 ∷ 2 ∷ 3 ∷ 4 ∷ 0 ∷ [])))
     -- a node variable: GET, PUT and PLUS leave kind 0 and need no permission
     ∷ monitoredRow
-    (nodes 1 ++ 0x10 ∷ 0x00 ∷ 0x00 ∷ inFour 5 ++ 0x40 ∷ 0x00 ∷ 0x43 ∷ 0x00 ∷ 0x44 ∷ 0x00 ∷ 0x46 ∷ 0x00 ∷ 0x50 ∷ 0x00 ∷ inFour 1 ++ turns 4 0)
-    (ends 0 4 noEntry (traced 0 1 0 1 ++ times 3 (traced 0 0 0 0)) (nodePart 3 10 1 0 ++ inFour 5))
+    (nodes 1 ++ 0x10 ∷ 0x00 ∷ 0x00 ∷ four 5 ++ 0x40 ∷ 0x00 ∷ 0x43 ∷ 0x00 ∷ 0x44 ∷ 0x00 ∷ 0x46 ∷ 0x00 ∷ 0x50 ∷ 0x00 ∷ four 1 ++ turns 4 0)
+    (ends 0 4 noEntry (traced 0 1 0 1 ++ times 3 (traced 0 0 0 0)) (nodePart 3 10 1 0 ++ four 5))
     -- a flow variable that the node may read and write
     ∷ monitoredRow
-    (nodes 1 ++ 0x10 ∷ 0x01 ∷ 0x00 ∷ inFour 5 ++ 0x32 ∷ 0x00 ∷ 0x00 ∷ 0x33 ∷ 0x00 ∷ 0x00 ∷ 0x40 ∷ 0x00 ∷ 0x43 ∷ 0x00 ∷ 0x45 ∷ inFour 1 ++ 0x44 ∷
-    0x00 ∷ 0x50 ∷ 0x00 ∷ inFour 1 ++ turns 4 0)
-    (ends 0 4 noEntry (traced 0 1 0 1 ++ traced 0 3 0 5 ++ traced 0 0 0 0 ++ traced 0 4 0 6) (nodePart 3 6 1 0 ++ inFour 6))
+    (nodes 1 ++ 0x10 ∷ 0x01 ∷ 0x00 ∷ four 5 ++ 0x32 ∷ 0x00 ∷ 0x00 ∷ 0x33 ∷ 0x00 ∷ 0x00 ∷ 0x40 ∷ 0x00 ∷ 0x43 ∷ 0x00 ∷ 0x45 ∷ four 1 ++ 0x44 ∷
+    0x00 ∷ 0x50 ∷ 0x00 ∷ four 1 ++ turns 4 0)
+    (ends 0 4 noEntry (traced 0 1 0 1 ++ traced 0 3 0 5 ++ traced 0 0 0 0 ++ traced 0 4 0 6) (nodePart 3 6 1 0 ++ four 6))
     -- a call that ANY permits: the accumulator becomes the answer
     ∷ monitoredRow
-    (nodes 1 ++ 0x11 ∷ inFour 9 ++ 0x30 ∷ 0x00 ∷ 0x00 ∷ 0x40 ∷ 0x00 ∷ 0x42 ∷ 0x4A ∷ 0x00 ∷ 0x50 ∷ 0x00 ∷ inFour 5 ++ turns 3 0)
+    (nodes 1 ++ 0x11 ∷ four 9 ++ 0x30 ∷ 0x00 ∷ 0x00 ∷ 0x40 ∷ 0x00 ∷ 0x42 ∷ 0x4A ∷ 0x00 ∷ 0x50 ∷ 0x00 ∷ four 5 ++ turns 3 0)
     (ends 0 3 noEntry (traced 0 1 0 5 ++ traced 0 0 0 0 ++ traced 0 5 0 5) (nodePart 2 9 5 0))
     -- JUMPZ with 3, which goes on, and with 0, which jumps over the last SET
     ∷ monitoredRow
-    (nodes 1 ++ 0x40 ∷ 0x00 ∷ 0x41 ∷ inFour 3 ++ 0x47 ∷ 0x04 ∷ 0x41 ∷ inFour 0 ++ 0x47 ∷ 0x05 ∷ 0x41 ∷ inFour 9 ++ 0x45 ∷ inFour 4 ++ 0x50 ∷ 0x00 ∷ inFour
-    1 ++ turns 6 0)
+    (nodes 1 ++ 0x40 ∷ 0x00 ∷ 0x41 ∷ four 3 ++ 0x47 ∷ 0x04 ∷ 0x41 ∷ four 0 ++ 0x47 ∷ 0x05 ∷ 0x41 ∷ four 9 ++ 0x45 ∷ four 4 ++
+    0x50 ∷ 0x00 ∷ four 1 ++ turns 6 0)
     (ends 0 6 noEntry (traced 0 1 0 1 ++ times 5 (traced 0 0 0 0)) (nodePart 6 4 1 0))
     -- a forbidden write: the attempted entry shows the accumulator, and the variable is not written
     ∷ monitoredRow
-    (nodes 1 ++ global 5 ++ 0x32 ∷ 0x00 ∷ 0x00 ∷ 0x40 ∷ 0x00 ∷ 0x41 ∷ inFour 7 ++ 0x44 ∷ 0x00 ∷ 0x50 ∷ 0x00 ∷ inFour 1 ++ turns 3 0)
-    (ends 1 2 (entry 0 4 0 7) (traced 0 1 0 1 ++ traced 0 0 0 0) (nodePart 1 7 1 0 ++ inFour 5))
+    (nodes 1 ++ global 5 ++ 0x32 ∷ 0x00 ∷ 0x00 ∷ 0x40 ∷ 0x00 ∷ 0x41 ∷ four 7 ++ 0x44 ∷ 0x00 ∷ 0x50 ∷ 0x00 ∷ four 1 ++ turns 3 0)
+    (ends 1 2 (entry 0 4 0 7) (traced 0 1 0 1 ++ traced 0 0 0 0) (nodePart 1 7 1 0 ++ four 5))
     -- a send to two targets, and one to a port that is not wired
     ∷ monitoredRow
-    (nodes 3 ++ 0x20 ∷ 0x00 ∷ 0x02 ∷ 0x01 ∷ 0x20 ∷ 0x00 ∷ 0x02 ∷ 0x02 ∷ 0x40 ∷ 0x00 ∷ 0x42 ∷ 0x49 ∷ 0x02 ∷ 0x49 ∷ 0x03 ∷ 0x50 ∷ 0x00 ∷ inFour
+    (nodes 3 ++ 0x20 ∷ 0x00 ∷ 0x02 ∷ 0x01 ∷ 0x20 ∷ 0x00 ∷ 0x02 ∷ 0x02 ∷ 0x40 ∷ 0x00 ∷ 0x42 ∷ 0x49 ∷ 0x02 ∷ 0x49 ∷ 0x03 ∷ 0x50 ∷ 0x00 ∷ four
     9 ++ turns 4 0)
     (ends 0 4 noEntry (traced 0 1 0 9 ++ traced 0 0 0 0 ++ traced 0 6 2 9 ++ traced 0 6 3 9)
-    (nodePart 3 9 9 0 ++ times 2 (nodePart 255 0 0 1 ++ inFour 9)))
+    (nodePart 3 9 9 0 ++ times 2 (nodePart 255 0 0 1 ++ four 9)))
     -- the oldest message is taken first
     ∷ monitoredRow
-    (nodes 2 ++ 0x20 ∷ 0x00 ∷ 0x00 ∷ 0x01 ∷ 0x40 ∷ 0x00 ∷ 0x49 ∷ 0x00 ∷ 0x42 ∷ 0x49 ∷ 0x00 ∷ 0x50 ∷ 0x00 ∷ inFour 9 ++ turns 4 0 ++ turns 1 1)
+    (nodes 2 ++ 0x20 ∷ 0x00 ∷ 0x00 ∷ 0x01 ∷ 0x40 ∷ 0x00 ∷ 0x49 ∷ 0x00 ∷ 0x42 ∷ 0x49 ∷ 0x00 ∷ 0x50 ∷ 0x00 ∷ four 9 ++ turns 4 0 ++ turns 1 1)
     (ends 0 5 noEntry (traced 0 1 0 9 ++ traced 0 6 0 0 ++ traced 0 0 0 0 ++ traced 0 6 0 9 ++ traced 1 1 0 0)
-    (nodePart 3 9 9 0 ++ nodePart 0 0 0 1 ++ inFour 9))
+    (nodePart 3 9 9 0 ++ nodePart 0 0 0 1 ++ four 9))
     -- a send whose second target is full delivers to nobody
     ∷ monitoredRow
     (nodes 2 ++ 0x20 ∷ 0x00 ∷ 0x00 ∷ 0x00 ∷ 0x20 ∷ 0x00 ∷ 0x00 ∷ 0x01 ∷ 0x20 ∷ 0x00 ∷ 0x01 ∷ 0x01 ∷ 0x40 ∷ 0x00 ∷ times 16
-    (0x49 ∷ 0x01 ∷ []) ++ 0x42 ∷ 0x49 ∷ 0x00 ∷ 0x50 ∷ 0x00 ∷ inFour 3 ++ turns 19 0)
+    (0x49 ∷ 0x01 ∷ []) ++ 0x42 ∷ 0x49 ∷ 0x00 ∷ 0x50 ∷ 0x00 ∷ four 3 ++ turns 19 0)
     (ends 3 18 (entry 0 6 0 3) (traced 0 1 0 3 ++ times 16 (traced 0 6 1 0) ++ traced 0 0 0 0)
-    (nodePart 17 3 3 0 ++ nodePart 255 0 0 16 ++ times 16 (inFour 0)))
+    (nodePart 17 3 3 0 ++ nodePart 255 0 0 16 ++ times 16 (four 0)))
     ∷ []
 
 -- one node that calls function 0 with its first message, given the permissions and the 4 bytes of that message
 unfoldable pub calling : List ℕ → List ℕ → List ℕ
 calling permissions message =
-    nodes 1 ++ 0x11 ∷ inFour 9 ++ permissions ++ 0x40 ∷ 0x00 ∷ 0x42 ∷ 0x4A ∷ 0x00 ∷ 0x50 ∷ 0x00 ∷ message ++ turns 3 0
+    nodes 1 ++ 0x11 ∷ four 9 ++ permissions ++ 0x40 ∷ 0x00 ∷ 0x42 ∷ 0x4A ∷ 0x00 ∷ 0x50 ∷ 0x00 ∷ message ++ turns 3 0
 
 -- a SPAN of node 0 and function 0 from low to high, both below 256
 unfoldable pub span : ℕ → ℕ → List ℕ
-span low high = 0x34 ∷ 0x00 ∷ 0x00 ∷ inFour low ++ inFour high
+span low high = 0x34 ∷ 0x00 ∷ 0x00 ∷ four low ++ four high
 
 -- an ARG of node 0 and function 0
 unfoldable pub arg : ℕ → List ℕ
-arg value = 0x31 ∷ 0x00 ∷ 0x00 ∷ inFour value
+arg value = 0x31 ∷ 0x00 ∷ 0x00 ∷ four value
 
--- the call with this argument is made, and it is forbidden
+-- what such a job gives if the call with this argument is made, and if it is forbidden
 unfoldable pub called : ℕ → Result
 called v = ends 0 3 noEntry (traced 0 1 0 v ++ traced 0 0 0 0 ++ traced 0 5 0 v) (nodePart 2 9 v 0)
 
@@ -207,55 +202,46 @@ forbidden v = ends 1 2 (entry 0 5 0 v) (traced 0 1 0 v ++ traced 0 0 0 0) (nodeP
 unfoldable pub spanRows : List Example
 spanRows =
     -- both ends of a range are permitted; one below and one above are not
-    monitoredRow (calling (span 10 20) (inFour 10)) (called 10)
-    ∷ monitoredRow (calling (span 10 20) (inFour 20)) (called 20)
-    ∷ monitoredRow (calling (span 10 20) (inFour 9)) (forbidden 9)
-    ∷ monitoredRow (calling (span 10 20) (inFour 21)) (forbidden 21)
+    monitoredRow (calling (span 10 20) (four 10)) (called 10)
+    ∷ monitoredRow (calling (span 10 20) (four 20)) (called 20)
+    ∷ monitoredRow (calling (span 10 20) (four 9)) (forbidden 9)
+    ∷ monitoredRow (calling (span 10 20) (four 21)) (forbidden 21)
     -- an unmonitored run makes the call
-    ∷ unmonitoredRow (calling (span 10 20) (inFour 21)) (called 21)
+    ∷ unmonitoredRow (calling (span 10 20) (four 21)) (called 21)
     -- low = high permits one argument
-    ∷ monitoredRow (calling (span 10 10) (inFour 10)) (called 10)
-    ∷ monitoredRow (calling (span 10 10) (inFour 11)) (forbidden 11)
+    ∷ monitoredRow (calling (span 10 10) (four 10)) (called 10)
+    ∷ monitoredRow (calling (span 10 10) (four 11)) (forbidden 11)
     -- 0 to 2^32-1 permits 2^32-1
-    ∷ monitoredRow (calling (0x34 ∷ 0x00 ∷ 0x00 ∷ inFour 0 ++ times 4 (0xFF ∷ [])) (times 4 (0xFF ∷ [])))
+    ∷ monitoredRow (calling (0x34 ∷ 0x00 ∷ 0x00 ∷ four 0 ++ times 4 (0xFF ∷ [])) (times 4 (0xFF ∷ [])))
     (ends 0 3 noEntry (0 ∷ 1 ∷ 0 ∷ times 4 (0xFF ∷ []) ++ traced 0 0 0 0 ++ 0 ∷ 5 ∷ 0 ∷ times 4 (0xFF ∷ []))
-    (2 ∷ inFour 9 ++ times 4 (0xFF ∷ []) ++ (0 ∷ [])))
-    -- ranges that overlap or touch, one with the same low, one with the same high, and ARG with a range of its argument alone are accepted
-    ∷ monitoredRow (calling (span 10 20 ++ span 15 30 ++ span 31 40 ++ span 10 19 ++ span 11 20 ++ arg 50 ++ span 50 50) (inFour 25)) (called 25)
+    (2 ∷ four 9 ++ times 4 (0xFF ∷ []) ++ (0 ∷ [])))
+    -- accepted: ranges that overlap or touch, or have the same low or high; ARG inside a range, and beside the range of its argument alone
+    ∷ monitoredRow
+    (calling (span 10 20 ++ span 15 30 ++ span 31 40 ++ span 10 19 ++ span 11 20 ++ arg 12 ++ arg 50 ++ span 50 50) (four 25))
+    (called 25)
     -- a range of another function, and one of another node, permit nothing here
-    ∷ monitoredRow (calling (0x11 ∷ inFour 9 ++ 0x34 ∷ 0x00 ∷ 0x01 ∷ inFour 10 ++ inFour 20) (inFour 15)) (forbidden 15)
-    ∷ monitoredRow (0x01 ∷ 0x02 ∷ calling (0x34 ∷ 0x01 ∷ 0x00 ∷ inFour 10 ++ inFour 20) (inFour 15))
+    ∷ monitoredRow (calling (0x11 ∷ four 9 ++ 0x34 ∷ 0x00 ∷ 0x01 ∷ four 10 ++ four 20) (four 15)) (forbidden 15)
+    ∷ monitoredRow (0x01 ∷ 0x02 ∷ calling (0x34 ∷ 0x01 ∷ 0x00 ∷ four 10 ++ four 20) (four 15))
     (ends 1 2 (entry 0 5 0 15) (traced 0 1 0 15 ++ traced 0 0 0 0) (nodePart 1 15 15 0 ++ idleNode))
     -- 3: the last byte of high is missing
-    ∷ monitoredRow (nodes 1 ++ 0x11 ∷ inFour 9 ++ 0x34 ∷ 0x00 ∷ 0x00 ∷ inFour 10 ++ (20 ∷ 0 ∷ 0 ∷ [])) (refused (refuse 3 7))
+    ∷ monitoredRow (nodes 1 ++ 0x11 ∷ four 9 ++ 0x34 ∷ 0x00 ∷ 0x00 ∷ four 10 ++ (20 ∷ 0 ∷ 0 ∷ [])) (refused (refuse 3 7))
     -- 8: the same SPAN again
-    ∷ monitoredRow (nodes 1 ++ 0x11 ∷ inFour 9 ++ span 10 20 ++ span 10 20) (refused (refuse 8 18))
+    ∷ monitoredRow (nodes 1 ++ 0x11 ∷ four 9 ++ span 10 20 ++ span 10 20) (refused (refuse 8 18))
     -- 15: low above high, monitored and unmonitored
-    ∷ monitoredRow (nodes 1 ++ 0x11 ∷ inFour 9 ++ span 11 10) (refused (refuse 15 7))
-    ∷ unmonitoredRow (nodes 1 ++ 0x11 ∷ inFour 9 ++ span 11 10) (refused (refuse 15 7))
+    ∷ monitoredRow (nodes 1 ++ 0x11 ∷ four 9 ++ span 11 10) (refused (refuse 15 7))
+    ∷ unmonitoredRow (nodes 1 ++ 0x11 ∷ four 9 ++ span 11 10) (refused (refuse 15 7))
+    -- 4 before 15: a range of low above high, after a TURN
+    ∷ monitoredRow (nodes 1 ++ 0x11 ∷ four 9 ++ turns 1 0 ++ span 11 10) (refused (refuse 4 9))
     -- 6 before 15: low above high, of an undeclared function
     ∷ monitoredRow (nodes 1 ++ span 11 10) (refused (refuse 6 2))
     -- 8 at a command before 15 at a later one, and 15 before 8 likewise
-    ∷ monitoredRow (nodes 1 ++ 0x11 ∷ inFour 9 ++ times 2 (span 10 20) ++ span 11 10) (refused (refuse 8 18))
-    ∷ monitoredRow (nodes 1 ++ 0x11 ∷ inFour 9 ++ span 10 20 ++ span 11 10 ++ span 10 20) (refused (refuse 15 18))
+    ∷ monitoredRow (nodes 1 ++ 0x11 ∷ four 9 ++ times 2 (span 10 20) ++ span 11 10) (refused (refuse 8 18))
+    ∷ monitoredRow (nodes 1 ++ 0x11 ∷ four 9 ++ span 10 20 ++ span 11 10 ++ span 10 20) (refused (refuse 15 18))
     -- 15 before 2 of a later command, and before 9
-    ∷ monitoredRow (nodes 1 ++ 0x11 ∷ inFour 9 ++ span 11 10 ++ (0xFF ∷ [])) (refused (refuse 15 7))
-    ∷ monitoredRow (nodes 1 ++ 0x11 ∷ inFour 9 ++ span 11 10 ++ (0x40 ∷ 0x00 ∷ 0x48 ∷ 0x05 ∷ [])) (refused (refuse 15 7))
+    ∷ monitoredRow (nodes 1 ++ 0x11 ∷ four 9 ++ span 11 10 ++ (0xFF ∷ [])) (refused (refuse 15 7))
+    ∷ monitoredRow (nodes 1 ++ 0x11 ∷ four 9 ++ span 11 10 ++ (0x40 ∷ 0x00 ∷ 0x48 ∷ 0x05 ∷ [])) (refused (refuse 15 7))
     ∷ []
 
 -- every row holds
 abbrev pub ReadingsHold : Type 0
 ReadingsHold = RowsHold (orderRows ++ undeclaredRows ++ sightRows ++ declaredRows ++ turnRows ++ spanRows)
-
--- ARG and SPAN share their largest count, however they are mixed: after fewer than 256 of both, one more does not exceed it; after 256, one
--- more that passes test 4 is refused by 5, whatever else is wrong with it (S-5)
-pub record RangeLimit (past : List Command) (c : Command) : Type 0 where
-  pub below : countOf ARG past + countOf SPAN past < 256 → exceedsCount past c ≡ false
-  pub reached : countOf ARG past + countOf SPAN past ≡ 256 → groupFalls past c ≡ false → violation past c ≡ 5
-
-abbrev pub RangeLimitHolds : Type 0
-RangeLimitHolds = (past : List Command) (c : Command) → (is ARG c || is SPAN c) ≡ true → RangeLimit past c
-
--- 8 and 15 never both refuse one command: a SPAN that repeats one before it has its low and high, and that one passed test 15 (S-5)
-abbrev pub NeverBoth : Type 0
-NeverBoth = (job : List ℕ) (place : ℕ) (past : List Command) (c : Command) → Reads job place past → repeated past c ≡ true → emptySpan c ≡ false

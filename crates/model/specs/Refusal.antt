@@ -6,8 +6,8 @@ use mathlib.Core.List.{List, [], _∷_}
 use mathlib.Core.Option.{Option, none, some}
 use lib.Dec.{leb, ltb, eqb}
 use lib.ListN.{length}
-use Rattle.model.specs.Table.{FLOW, NODE, VAR, FUN, WIRE, READ, WRITE, SPAN, BODY, GET, PUT, PLUS, JUMPZ, JUMP, START, TURN, OperandKind}
-use Rattle.model.specs.Table.{scope, owner, start, answer, node, port, target, function, value, low, high, variable, jump}
+use Rattle.model.specs.Table.{FLOW, NODE, VAR, FUN, WIRE, READ, WRITE, SPAN, BODY, GET, PUT, PLUS, JUMPZ, JUMP, START, TURN}
+use Rattle.model.specs.Table.{OperandKind, scope, owner, start, answer, node, port, target, function, value, low, high, variable, jump}
 use Rattle.model.specs.Table.{absent, kindAt, groupOf, Limit, largestOf, maxPort, maxHandler, maxJob}
 use Rattle.model.specs.Command.{Command, Parsed, whole, unknown, cutShort, is, readCommand}
 use Rattle.model.specs.Declared.{countOf, countAmong, occurs, flowOf, shared, sees, isHandler, openBody, bodyLength, startedIn}
@@ -150,8 +150,8 @@ decodeRead rest place past unknown = rejected (refuse 2 place)
 decodeRead rest place past cutShort = rejected (refuse 3 place)
 decodeRead rest place past (whole c next) = decodeNext rest place past c next (violation past c)
 
--- 2 to 8 and 15 from a place of the job on, after the commands `past`; the first number bounds how many commands are left, and the job's length
--- is enough
+-- 2 to 8 and 15 from a place of the job on, after the commands `past`; the first number bounds how many commands are left, and the job's
+-- length is enough
 unfoldable pub decodeFrom : ℕ → List ℕ → ℕ → List Command → Decoded
 decodeFrom zero job place past = accepted past
 decodeFrom (suc fuel) job place past = cond (ltb place (length job)) (decodeRead (decodeFrom fuel job) place past (readCommand job place))

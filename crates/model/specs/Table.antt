@@ -166,6 +166,10 @@ kindAt b i = operandAt (listOf (operandsOf b)) i
 abbrev pub groupOf : ℕ → ℕ
 groupOf b = b / 16
 
+-- the byte is that of a range of arguments: ARG or SPAN (S-5)
+abbrev pub isRangeByte : ℕ → Bool
+isRangeByte b = eqb b ARG || eqb b SPAN
+
 -- the largest counts ("Largest counts"): flows, nodes, variables, functions, commands of a body, ARG and SPAN commands
 -- together (S-5), turns
 abbrev pub maxFlows : ℕ

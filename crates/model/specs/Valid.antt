@@ -19,21 +19,21 @@ use Rattle.model.specs.Refusal.{groupFalls, exceedsCount, undeclared, ou
 use Rattle.model.specs.Refusal.{farJump}
 
 -- an operand is in the range of what it names; one that is absent is 0
-abbrev pub InRange : OperandKind → ℕ → Type 0
-InRange scope x = x ≤ 2
-InRange owner x = x < maxNodes
-InRange start x = Unit {0}
-InRange answer x = Unit {0}
-InRange node x = x < maxNodes
-InRange port x = x ≤ maxPort
-InRange target x = x < maxNodes
-InRange function x = x < maxFunctions
-InRange value x = Unit {0}
-InRange low x = Unit {0}
-InRange high x = Unit {0}
-InRange variable x = x < maxVariables
-InRange jump x = Unit {0}
-InRange absent x = x ≡ 0
+abbrev pub Allowed : OperandKind → ℕ → Type 0
+Allowed scope x = x ≤ 2
+Allowed owner x = x < maxNodes
+Allowed start x = Unit {0}
+Allowed answer x = Unit {0}
+Allowed node x = x < maxNodes
+Allowed port x = x ≤ maxPort
+Allowed target x = x < maxNodes
+Allowed function x = x < maxFunctions
+Allowed value x = Unit {0}
+Allowed low x = Unit {0}
+Allowed high x = Unit {0}
+Allowed variable x = x < maxVariables
+Allowed jump x = Unit {0}
+Allowed absent x = x ≡ 0
 
 -- a command as it is read: its byte is in the table, and its absent operands are 0
 pub record Plain (c : Command) : Type 0 where
@@ -64,15 +64,15 @@ pub record ValidJob (past : List Command) : Type 0 where
 
 -- the operands of a command byte are in range
 pub record Named (b : ℕ) (x : Operands) : Type 0 where
-  pub first : InRange (kindAt b 0) (x .first)
-  pub second : InRange (kindAt b 1) (x .second)
-  pub third : InRange (kindAt b 2) (x .third)
-  pub fourth : InRange (kindAt b 3) (x .fourth)
+  pub first : Allowed (kindAt b 0) (x .first)
+  pub second : Allowed (kindAt b 1) (x .second)
+  pub third : Allowed (kindAt b 2) (x .third)
+  pub fourth : Allowed (kindAt b 3) (x .fourth)
 
 -- an instruction of a handler of an accepted job
 pub record NamedInstruction (i : Instruction) : Type 0 where
   pub handler : (leb SET (i .byte) && leb (i .byte) SKIP) ≡ true
-  pub operand : InRange (kindAt (i .byte) 0) (i .operand)
+  pub operand : Allowed (kindAt (i .byte) 0) (i .operand)
 
 -- the counts of the commands of an accepted job
 pub record Limits (past : List Command) : Type 0 where

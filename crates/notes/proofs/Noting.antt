@@ -1,23 +1,22 @@
 -- One more command in the tables: every section then says what the model says of one command more.
 use Prim.Native.Nat.{ℕ, _+_, _-_, _*_, _/_, _%_, _≤_, _<_, zero-le}
 use mathlib.Core.Path.{_≡_, refl, sym, ap, _∙_}
-use mathlib.Core.Bool.{Bool, true, false, cond, not, _&&_, _||_, and-true, and-false}
+use mathlib.Core.Bool.{Bool, true, false, cond, not, _&&_, _||_}
 use mathlib.Core.List.{List, [], _∷_, _++_, append-nil}
 use mathlib.Core.Logic.{_⊎_, inl, inr}
 use native.Mathlib.Omega.{arith}
-use native.Mathlib.Numerals.{add-one}
 use lib.Dec.{ltb, eqb}
 use lib.ListN.{length, length-append}
-use borrow.Author.Tests.{ltb-false, lt-ltb, le-ltb, eqb-true, eq-eqb, ne-eqb}
+use borrow.Author.Tests.{ltb-false, lt-ltb, le-ltb, eqb-true}
 use Rattle.model.specs.Table.{FLOW, NODE, VAR, FUN, WIRE, ANY, ARG, READ, WRITE, SPAN, BODY, START, operandsIn, operandsOf, groupOf}
 use Rattle.model.specs.Command.{Command, is, quaternary, ternary, binary}
 use Rattle.model.specs.Declared.{only, countOf, occurs, inSpan, declared, flowOf, isHandler, openBody, bodyLength, startsOf, startedIn}
 use Rattle.model.specs.Refusal.{groupFalls}
 use Rattle.model.specs.Valid.{Valid, Named}
-use Rattle.model.proofs.Growth.{count-same, count-other, count-grows, count-below, occurs-next, open-next, body-next, starts-next}
+use Rattle.model.proofs.Growth.{count-same, count-grows, count-below, occurs-next, open-next, body-next, starts-next}
 use Rattle.model.proofs.Growth.{span-next, started-next}
 use Rattle.model.proofs.Logic.{true-false}
-use Rattle.model.proofs.Ranges.{open-inside, starts-one}
+use Rattle.model.proofs.Naming.{open-inside, starts-one}
 use Rattle.model.proofs.Valid.{passes, limits, named}
 use Rattle.command.specs.declared.read.Command.{Command as Code}
 use Rattle.command.specs.Reading.{commandOf}
@@ -25,8 +24,9 @@ use Rattle.tables.specs.declared.cells.Section.{Section}
 use Rattle.tables.specs.Bits.{bitOf}
 use Rattle.tables.specs.Cells.{cellCount, entryIn, putIn, flagIn, isMarkPlace, markCell, marksWith, markIn, halvesWith}
 use Rattle.tables.specs.Tables.{countCells, progressCells, flowCells, scopeCells, ownerCells, startCells, answerCells, lengthCells}
-use Rattle.tables.specs.Tables.{bodyCells, startedCells, firstCells, messageCells, lowCells, highCells, linkCells, headCells, readCells, writeCells}
-use Rattle.tables.specs.Tables.{anyCells, wireCells, countIn, groupIn, openIn, flowIn, lengthIn, wiredIn, rangeCountIn, headPlace, headIn}
+use Rattle.tables.specs.Tables.{bodyCells, startedCells, firstCells, messageCells, lowCells, highCells, linkCells, headCells}
+use Rattle.tables.specs.Tables.{readCells, writeCells, anyCells, wireCells, countIn, groupIn, openIn, flowIn, lengthIn, wiredIn}
+use Rattle.tables.specs.Tables.{rangeCountIn, headPlace, headIn}
 use Rattle.tables.specs.Tables.{listedIn, inRangeIn}
 use Rattle.tables.specs.Ranges.{range, isRange, holds, isThis}
 use Rattle.tables.specs.Stands.{Stands}
@@ -138,7 +138,9 @@ module _ (t : List ℕ) (past : List Command) (c : Command) (s : Stands t past) 
       rw (g, s .group d) (highest (groupOf (d .byte)) (groupOf (c .byte)) (groupIn t) l)
 
   opened-next : openIn after ≡ openBody (c ∷ past)
-  opened-next = in-section progressCells (omega arith) refl 1 ∙ this-last (is BODY c) (isRange c) (c .operands .first) (oneMore (rangeCountIn t)) (openIn t)
+  opened-next =
+      in-section progressCells (omega arith) refl 1
+      ∙ this-last (is BODY c) (isRange c) (c .operands .first) (oneMore (rangeCountIn t)) (openIn t)
       ∙ rw (s .opened, open-next c past)
 
   flow-next : (n : ℕ) → flowIn after n ≡ flowOf (c ∷ past) n
@@ -186,7 +188,8 @@ module _ (t : List ℕ) (past : List Command) (c : Command) (s : Stands t past) 
       ∙ rw (s .opened, body-next c past n)
 
   -- an operand of a command with this byte
-  body-range : is BODY c ≡ true → (c .operands .first < 32) × (c .operands .second ≡ 0) × (c .operands .third ≡ 0) × (c .operands .fourth ≡ 0)
+  body-range : is BODY c ≡ true
+      → (c .operands .first < 32) × (c .operands .second ≡ 0) × (c .operands .third ≡ 0) × (c .operands .fourth ≡ 0)
   unfolding operandsOf operandsIn
   body-range e = let r = rw (byte-is BODY e) at ranged in (r .first, r .second, r .third, r .fourth)
 
@@ -200,11 +203,13 @@ module _ (t : List ℕ) (past : List Command) (c : Command) (s : Stands t past) 
   access-range b (inl p) e = let r = rw (byte-is b e, p) at ranged in (r .first, r .second, r .third, r .fourth)
   access-range b (inr p) e = let r = rw (byte-is b e, p) at ranged in (r .first, r .second, r .third, r .fourth)
 
-  any-range : is ANY c ≡ true → (c .operands .first < 32) × (c .operands .second < 32) × (c .operands .third ≡ 0) × (c .operands .fourth ≡ 0)
+  any-range : is ANY c ≡ true
+      → (c .operands .first < 32) × (c .operands .second < 32) × (c .operands .third ≡ 0) × (c .operands .fourth ≡ 0)
   unfolding operandsOf operandsIn
   any-range e = let r = rw (byte-is ANY e) at ranged in (r .first, r .second, r .third, r .fourth)
 
-  wire-range : is WIRE c ≡ true → (c .operands .first < 32) × (c .operands .second ≤ 3) × (c .operands .third < 32) × (c .operands .fourth ≡ 0)
+  wire-range : is WIRE c ≡ true
+      → (c .operands .first < 32) × (c .operands .second ≤ 3) × (c .operands .third < 32) × (c .operands .fourth ≡ 0)
   unfolding operandsOf operandsIn
   wire-range e = let r = rw (byte-is WIRE e) at ranged in (r .first, r .second, r .third, r .fourth)
 
@@ -214,7 +219,7 @@ module _ (t : List ℕ) (past : List Command) (c : Command) (s : Stands t past) 
       rw (in-section bodyCells (omega arith) refl n)
       (flag (is BODY c) (c .operands .first) n 32 (entryIn t bodyCells n) (occurs BODY (binary n 0) past)
       (λ e. omega (arith, body-range e .0)) (s .bodies n)
-      ∙ rw (occurs-next c past BODY (binary n 0), same-one BODY c n (λ e. let r = body-range e in (r .1, r .2, r .3))))
+      ∙ rw (occurs-next c past BODY (binary n 0), same-one BODY c n 0 0 (λ e. let r = body-range e in (r .1, r .2, r .3))))
 
   started-after : (f : ℕ) → flagIn after startedCells f ≡ startedIn (c ∷ past) f
   unfolding flagIn
@@ -237,7 +242,7 @@ module _ (t : List ℕ) (past : List Command) (c : Command) (s : Stands t past) 
       rw e
       (marking (entryIn t r) (c .operands .first) (c .operands .second) row x 64 (is b c) (occurs b (binary row x) past)
       (λ p. omega (arith, h p .0)) (λ p. h p .1) (λ p. omega (arith, h p .0, h p .1)) q
-      ∙ rw (occurs-next c past b (binary row x), same-two b c row x (λ p. (h p .2, h p .3))))
+      ∙ rw (occurs-next c past b (binary row x), same-two b c row x 0 (λ p. (h p .2, h p .3))))
 
   reads-next : (n x : ℕ) → markIn after readCells n x ≡ occurs READ (binary n x) (c ∷ past)
   reads-next n x = mark-next readCells READ refl n x (in-section readCells (omega arith) refl (markCell n x)) (access-range READ (inl refl))
@@ -315,7 +320,8 @@ module _ (t : List ℕ) (past : List Command) (c : Command) (s : Stands t past) 
       ∙ this-first (is BODY c) (isRange c) (c .operands .first) (oneMore (rangeCountIn t)) (rangeCountIn t)
       ∙ counted (isRange c) refl ∙ sym ranges-next
     where
-      counted : (b : Bool) → isRange c ≡ b → cond b (oneMore (rangeCountIn t)) (rangeCountIn t) ≡ cond b (rangeCountIn t + 1) (rangeCountIn t)
+      counted : (b : Bool) → isRange c ≡ b
+          → cond b (oneMore (rangeCountIn t)) (rangeCountIn t) ≡ cond b (rangeCountIn t + 1) (rangeCountIn t)
       counted true e = range-more e
       counted false e = refl
 
@@ -340,7 +346,9 @@ module _ (t : List ℕ) (past : List Command) (c : Command) (s : Stands t past) 
       headed i false e = refl
 
   heads-next : (n f : ℕ) → headIn after n f ≤ rangeCountIn after
-  heads-next n f = rw (head-next t after c written-range n f, range-count-next, ranges-next) (by-command (isRange c) (eqb (c .operands .first) n && eqb (c .operands .second) f))
+  heads-next n f =
+      rw (head-next t after c written-range n f, range-count-next, ranges-next)
+      (by-command (isRange c) (eqb (c .operands .first) n && eqb (c .operands .second) f))
     where
       by-command : (b d : Bool) → cond (b && d) (rangeCountIn t + 1) (headIn t n f) ≤ cond b (rangeCountIn t + 1) (rangeCountIn t)
       by-command true true = omega arith

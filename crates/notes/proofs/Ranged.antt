@@ -10,9 +10,9 @@ use Rattle.model.specs.Command.{Command}
 use Rattle.model.proofs.Logic.{and-left, and-right}
 use Rattle.tables.specs.Bits.{halfOf, withHalf}
 use Rattle.tables.specs.Cells.{entryIn, halfIn, halvesWith}
-use Rattle.tables.specs.Ranges.{Range, range, isRange, highOf, someRange}
-use Rattle.tables.specs.Tables.{lowCells, highCells, linkCells, headCells, rangeCountIn, link, rangeIn, beforeIn, headPlace, headIn, chainIn, rangesIn}
-use Rattle.tables.specs.Writes.{oneMore}
+use Rattle.tables.specs.Ranges.{Range, isRange, highOf, rangeOf, someRange}
+use Rattle.tables.specs.Tables.{lowCells, highCells, linkCells, headCells, rangeCountIn, link, rangeIn, beforeIn, headPlace, headIn}
+use Rattle.tables.specs.Tables.{chainIn, rangesIn}
 use Rattle.tables.proofs.Chains.{chain-below, chain-first, chain-kept}
 use Rattle.notes.proofs.Cases.{same-place}
 use Rattle.notes.proofs.Same.{isOf}
@@ -103,7 +103,7 @@ module _ (t u : List ℕ) (c : Command) (w : RangeWritten t u c) where
       (rw (w .low i, w .high i, w .linked i, no), rw (w .linked i, no))
 
   -- the new one
-  new : isRange c ≡ true → (rangeIn u (rangeCountIn t) ≡ range (c .byte) (c .operands .third) (highOf c)) ×
+  new : isRange c ≡ true → (rangeIn u (rangeCountIn t) ≡ rangeOf c) ×
       (beforeIn u (rangeCountIn t) ≡ headIn t (c .operands .first) (c .operands .second))
   new e =
       let yes : (isRange c && (eqb (rangeCountIn t) (rangeCountIn t) && ltb (rangeCountIn t) 256)) ≡ true = rw (
@@ -121,13 +121,13 @@ module _ (t u : List ℕ) (c : Command) (w : RangeWritten t u c) where
   -- a test of the ranges of a node and a function
   pub some-next : (test : Range → Bool) (n f : ℕ)
       → someRange test (rangesIn u n f)
-      ≡ ((isOf c n f && test (range (c .byte) (c .operands .third) (highOf c))) || someRange test (rangesIn t n f))
+      ≡ ((isOf c n f && test (rangeOf c)) || someRange test (rangesIn t n f))
   unfolding someRange
   some-next test n f = rw (head-next n f) (by-command (isOf c n f) refl)
     where
       by-command : (b : Bool) → isOf c n f ≡ b
           → someRange test (chainIn u (cond b (rangeCountIn t + 1) (headIn t n f)) (cond b (rangeCountIn t + 1) (headIn t n f)))
-          ≡ ((b && test (range (c .byte) (c .operands .third) (highOf c))) || someRange test (rangesIn t n f))
+          ≡ ((b && test (rangeOf c)) || someRange test (rangesIn t n f))
       by-command false e = ap (someRange test)
           (chain-kept t u (headIn t n f) (λ i h. kept i (omega (arith, w .heads n f))) (headIn t n f))
       by-command true e =

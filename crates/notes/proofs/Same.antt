@@ -1,51 +1,49 @@
 -- That a command is this one, by its byte and operands: where the last operands are absent, and for the ranges of arguments.
-use Prim.Native.Nat.{ℕ, _≤_}
-use mathlib.Core.Path.{_≡_, refl, sym, _∙_}
+use Prim.Native.Nat.{ℕ}
+use mathlib.Core.Path.{_≡_, refl, sym, ap, _∙_}
 use mathlib.Core.Bool.{Bool, true, false, cond, _&&_, _||_, and-true, and-false}
-use mathlib.Core.List.{List}
 use native.Mathlib.Omega.{arith}
 use lib.Dec.{leb, eqb}
 use borrow.Author.Tests.{leb-true, leb-false, eqb-true, eq-eqb, ne-eqb}
 use Rattle.model.specs.Table.{ARG, SPAN}
 use Rattle.model.specs.Command.{Command, is, quaternary, ternary, binary}
-use Rattle.model.specs.Declared.{isSame, spans}
-use Rattle.tables.specs.Ranges.{range, isRange, highOf, holds, isThis}
+use Rattle.model.specs.Declared.{isSame, spanPermits}
+use Rattle.tables.specs.Ranges.{range, isRange, rangeOf, holds, isThis}
 
-module _ (b : ℕ) (c : Command) where
-  -- where the last operands are absent, a command is the same if the others are
-  pub same-three : (x y z : ℕ) → (is b c ≡ true → c .operands .fourth ≡ 0)
+-- tests in another order, and one that need not be asked
+and-joined : (a b e : Bool) → ((a && b) && e) ≡ (a && (b && e))
+and-joined true b e = refl
+and-joined false b e = refl
+
+absent : (p a t : Bool) → (p ≡ true → t ≡ true) → (p && (a && t)) ≡ (p && a)
+absent true a t h = rw (h refl) (and-true a)
+absent false a t h = refl
+
+-- where the last operands are absent, a command is the same if the others are
+module _ (b : ℕ) (c : Command) (x y z : ℕ) where
+  pub same-one : (is b c ≡ true → (c .operands .second ≡ 0) × (c .operands .third ≡ 0) × (c .operands .fourth ≡ 0))
+      → isSame b (binary x 0) c ≡ (is b c && eqb (c .operands .first) x)
+  same-one h = absent (is b c) (eqb (c .operands .first) x) _ (λ e. rw (h e .0, h e .1, h e .2))
+
+  pub same-two : (is b c ≡ true → (c .operands .third ≡ 0) × (c .operands .fourth ≡ 0))
+      → isSame b (binary x y) c ≡ (is b c && (eqb (c .operands .first) x && eqb (c .operands .second) y))
+  same-two h =
+      let first = eqb (c .operands .first) x in
+      let second = eqb (c .operands .second) y in
+      let rest = eqb (c .operands .third) 0 && eqb (c .operands .fourth) 0 in
+      ap (λ (r : Bool). is b c && r) (sym (and-joined first second rest))
+      ∙ absent (is b c) (first && second) rest (λ e. rw (h e .0, h e .1))
+
+  pub same-three : (is b c ≡ true → c .operands .fourth ≡ 0)
       → isSame b (ternary x y z) c
       ≡ (is b c && (eqb (c .operands .first) x && (eqb (c .operands .second) y && eqb (c .operands .third) z)))
-  same-three x y z h = by-byte (is b c) h
-    where
-      by-byte : (p : Bool) → (p ≡ true → c .operands .fourth ≡ 0)
-          → (p && (eqb (c .operands .first) x &&
-          (eqb (c .operands .second) y && (eqb (c .operands .third) z && eqb (c .operands .fourth) 0))))
-          ≡ (p && (eqb (c .operands .first) x && (eqb (c .operands .second) y && eqb (c .operands .third) z)))
-      by-byte true h = rw (h refl, and-true (eqb (c .operands .third) z))
-      by-byte false h = refl
-
-  pub same-two : (x y : ℕ) → (is b c ≡ true → (c .operands .third ≡ 0) × (c .operands .fourth ≡ 0))
-      → isSame b (binary x y) c ≡ (is b c && (eqb (c .operands .first) x && eqb (c .operands .second) y))
-  same-two x y h = by-byte (is b c) h
-    where
-      by-byte : (p : Bool) → (p ≡ true → (c .operands .third ≡ 0) × (c .operands .fourth ≡ 0))
-          → (p && (eqb (c .operands .first) x &&
-          (eqb (c .operands .second) y && (eqb (c .operands .third) 0 && eqb (c .operands .fourth) 0))))
-          ≡ (p && (eqb (c .operands .first) x && eqb (c .operands .second) y))
-      by-byte true h = rw (h refl .0, h refl .1, and-true (eqb (c .operands .second) y))
-      by-byte false h = refl
-
-  pub same-one : (x : ℕ) → (is b c ≡ true → (c .operands .second ≡ 0) × (c .operands .third ≡ 0) × (c .operands .fourth ≡ 0))
-      → isSame b (binary x 0) c ≡ (is b c && eqb (c .operands .first) x)
-  same-one x h = by-byte (is b c) h
-    where
-      by-byte : (p : Bool) → (p ≡ true → (c .operands .second ≡ 0) × (c .operands .third ≡ 0) × (c .operands .fourth ≡ 0))
-          → (p && (eqb (c .operands .first) x &&
-          (eqb (c .operands .second) 0 && (eqb (c .operands .third) 0 && eqb (c .operands .fourth) 0))))
-          ≡ (p && eqb (c .operands .first) x)
-      by-byte true h = rw (h refl .0, h refl .1, h refl .2, and-true (eqb (c .operands .first) x))
-      by-byte false h = refl
+  same-three h =
+      let first = eqb (c .operands .first) x in
+      let second = eqb (c .operands .second) y in
+      let third = eqb (c .operands .third) z in
+      let fourth = eqb (c .operands .fourth) 0 in
+      rw (← and-joined second third fourth, ← and-joined first (second && third) fourth)
+      (absent (is b c) (first && (second && third)) fourth (λ e. rw (h e)))
 
 -- one argument, as a range
 one-argument : (x v : ℕ) → (leb x v && leb v x) ≡ eqb x v
@@ -62,10 +60,6 @@ and-twice true true true = refl
 and-twice true true false = refl
 and-twice true false e = refl
 and-twice false b e = refl
-
-and-joined : (a b e : Bool) → ((a && b) && e) ≡ (a && (b && e))
-and-joined true b e = refl
-and-joined false b e = refl
 
 or-joined : (a o s : Bool) → (a || (o || s)) ≡ ((a || o) || s)
 or-joined true o s = refl
@@ -97,7 +91,7 @@ module _ (c : Command) where
 
     -- it is this ARG, and this SPAN
     pub argument-same : (v : ℕ) → (is ARG c ≡ true → c .operands .fourth ≡ 0)
-        → (isOf && isThis (range ARG v v) (range (c .byte) (c .operands .third) (highOf c))) ≡ isSame ARG (ternary n f v) c
+        → (isOf && isThis (range ARG v v) (rangeOf c)) ≡ isSame ARG (ternary n f v) c
     argument-same v h =
         let a = eqb (c .operands .first) n in
         let b = eqb (c .operands .second) f in
@@ -107,7 +101,7 @@ module _ (c : Command) where
         (λ e. rw (h e) (and-twice a b (eqb x v))) (λ e. and-false (a && b)) refl
 
     pub span-same : (low high : ℕ)
-        → (isOf && isThis (range SPAN low high) (range (c .byte) (c .operands .third) (highOf c)))
+        → (isOf && isThis (range SPAN low high) (rangeOf c))
         ≡ isSame SPAN (quaternary n f low high) c
     span-same low high =
         let a = eqb (c .operands .first) n in
@@ -120,8 +114,8 @@ module _ (c : Command) where
 
     -- the call with this argument is permitted by it, or by one of the commands before
     pub call-same : (v : ℕ) (o s : Bool) → (is ARG c ≡ true → c .operands .fourth ≡ 0)
-        → ((isOf && holds v (range (c .byte) (c .operands .third) (highOf c))) || (o || s))
-        ≡ ((isSame ARG (ternary n f v) c || o) || (spans n f v c || s))
+        → ((isOf && holds v (rangeOf c)) || (o || s))
+        ≡ ((isSame ARG (ternary n f v) c || o) || (spanPermits n f v c || s))
     call-same v o s h =
         let a = eqb (c .operands .first) n in
         let b = eqb (c .operands .second) f in

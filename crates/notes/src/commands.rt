@@ -1,15 +1,14 @@
 // What a command writes to the tables, where it is more than a mark.
 ghost use mathlib.Core.Path.{_≡_};
-ghost use mathlib.Core.Bool.{cond};
-ghost use Prim.Native.Nat.{_+_, _-_, _≤_};
-ghost use Rattle.model.specs.Table.{FLOW, NODE, FUN};
+ghost use mathlib.Core.Bool.{true, cond};
+ghost use Prim.Native.Nat.{_-_};
+ghost use Rattle.model.specs.Table.{FLOW, NODE, VAR, FUN};
 ghost use Rattle.command.specs.Rows.{isHandlerByte};
-ghost use Rattle.tables.specs.Cells.{cellCount, putIn};
-ghost use Rattle.tables.specs.Tables.{countIn, openIn, flowIn, lengthIn, flowCells, answerCells, lengthCells, progressCells, bodyCells};
+ghost use Rattle.tables.specs.Cells.{putIn};
+ghost use Rattle.tables.specs.Tables.{countIn, openIn, flowIn, lengthIn, flowCells, scopeCells, ownerCells, startCells, answerCells, lengthCells, progressCells, bodyCells};
 ghost use Rattle.tables.specs.Tables.{startedCells, firstCells, messageCells};
 ghost use Rattle.tables.specs.Ranges.{range};
-ghost use Rattle.tables.specs.Writes.{oneMore};
-ghost use Rattle.notes.specs.Notes.{rangeNoted};
+ghost use Rattle.tables.specs.Writes.{oneMore, written, rangeWrites};
 use crate::one_less;
 use crate::one_more;
 use command::bytes;
@@ -23,7 +22,6 @@ use declared::length_of;
 use declared::open_node;
 use declared::range_count;
 use tables::cells;
-use tables::cells::Section;
 use tables::cells::put;
 use tables::cells::put_half;
 
@@ -37,29 +35,23 @@ pub(crate) fn note_node(tables: &mut [u32])
     put(tables, cells::FLOW, nodes, one_less(flows));
 }
 
-// The three operands of a command, each in its section, at the number that the command has among those with its byte.
-pub(crate) fn note_operands(
-    tables: &mut [u32],
-    c: Command,
-    first: Section,
-    second: Section,
-    third: Section,
-)
-    requires { ⌜ (first .0 + first .1 ≤ cellCount) × (second .0 + second .1 ≤ cellCount) × (third .0 + third .1 ≤ cellCount) ⌝ }
+// Scope, owner and start of the next variable.
+pub(crate) fn note_variable(tables: &mut [u32], c: Command)
     ensures { λ _. ⌜ now (tables .exit) ≡
-        putIn (putIn (putIn (now (tables .entry)) first (countIn (now (tables .entry)) (c .byte)) (c .first))
-        second (countIn (now (tables .entry)) (c .byte)) (c .second))
-        third (countIn (now (tables .entry)) (c .byte)) (c .third) ⌝ }
+        putIn (putIn (putIn (now (tables .entry)) scopeCells (countIn (now (tables .entry)) VAR) (c .first))
+        ownerCells (countIn (now (tables .entry)) VAR) (c .second))
+        startCells (countIn (now (tables .entry)) VAR) (c .third) ⌝ }
 {
-    let number = count_of(tables, c.byte) as usize;
-    put(tables, first, number, c.first);
-    put(tables, second, number, c.second);
-    put(tables, third, number, c.third);
+    let number = count_of(tables, bytes::VAR) as usize;
+    put(tables, cells::SCOPE, number, c.first);
+    put(tables, cells::OWNER, number, c.second);
+    put(tables, cells::INITIAL, number, c.third);
 }
 
 // One range more: the last of its node and function, with its lowest and highest argument, its byte, and the range before it.
 pub(crate) fn note_range(tables: &mut [u32], byte: u8, n: NodeNum, f: FunNum, low: u32, high: u32)
-    ensures { λ _. ⌜ now (tables .exit) ≡ rangeNoted (now (tables .entry)) (n .0) (f .0) (range byte low high) ⌝ }
+    ensures { λ _. ⌜ now (tables .exit) ≡ written (now (tables .entry)) (rangeWrites (now (tables .entry)) true (n .0) (f .0)
+        (range byte low high)) ⌝ }
 {
     let count = range_count(tables);
     let before = last_range(tables, n, f);

@@ -14,9 +14,9 @@ use commands::note_body;
 use commands::note_function;
 use commands::note_handler;
 use commands::note_node;
-use commands::note_operands;
 use commands::note_range;
 use commands::note_start;
+use commands::note_variable;
 use declared::count_of;
 use tables::cells;
 use tables::cells::mark;
@@ -53,7 +53,7 @@ fn note_content(tables: &mut [u32], c: Command)
     let byte = c.byte;
     match byte {
         bytes::NODE => note_node(tables),
-        bytes::VAR => note_operands(tables, c, cells::SCOPE, cells::OWNER, cells::INITIAL),
+        bytes::VAR => note_variable(tables, c),
         bytes::FUN => note_function(tables, c),
         bytes::WIRE => mark(tables, cells::WIRES, first * 4 + second, c.third as usize),
         bytes::ANY => mark(tables, cells::CALLS, first, second),

@@ -13,7 +13,7 @@ use Rattle.model.specs.Run.{runFrom, monitoredRun}
 use Rattle.model.specs.Output.{traceBytes, numbersBytes, nodesBytes, variablesBytes, snapshotBytes}
 use Rattle.model.specs.Refusal.{anyOf, groupFalls, violation, decodeFrom, decode, refuseFirst, decodeJob, decodeFor}
 use Rattle.model.specs.Result.{report, monitored}
-use Rattle.model.specs.Examples.{enough, times, k1, k1Read, inFour}
+use Rattle.model.specs.Examples.{enough, times, k1, k1Read, four}
 use Rattle.printing.specs.Example.{k1Lines, K1Prints}
 
 pub k1-prints : K1Prints
@@ -26,7 +26,7 @@ unfolding operandsIn operandsOf isAmong largestIn largestOf
     traceBytes numbersBytes nodesBytes variablesBytes snapshotBytes
     anyOf groupFalls violation decodeFrom decode refuseFirst decodeJob decodeFor
     report monitored
-    enough times k1 k1Read inFour
+    enough times k1 k1Read four
     digitsWithin decimal field fields joined entryLine endLine messagesAt partAt nodeLine variableLine snapshotLines runLines
     k1Lines
 k1-prints = refl

@@ -3,7 +3,7 @@ use Prim.Native.Nat.{ℕ}
 use mathlib.Core.Path.{_≡_}
 use mathlib.Core.List.{List, [], _∷_, _++_}
 use Rattle.model.specs.Result.{monitored}
-use Rattle.model.specs.Examples.{enough, k1, k1Read, inFour}
+use Rattle.model.specs.Examples.{enough, k1, k1Read, four}
 use Rattle.printing.specs.Printing.{resultLines}
 
 -- the 13 lines of the paper, a line each
@@ -25,4 +25,4 @@ k1Lines =
 
 -- the definitions give them
 abbrev pub K1Prints : Type 0
-K1Prints = resultLines (k1 k1Read (inFour 2) 0) (monitored (k1 k1Read (inFour 2) 0) enough) ≡ k1Lines
+K1Prints = resultLines (k1 k1Read (four 2) 0) (monitored (k1 k1Read (four 2) 0) enough) ≡ k1Lines

@@ -3,7 +3,7 @@ use Prim.Native.Nat.{ℕ}
 use mathlib.Core.Bool.{Bool, false, cond, _&&_, _||_}
 use mathlib.Core.List.{List, [], _∷_}
 use lib.Dec.{leb, eqb}
-use Rattle.model.specs.Table.{ARG, SPAN}
+use Rattle.model.specs.Table.{SPAN, isRangeByte}
 use Rattle.model.specs.Command.{Command, is}
 
 -- a range: the byte of its command, its lowest and its highest argument
@@ -18,11 +18,15 @@ range b low high = record { byte = b; low = low; high = high }
 
 -- the command is an ARG or a SPAN
 abbrev pub isRange : Command → Bool
-isRange c = is ARG c || is SPAN c
+isRange c = isRangeByte (c .byte)
 
 -- the highest argument of such a command; that of an ARG is its only one
 abbrev pub highOf : Command → ℕ
 highOf c = cond (is SPAN c) (c .operands .fourth) (c .operands .third)
+
+-- its range
+abbrev pub rangeOf : Command → Range
+rangeOf c = range (c .byte) (c .operands .third) (highOf c)
 
 -- some range passes a test
 unfoldable pub someRange : (Range → Bool) → List Range → Bool

@@ -1,5 +1,5 @@
 -- The tables stand for the commands read so far: each name in `Tables` has the value that the model gives it, also where nothing is
--- declared; and no cell holds anything else than what is written for these commands.
+-- declared; `heads` bounds the numbers of ranges; and no cell holds anything else than what is written for these commands.
 use Prim.Native.Nat.{ℕ, _+_, _≤_, _<_}
 use mathlib.Core.Path.{_≡_}
 use mathlib.Core.Bool.{_||_}
@@ -8,7 +8,8 @@ use lib.Dec.{ltb}
 use lib.ListN.{length}
 use Rattle.model.specs.Table.{WIRE, ANY, ARG, READ, WRITE, SPAN, BODY, groupOf}
 use Rattle.model.specs.Command.{Command, quaternary, ternary, binary}
-use Rattle.model.specs.Declared.{countOf, occurs, inSpan, flowOf, scopeOf, ownerOf, startOf, funAnswerOf, openBody, bodyLength, startsOf, startedIn}
+use Rattle.model.specs.Declared.{countOf, occurs, inSpan, flowOf, scopeOf, ownerOf, startOf, funAnswerOf, openBody, bodyLength, startsOf}
+use Rattle.model.specs.Declared.{startedIn}
 use Rattle.model.specs.Refusal.{groupFalls}
 use Rattle.tables.specs.Cells.{cellCount}
 use Rattle.tables.specs.Tables.{countIn, groupIn, openIn, flowIn, scopeIn, ownerIn, startIn, funAnswerIn, lengthIn, bodyIn, startedAt}

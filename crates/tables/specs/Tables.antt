@@ -141,7 +141,8 @@ anyIn t n f = markIn t anyCells n f
 abbrev pub rangeCountIn : List ℕ → ℕ
 rangeCountIn t = entryIn t progressCells 2
 
--- the link of a range: the byte of its command, and `before`
+-- what is kept of a range besides its arguments, in one number: the byte of its command, and the range before it of the same node and
+-- function, by its number plus 1, or 0 if there is none
 abbrev pub link : ℕ → ℕ → ℕ
 link b before = b * 65536 + before % 65536
 
@@ -149,7 +150,7 @@ link b before = b * 65536 + before % 65536
 abbrev pub rangeIn : List ℕ → ℕ → Range
 rangeIn t i = range (entryIn t linkCells i / 65536) (entryIn t lowCells i) (entryIn t highCells i)
 
--- the range before range i of the same node and function: its number and 1, 0 if there is none
+-- the range before range i: its number plus 1, or 0
 abbrev pub beforeIn : List ℕ → ℕ → ℕ
 beforeIn t i = entryIn t linkCells i % 65536
 
@@ -157,11 +158,11 @@ beforeIn t i = entryIn t linkCells i % 65536
 abbrev pub headPlace : ℕ → ℕ → ℕ
 headPlace n f = n * 32 + f
 
--- the last range of a node and a function: its number and 1, 0 if there is none
+-- the last range of a node and a function: its number plus 1, or 0 if there is none
 abbrev pub headIn : List ℕ → ℕ → ℕ → ℕ
 headIn t n f = cond (ltb f 32) (halfIn t headCells (headPlace n f)) 0
 
--- the ranges from one back, each given by the one after it; they are sought among the first `k`
+-- the ranges from range `at` - 1 back, each given by the one after it, as far as they are among the first `k`
 unfoldable pub chainIn : List ℕ → ℕ → ℕ → List Range
 chainIn t zero at = []
 chainIn t (suc k) at = cond (eqb at (suc k)) (rangeIn t k ∷ chainIn t k (beforeIn t k)) (chainIn t k at)

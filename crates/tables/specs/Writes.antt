@@ -8,7 +8,7 @@ use Rattle.model.specs.Command.{Command, is}
 use Rattle.model.specs.Declared.{isHandler}
 use Rattle.tables.specs.declared.cells.Section.{Section}
 use Rattle.tables.specs.Cells.{putIn, isMarkPlace, markCell, marksWith, halvesWith, blank}
-use Rattle.tables.specs.Ranges.{isRange, highOf}
+use Rattle.tables.specs.Ranges.{Range, isRange, rangeOf}
 use Rattle.tables.specs.Tables.{countIn, openIn, flowIn, lengthIn, flowCells, scopeCells, ownerCells, startCells, answerCells, lengthCells}
 use Rattle.tables.specs.Tables.{countCells, progressCells, bodyCells, startedCells, firstCells, messageCells, lowCells, highCells}
 use Rattle.tables.specs.Tables.{linkCells, readCells, writeCells, anyCells, wireCells, headCells, rangeCountIn, link, headIn, headPlace}
@@ -49,6 +49,16 @@ written t (w ∷ ws) = written (made t w) ws
 abbrev pub handlerWrite : List ℕ → Command → Write
 handlerWrite t c = write (isHandler c) lengthCells (openIn t) (oneMore (lengthIn t (openIn t)))
 
+-- one range more of a node and a function: it is the last of them, with its arguments, and linked to the one before it
+abbrev pub rangeWrites : List ℕ → Bool → ℕ → ℕ → Range → List Write
+rangeWrites t on n f r =
+    halfWrite t on headCells (headPlace n f) (oneMore (rangeCountIn t))
+    ∷ write on lowCells (rangeCountIn t) (r .low)
+    ∷ write on highCells (rangeCountIn t) (r .high)
+    ∷ write on linkCells (rangeCountIn t) (link (r .byte) (headIn t n f))
+    ∷ write on progressCells 2 (oneMore (rangeCountIn t))
+    ∷ []
+
 -- the writes for what commands declare and permit, each made for those that it belongs to, by the cells before
 abbrev pub declaredWrites : List ℕ → Command → List Write
 declaredWrites t c =
@@ -59,12 +69,8 @@ declaredWrites t c =
     ∷ write (is FUN c) answerCells (countIn t FUN) (c .operands .first)
     ∷ markWrite t (is WIRE c) wireCells (c .operands .first * 4 + c .operands .second) (c .operands .third)
     ∷ markWrite t (is ANY c) anyCells (c .operands .first) (c .operands .second)
-    ∷ halfWrite t (isRange c) headCells (headPlace (c .operands .first) (c .operands .second)) (oneMore (rangeCountIn t))
-    ∷ write (isRange c) lowCells (rangeCountIn t) (c .operands .third)
-    ∷ write (isRange c) highCells (rangeCountIn t) (highOf c)
-    ∷ write (isRange c) linkCells (rangeCountIn t) (link (c .byte) (headIn t (c .operands .first) (c .operands .second)))
-    ∷ write (isRange c) progressCells 2 (oneMore (rangeCountIn t))
-    ∷ markWrite t (is READ c) readCells (c .operands .first) (c .operands .second)
+    ∷ rangeWrites t (isRange c) (c .operands .first) (c .operands .second) (rangeOf c)
+    ++ markWrite t (is READ c) readCells (c .operands .first) (c .operands .second)
     ∷ markWrite t (is WRITE c) writeCells (c .operands .first) (c .operands .second)
     ∷ write (is BODY c) progressCells 1 (c .operands .first)
     ∷ write (is BODY c) bodyCells (c .operands .first) 1

@@ -14,10 +14,10 @@ use Rattle.model.specs.Declared.{Instruction}
 use Rattle.model.specs.Program.{Program, sharedIn, programOf}
 use Rattle.model.specs.State.{State, positionAt}
 use Rattle.model.specs.Turn.{Entry, entry, Turned, completed, stopped, entryOf, instructionAt, turn}
-use Rattle.model.specs.Valid.{Valid, InRange, NamedInstruction}
+use Rattle.model.specs.Valid.{Valid, Allowed, NamedInstruction}
 use Rattle.model.proofs.Growth.{length-handler}
 use Rattle.model.proofs.Positions.{Placed}
-use Rattle.model.proofs.Ranges.{handler-named}
+use Rattle.model.proofs.Naming.{handler-named}
 use Rattle.model.proofs.Valid.{limits}
 use Rattle.model.proofs.Ways.{either, turn-by, monitored-by}
 use Rattle.entries.specs.Entries.{ruleOf}
@@ -30,7 +30,7 @@ Makes Q (stopped k e) = Unit {0}
 
 module _ (i : Instruction) (named : NamedInstruction i) where
   -- the operand of each command that leaves an entry
-  operand-small : (b : ℕ) → eqb (i .byte) b ≡ true → InRange (kindAt b 0) (i .operand)
+  operand-small : (b : ℕ) → eqb (i .byte) b ≡ true → Allowed (kindAt b 0) (i .operand)
   operand-small b e = let p : i .byte ≡ b = eqb-true (i .byte) b e in rw p at (named .operand)
 
   pub left-narrow : (P : Program) (s : State) (n : ℕ) → n < 256 → Narrow (entryOf P s n i)

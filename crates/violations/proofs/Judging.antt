@@ -9,7 +9,7 @@ use lib.Dec.{ltb, leb, eqb}
 use lib.ListN.{getD}
 use borrow.Author.Tests.{eqb-true, ne-eqb}
 use Rattle.model.specs.Table.{FLOW, NODE, VAR, FUN, WIRE, ANY, ARG, READ, WRITE, SPAN, BODY, GET, PUT, PLUS, START, operandsIn}
-use Rattle.model.specs.Table.{operandsOf, kindAt, start, answer, value, jump, low, high, absent, groupOf}
+use Rattle.model.specs.Table.{operandsOf, isRangeByte, kindAt, start, answer, value, jump, low, high, absent, groupOf}
 use Rattle.model.specs.Command.{Command, Operands, quaternary, ternary, binary}
 use Rattle.model.specs.Declared.{countAmong, occurs, openBody, flowOf, sees}
 use Rattle.model.specs.Refusal.{anyOf, isReached, exceedsCount, Counts, namesNothing, undeclared, outOfReach, mustDiffer, repeated}
@@ -18,7 +18,7 @@ use Rattle.model.specs.Valid.{Plain}
 use Rattle.model.proofs.Logic.{true-false, or-first, or-second, any-next, any-last}
 use Rattle.command.specs.declared.table.Row.{Row as Shape}
 use Rattle.command.specs.declared.read.Command.{Command as Code}
-use Rattle.command.specs.Rows.{unpacked, kindOf, isRangeByte, sharing, limitOf, Says, isHandlerByte}
+use Rattle.command.specs.Rows.{unpacked, kindOf, sharing, limitOf, Says, isHandlerByte}
 use Rattle.command.specs.Reading.{commandOf, Known}
 use Rattle.command.proofs.Known.{byte-low, permission-byte}
 use Rattle.command.proofs.Shaped.{width-zero}
@@ -88,10 +88,22 @@ module _ (t : List ℕ) (c : Code) (past : List Command) (s : Stands t past) whe
   -- 5
   pub exceeds-same :
       (row : Shape) (have opened inside : ℕ) (body : Bool) → Known c → row ≡ unpacked (c .row)
-      → have ≡ cond (isRangeByte (c .byte)) (rangeCountIn t) (countIn t (c .byte)) → opened ≡ openIn t → inside ≡ lengthIn t opened → body ≡ isHandlerByte (c .byte)
+      → have ≡ cond (isRangeByte (c .byte)) (rangeCountIn t) (countIn t (c .byte)) → opened ≡ openIn t
+      → inside ≡ lengthIn t opened → body ≡ isHandlerByte (c .byte)
       → ((not (eqb (row .most) 0) && leb (row .most) have) || (body && leb 64 inside)) ≡ exceedsCount past (commandOf c)
   exceeds-same row have opened inside body k is h o i b =
-      rw (any-next, any-last, is, reached (c .byte) _ have past (h ∙ sym (counted-among k)), k .row .most, b, i, o, s .lengths (openIn t), s .opened)
+      rw (
+        any-next,
+        any-last,
+        is,
+        reached (c .byte) _ have past (h ∙ sym (counted-among k)),
+        k .row .most,
+        b,
+        i,
+        o,
+        s .lengths (openIn t),
+        s .opened,
+      )
 
   -- 6, by the row of the command and what the tables count
   module _ (row : Shape) (d : Counts) (bodies : ℕ) (k : Known c) (is : row ≡ unpacked (c .row)) (counted : d ≡ countsIn t)
@@ -133,9 +145,12 @@ module _ (t : List ℕ) (c : Code) (past : List Command) (s : Stands t past) whe
         → row .length ≡ row .«first_width» → false ≡ undeclared past (commandOf c)
     undeclared-single e f g l =
         let says : Says (c .byte) row = rw is (k .row) in
-        let second : kindOf (row .«second_kind») ≡ absent = says .kind₂ ∙ width-zero _ (omega (arith, says .length, says .width₁, says .width₂)) in
-        let third : kindOf (row .«third_kind») ≡ absent = says .kind₃ ∙ width-zero _ (omega (arith, says .length, says .width₁, says .width₃)) in
-        let fourth : kindOf (row .«fourth_kind») ≡ absent = says .kind₄ ∙ width-zero _ (omega (arith, says .length, says .width₁, says .width₄)) in
+        let second : kindOf (row .«second_kind») ≡ absent = says .kind₂
+        ∙ width-zero _ (omega (arith, says .length, says .width₁, says .width₂)) in
+        let third : kindOf (row .«third_kind») ≡ absent = says .kind₃
+        ∙ width-zero _ (omega (arith, says .length, says .width₁, says .width₃)) in
+        let fourth : kindOf (row .«fourth_kind») ≡ absent = says .kind₄
+        ∙ width-zero _ (omega (arith, says .length, says .width₁, says .width₄)) in
         sym (undeclared-as ∙ rw (any-next, any-next, any-next, any-next, any-next, any-last, e, f, g, second, third, fourth))
 
     -- all but the last are false

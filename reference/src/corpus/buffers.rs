@@ -56,7 +56,7 @@ fn some_lengths() -> [Lengths; 6] {
     [[0; 3], [1; 3], [63, 2_624, 4_096], [62, 2_624, 4_096], [63, 2_623, 4_096], [70, 2_631, 4_095]]
 }
 
-/// A short job for each of the refusals 1 to 9, which come before the buffers are looked at.
+/// A short job for each of 01's refusals 1 to 9, which come before the buffers are looked at.
 fn refused() -> [Job; 9] {
     [
         vec![],

@@ -17,8 +17,8 @@ cast-second c = search needs
 note-node-requires : tie.Need-note-node-requires
 note-node-requires c κs = search needs
 
-note-operands-requires : tie.Need-note-operands-requires
-note-operands-requires c κs = search needs
+note-variable-requires : tie.Need-note-variable-requires
+note-variable-requires c κs = search needs
 
 note-function-requires : tie.Need-note-function-requires
 note-function-requires c κs = search needs
@@ -77,7 +77,7 @@ unfolding made
 returns-2 c =
     let p = c .before .before .before .before in
     let a = p .before .before .before .before .args in
-    known-arm (now (a .tables)) (a .c) _ _ (p .match .keys2) (rw (p .match .keys2) at (c .before .before .note-operands .ensures))
+    known-arm (now (a .tables)) (a .c) _ _ (p .match .keys2) (c .before .before .note-variable .ensures)
 
 same-length-3 : tie.Need-same-length-3
 same-length-3 c = search needs
@@ -189,7 +189,7 @@ note-content-spec =
     cast-first
     cast-second
     note-node-requires
-    note-operands-requires
+    note-variable-requires
     note-function-requires
     mul-mark
     add-mark

@@ -9,7 +9,8 @@ unpack-requires : tie.Need-unpack-requires
 unpack-requires c κs = search needs
 
 returns : tie.Need-returns
-returns c = none-follows _ _ _ _ (c .before .before .before .before .pre) _ refl (rw (c .before .before .unpack .ensures) at (c .if1 .taken))
+returns c =
+    none-follows _ _ _ _ (c .before .before .before .before .pre) _ refl (rw (c .before .before .unpack .ensures) at (c .if1 .taken))
 
 add-second-at : tie.Need-add-second-at
 add-second-at c = search needs
@@ -48,7 +49,9 @@ operand-requires-3 c κs =
     fourth-fits _ _ _ _ (p7 .before .before .pre) _ (p7 .unpack .ensures)
 
 returns-2 : tie.Need-returns-2
-returns-2 c = rw (c .operand3 .ensures, c .before .operand2 .ensures, c .before .before .operand .ensures, c .before .before .before .before .before .before .before .before .unpack .ensures)
+returns-2 c =
+    let p2 = c .before .before in
+    rw (c .operand3 .ensures, c .before .operand2 .ensures, p2 .operand .ensures, p2 .before .before .before .before .before .before .unpack .ensures)
 
 pub read-others-spec : {M : Type 1} → statement M
 read-others-spec =

@@ -1,6 +1,8 @@
 -- `notes::commands::note_range` meets its contract.
 use mathlib.Core.Path.{_∙_}
 use borrow.Author.Needs.{needs}
+use Rattle.tables.specs.Cells.{putHalf}
+use Rattle.tables.specs.Writes.{made}
 use Rattle.notes.proofs.commands.note_range.Statement.{statement}
 use Rattle.notes.proofs.commands.note_range.Tie as tie
 
@@ -53,6 +55,7 @@ same-length : tie.Need-same-length
 same-length c = search needs
 
 returns : tie.Need-returns
+unfolding made putHalf
 returns c =
     let p6 = c .before .before .before .before .before .before in
     let p10 = p6 .before .before .before .before in

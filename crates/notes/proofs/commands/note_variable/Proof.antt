@@ -1,8 +1,8 @@
--- `notes::commands::note_operands` meets its contract.
+-- `notes::commands::note_variable` meets its contract.
 use mathlib.Core.Path.{_∙_}
 use borrow.Author.Needs.{needs}
-use Rattle.notes.proofs.commands.note_operands.Statement.{statement}
-use Rattle.notes.proofs.commands.note_operands.Tie as tie
+use Rattle.notes.proofs.commands.note_variable.Statement.{statement}
+use Rattle.notes.proofs.commands.note_variable.Tie as tie
 
 count-of-requires : tie.Need-count-of-requires
 count-of-requires c κs = search needs
@@ -28,8 +28,8 @@ returns c =
     let p10 = p6 .before .before .before .before in
     c .before .before .put3 .ensures ∙ rw (p6 .put2 .ensures, p10 .put .ensures, p10 .before .before .count-of .ensures)
 
-pub note-operands-spec : {M : Type 1} → statement M
-note-operands-spec =
+pub note-variable-spec : {M : Type 1} → statement M
+note-variable-spec =
     tie.close
     (tie.spec
     count-of-requires

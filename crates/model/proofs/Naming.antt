@@ -18,36 +18,37 @@ use Rattle.model.proofs.Lists.{only-each}
 use Rattle.model.proofs.Growth.{count-grows, declared-older}
 use Rattle.model.proofs.Valid.{passes, named}
 
--- a command with the operands of another is in the same range
-same-named : (b : ℕ) (x : Operands) (c : Command) → isSame b x c ≡ true → Named (c .byte) (c .operands) → Named b x
-same-named b x c e n =
-    let t = and-right (is b c) _ e in
-    let u = and-right (eqb (c .operands .first) (x .first)) _ t in
-    let p : c .byte ≡ b = eqb-true (c .byte) b (and-left (is b c) _ e) in
-    let q : c .operands .first ≡ x .first = eqb-true (c .operands .first) (x .first) (and-left (eqb (c .operands .first) (x .first)) _ t) in
-    let r : c .operands .second ≡ x .second = eqb-true (c .operands .second) (x .second)
-    (and-left (eqb (c .operands .second) (x .second)) _ u) in
-    let w = and-right (eqb (c .operands .second) (x .second)) _ u in
-    let s : c .operands .third ≡ x .third = eqb-true (c .operands .third) (x .third)
-    (and-left (eqb (c .operands .third) (x .third)) _ w) in
-    let y : c .operands .fourth ≡ x .fourth = eqb-true (c .operands .fourth) (x .fourth)
-    (and-right (eqb (c .operands .third) (x .third)) _ w) in
-    record {
-      first = rw (p, q) at (n .first);
-      second = rw (p, r) at (n .second);
-      third = rw (p, s) at (n .third);
-      fourth = rw (p, y) at (n .fourth);
-    }
+-- a command that is the same as another has its byte and operands
+module _ (b : ℕ) (x : Operands) (c : Command) (e : isSame b x c ≡ true) where
+  same-byte : c .byte ≡ b
+  same-byte = eqb-true (c .byte) b (and-left (is b c) _ e)
+
+  same-operands : c .operands ≡ x
+  same-operands =
+      let t = and-right (is b c) _ e in
+      let u = and-right (eqb (c .operands .first) (x .first)) _ t in
+      let w = and-right (eqb (c .operands .second) (x .second)) _ u in
+      let p = eqb-true (c .operands .first) (x .first) (and-left (eqb (c .operands .first) (x .first)) _ t) in
+      let q = eqb-true (c .operands .second) (x .second) (and-left (eqb (c .operands .second) (x .second)) _ u) in
+      let r = eqb-true (c .operands .third) (x .third) (and-left (eqb (c .operands .third) (x .third)) _ w) in
+      let s = eqb-true (c .operands .fourth) (x .fourth) (and-right (eqb (c .operands .third) (x .third)) _ w) in
+      λ i. record { first = p i; second = q i; third = r i; fourth = s i }
+
+-- what holds of every valid command holds of the byte and operands of one that occurs
+pub occurs-each :
+    (Q : ℕ → Operands → Type 0) → ((past : List Command) (c : Command) → Valid (c ∷ past) → Q (c .byte) (c .operands))
+    → (past : List Command) → Valid past → (b : ℕ) (x : Operands) → occurs b x past ≡ true → Q b x
+unfolding occurs
+occurs-each Q each [] v b x e = true-false (sym e)
+occurs-each Q each (c ∷ past) v b x e = by-command (isSame b x c) refl e (occurs-each Q each past (v .0) b x)
+  where
+    by-command : (t : Bool) → isSame b x c ≡ t → (t || occurs b x past) ≡ true → (occurs b x past ≡ true → Q b x) → Q b x
+    by-command true p q ih = rw (same-byte b x c p, same-operands b x c p) at (each past c v)
+    by-command false p q ih = ih q
 
 -- what occurs is in range, so that a table that ends there misses nothing
 pub occurs-inside : (past : List Command) → Valid past → (b : ℕ) (x : Operands) → occurs b x past ≡ true → Named b x
-unfolding occurs
-occurs-inside [] v b x e = true-false (sym e)
-occurs-inside (c ∷ past) v b x e = by-command (isSame b x c) refl e (occurs-inside past (v .0) b x)
-  where
-    by-command : (t : Bool) → isSame b x c ≡ t → (t || occurs b x past) ≡ true → (occurs b x past ≡ true → Named b x) → Named b x
-    by-command true p q ih = same-named b x c p (named past c v)
-    by-command false p q ih = ih q
+occurs-inside = occurs-each Named named
 
 pub occurs-outside : (past : List Command) → Valid past → (b : ℕ) (x : Operands) → ¬ Named b x → occurs b x past ≡ false
 occurs-outside past v b x n = by-test (occurs b x past) refl
