@@ -1,4 +1,4 @@
--- What lies inside the range of what is declared, and that nothing lies outside, in every accepted job.
+-- What is named is among what can be declared, and nothing else is, in every accepted job.
 use Prim.Native.Nat.{ℕ, _+_, _-_, _≤_, _<_, zero-le}
 use mathlib.Core.Path.{_≡_, refl, sym, ap, _∙_}
 use mathlib.Core.Bool.{Bool, true, false, cond, _&&_, _||_}
@@ -46,7 +46,7 @@ occurs-each Q each (c ∷ past) v b x e = by-command (isSame b x c) refl e (occu
     by-command true p q ih = rw (same-byte b x c p, same-operands b x c p) at (each past c v)
     by-command false p q ih = ih q
 
--- what occurs is in range, so that a table that ends there misses nothing
+-- what occurs is allowed, so that a table that ends there misses nothing
 pub occurs-inside : (past : List Command) → Valid past → (b : ℕ) (x : Operands) → occurs b x past ≡ true → Named b x
 occurs-inside = occurs-each Named named
 
@@ -80,7 +80,7 @@ handler-outside (c ∷ past) v n h =
     by-handler true e = e
     by-handler false e = refl
 
--- an instruction of a handler names what is in range
+-- an instruction of a handler names what is allowed
 pub handler-named : (past : List Command) → Valid past → (n i : ℕ) → i < length (handlerOf past n)
     → NamedInstruction (getD (handlerOf past n) i (instruction 0 0))
 unfolding handlerOf

@@ -1,4 +1,4 @@
--- The commands of every accepted job passed the tests 2 to 8 and 15; their counts keep the limits and their operands are in range.
+-- The commands of every accepted job passed the tests 2 to 8 and 15; their counts keep the limits and their operands are allowed.
 use Prim.Native.Nat.{ℕ, suc, _+_, _≤_, _<_, zero-le}
 use mathlib.Core.Path.{_≡_, refl, sym}
 use mathlib.Core.Bool.{Bool, true, false, cond, not, _&&_, _||_}
@@ -150,10 +150,10 @@ limits past v =
       handlers = handler-limit past v;
     }
 
--- an operand that names something is in range
+-- an operand that names something is allowed
 module _ (past : List Command) (l : Limits past) (s : ℕ) where
-  owner-range : (x : ℕ) → noOwner (countsOf past) s x ≡ false → x < 32
-  owner-range x = by-scope (eqb s 0) (eqb s 1)
+  owner-allowed : (x : ℕ) → noOwner (countsOf past) s x ≡ false → x < 32
+  owner-allowed x = by-scope (eqb s 0) (eqb s 1)
     where
       zero-owner : (t : Bool) → eqb x 0 ≡ t → not t ≡ false → x < 32
       zero-owner true p e = let z = eqb-true x 0 p in omega arith
@@ -166,7 +166,7 @@ module _ (past : List Command) (l : Limits past) (s : ℕ) where
 
   allowed : (k : OperandKind) (x : ℕ) → (k ≡ absent → x ≡ 0) → namesNothing (countsOf past) s k x ≡ false → Allowed k x
   allowed scope x z e = omega (arith, ltb-false 2 x e)
-  allowed owner x z e = owner-range x e
+  allowed owner x z e = owner-allowed x e
   allowed start x z e = tt
   allowed answer x z e = tt
   allowed node x z e = omega (arith, leb-false (countOf NODE past) x e, l .nodes)

@@ -1,5 +1,5 @@
--- When a job is refused ("When a job is turned away"): the tests 1 to 12, and 15 of request S-5 after
--- test 8, each with its number and place, in their order.
+-- When a job is refused ("When a job is turned away"): the tests 1 to 12, and after test 8 the test 15 of request S-5, each with its
+-- number and place, in their order.
 use Prim.Native.Nat.{ℕ, zero, suc, _*_}
 use mathlib.Core.Bool.{Bool, false, cond, not, _&&_, _||_}
 use mathlib.Core.List.{List, [], _∷_}

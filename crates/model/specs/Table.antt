@@ -170,8 +170,8 @@ groupOf b = b / 16
 abbrev pub isRangeByte : ℕ → Bool
 isRangeByte b = eqb b ARG || eqb b SPAN
 
--- the largest counts ("Largest counts"): flows, nodes, variables, functions, commands of a body, ARG and SPAN commands
--- together (S-5), turns
+-- the largest counts ("Largest counts"): flows, nodes, variables, functions, commands of a body, ARG and SPAN commands together (S-5),
+-- turns
 abbrev pub maxFlows : ℕ
 maxFlows = 8
 

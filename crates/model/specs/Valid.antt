@@ -18,7 +18,7 @@ use Rattle.model.specs.Turn.{instructionAt}
 use Rattle.model.specs.Refusal.{groupFalls, exceedsCount, undeclared, outOfReach, repeated, emptySpan, violation}
 use Rattle.model.specs.Refusal.{farJump}
 
--- an operand is in the range of what it names; one that is absent is 0
+-- an operand is allowed by the largest count of what it names; one that is absent is 0
 abbrev pub Allowed : OperandKind → ℕ → Type 0
 Allowed scope x = x ≤ 2
 Allowed owner x = x < maxNodes
@@ -62,7 +62,7 @@ pub record ValidJob (past : List Command) : Type 0 where
   pub commands : Valid past
   pub jumps : farJump past ≡ none
 
--- the operands of a command byte are in range
+-- the operands of a command byte are allowed
 pub record Named (b : ℕ) (x : Operands) : Type 0 where
   pub first : Allowed (kindAt b 0) (x .first)
   pub second : Allowed (kindAt b 1) (x .second)

@@ -102,9 +102,9 @@ module _ (t : List ℕ) (past : List Command) (c : Command) (s : Stands t past) 
   unfolding after
   in-section r h o i = entry-written t (noteWrites t c) r (rw (s .size) h) o i
 
-  -- the operands are in range
-  ranged : Named (c .byte) (c .operands)
-  ranged = named past c v
+  -- the operands are allowed
+  named-here : Named (c .byte) (c .operands)
+  named-here = named past c v
 
   byte-is : (b : ℕ) → is b c ≡ true → c .byte ≡ b
   byte-is b e = eqb-true (c .byte) b e
@@ -191,27 +191,27 @@ module _ (t : List ℕ) (past : List Command) (c : Command) (s : Stands t past) 
   body-range : is BODY c ≡ true
       → (c .operands .first < 32) × (c .operands .second ≡ 0) × (c .operands .third ≡ 0) × (c .operands .fourth ≡ 0)
   unfolding operandsOf operandsIn
-  body-range e = let r = rw (byte-is BODY e) at ranged in (r .first, r .second, r .third, r .fourth)
+  body-range e = let r = rw (byte-is BODY e) at named-here in (r .first, r .second, r .third, r .fourth)
 
   start-range : is START c ≡ true → c .operands .first < 32
   unfolding operandsOf operandsIn
-  start-range e = rw (byte-is START e) at (ranged .first)
+  start-range e = rw (byte-is START e) at (named-here .first)
 
   access-range : (b : ℕ) → (b ≡ READ) ⊎ (b ≡ WRITE) → is b c ≡ true
       → (c .operands .first < 32) × (c .operands .second < 64) × (c .operands .third ≡ 0) × (c .operands .fourth ≡ 0)
   unfolding operandsOf operandsIn
-  access-range b (inl p) e = let r = rw (byte-is b e, p) at ranged in (r .first, r .second, r .third, r .fourth)
-  access-range b (inr p) e = let r = rw (byte-is b e, p) at ranged in (r .first, r .second, r .third, r .fourth)
+  access-range b (inl p) e = let r = rw (byte-is b e, p) at named-here in (r .first, r .second, r .third, r .fourth)
+  access-range b (inr p) e = let r = rw (byte-is b e, p) at named-here in (r .first, r .second, r .third, r .fourth)
 
   any-range : is ANY c ≡ true
       → (c .operands .first < 32) × (c .operands .second < 32) × (c .operands .third ≡ 0) × (c .operands .fourth ≡ 0)
   unfolding operandsOf operandsIn
-  any-range e = let r = rw (byte-is ANY e) at ranged in (r .first, r .second, r .third, r .fourth)
+  any-range e = let r = rw (byte-is ANY e) at named-here in (r .first, r .second, r .third, r .fourth)
 
   wire-range : is WIRE c ≡ true
       → (c .operands .first < 32) × (c .operands .second ≤ 3) × (c .operands .third < 32) × (c .operands .fourth ≡ 0)
   unfolding operandsOf operandsIn
-  wire-range e = let r = rw (byte-is WIRE e) at ranged in (r .first, r .second, r .third, r .fourth)
+  wire-range e = let r = rw (byte-is WIRE e) at named-here in (r .first, r .second, r .third, r .fourth)
 
   bodies-next : (n : ℕ) → flagIn after bodyCells n ≡ occurs BODY (binary n 0) (c ∷ past)
   unfolding flagIn
@@ -291,12 +291,12 @@ module _ (t : List ℕ) (past : List Command) (c : Command) (s : Stands t past) 
   unfolding operandsOf operandsIn
   range-range =
       by-range c (λ p q. (p || q) ≡ true → (c .operands .first < 32) × (c .operands .second < 32))
-      (λ e u. let r = rw (byte-is ARG e) at ranged in (r .first, r .second))
-      (λ e u. let r = rw (byte-is SPAN e) at ranged in (r .first, r .second)) (λ u. true-false (sym u))
+      (λ e u. let r = rw (byte-is ARG e) at named-here in (r .first, r .second))
+      (λ e u. let r = rw (byte-is SPAN e) at named-here in (r .first, r .second)) (λ u. true-false (sym u))
 
   arg-range : is ARG c ≡ true → c .operands .fourth ≡ 0
   unfolding operandsOf operandsIn
-  arg-range e = rw (byte-is ARG e) at (ranged .fourth)
+  arg-range e = rw (byte-is ARG e) at (named-here .fourth)
 
   -- how many ranges there are
   ranges-next : countOf ARG (c ∷ past) + countOf SPAN (c ∷ past) ≡ cond (isRange c) (rangeCountIn t + 1) (rangeCountIn t)
