@@ -1,7 +1,7 @@
 -- That a command is this one, by its byte and operands: where the last operands are absent, and for the ranges of arguments.
 use Prim.Native.Nat.{ℕ}
 use mathlib.Core.Path.{_≡_, refl, sym, ap, _∙_}
-use mathlib.Core.Bool.{Bool, true, false, cond, _&&_, _||_, and-true, and-false}
+use mathlib.Core.Bool.{Bool, true, false, cond, _&&_, _||_, and-true, and-false, and-self, and-assoc, or-assoc, or-comm}
 use native.Mathlib.Omega.{arith}
 use lib.Dec.{leb, eqb}
 use borrow.Author.Tests.{leb-true, leb-false, eqb-true, eq-eqb, ne-eqb}
@@ -10,11 +10,7 @@ use Rattle.model.specs.Command.{Command, is, quaternary, ternary, binary}
 use Rattle.model.specs.Declared.{isSame, spanPermits}
 use Rattle.tables.specs.Ranges.{range, isRange, rangeOf, holds, isThis}
 
--- tests in another order, and one that need not be asked
-and-joined : (a b e : Bool) → ((a && b) && e) ≡ (a && (b && e))
-and-joined true b e = refl
-and-joined false b e = refl
-
+-- a test that need not be asked
 absent : (p a t : Bool) → (p ≡ true → t ≡ true) → (p && (a && t)) ≡ (p && a)
 absent true a t h = rw (h refl) (and-true a)
 absent false a t h = refl
@@ -31,7 +27,7 @@ module _ (b : ℕ) (c : Command) (x y z : ℕ) where
       let first = eqb (c .operands .first) x in
       let second = eqb (c .operands .second) y in
       let rest = eqb (c .operands .third) 0 && eqb (c .operands .fourth) 0 in
-      ap (λ (r : Bool). is b c && r) (sym (and-joined first second rest))
+      ap (λ (r : Bool). is b c && r) (sym (and-assoc first second rest))
       ∙ absent (is b c) (first && second) rest (λ e. rw (h e .0, h e .1))
 
   pub same-three : (is b c ≡ true → c .operands .fourth ≡ 0)
@@ -42,7 +38,7 @@ module _ (b : ℕ) (c : Command) (x y z : ℕ) where
       let second = eqb (c .operands .second) y in
       let third = eqb (c .operands .third) z in
       let fourth = eqb (c .operands .fourth) 0 in
-      rw (← and-joined second third fourth, ← and-joined first (second && third) fourth)
+      rw (← and-assoc second third fourth, ← and-assoc first (second && third) fourth)
       (absent (is b c) (first && (second && third)) fourth (λ e. rw (h e)))
 
 -- one argument, as a range
@@ -56,19 +52,10 @@ one-argument x v = by-sides (leb x v) refl (leb v x) refl
 
 -- tests in another order
 and-twice : (a b e : Bool) → ((a && b) && (e && e)) ≡ (a && (b && (e && true)))
-and-twice true true true = refl
-and-twice true true false = refl
-and-twice true false e = refl
-and-twice false b e = refl
-
-or-joined : (a o s : Bool) → (a || (o || s)) ≡ ((a || o) || s)
-or-joined true o s = refl
-or-joined false o s = refl
+and-twice a b e = rw (and-self e, and-true e) (and-assoc a b e)
 
 or-between : (a o s : Bool) → (a || (o || s)) ≡ (o || (a || s))
-or-between true true s = refl
-or-between true false s = refl
-or-between false o s = refl
+or-between a o s = sym (or-assoc a o s) ∙ ap (λ (b : Bool). b || s) (or-comm a o) ∙ or-assoc o a s
 
 module _ (c : Command) where
   -- a command is an ARG, a SPAN, or none of them
@@ -110,7 +97,7 @@ module _ (c : Command) where
         let y = c .operands .fourth in
         by-range
         (λ p q. (((p || q) && (a && b)) && (q && (eqb x low && eqb (cond q y x) high))) ≡ (q && (a && (b && (eqb x low && eqb y high)))))
-        (λ e. and-false (a && b)) (λ e. and-joined a b (eqb x low && eqb y high)) refl
+        (λ e. and-false (a && b)) (λ e. and-assoc a b (eqb x low && eqb y high)) refl
 
     -- the call with this argument is permitted by it, or by one of the commands before
     pub call-same : (v : ℕ) (o s : Bool) → (is ARG c ≡ true → c .operands .fourth ≡ 0)
@@ -124,5 +111,5 @@ module _ (c : Command) where
         by-range
         (λ p q. ((((p || q) && (a && b)) && (leb x v && leb v (cond q y x))) || (o || s))
         ≡ (((p && (a && (b && (eqb x v && eqb y 0)))) || o) || ((q && (a && (b && (leb x v && leb v y)))) || s)))
-        (λ e. rw (h e, one-argument x v, and-true (eqb x v), and-joined a b (eqb x v)) (or-joined (a && (b && eqb x v)) o s))
-        (λ e. rw (and-joined a b (leb x v && leb v y)) (or-between (a && (b && (leb x v && leb v y))) o s)) refl
+        (λ e. rw (h e, one-argument x v, and-true (eqb x v), and-assoc a b (eqb x v)) (sym (or-assoc (a && (b && eqb x v)) o s)))
+        (λ e. rw (and-assoc a b (leb x v && leb v y)) (or-between (a && (b && (leb x v && leb v y))) o s)) refl
