@@ -1,16 +1,16 @@
 // What the tables say of permissions, each under its own kind of number.
 ghost use mathlib.Core.Path.{_≡_};
-ghost use mathlib.Core.Bool.{cond};
-ghost use lib.Dec.{ltb};
-ghost use Rattle.tables.specs.Ranges.{range, someRange};
+ghost use Rattle.model.specs.Declared.{isThere};
+ghost use Rattle.tables.specs.Items.{firstItem};
 ghost use Rattle.tables.specs.Tables.{readIn, writeIn, anyIn, rangesIn, listedIn, callIn};
-ghost use Rattle.allowlists.specs.Asking.{asked};
+ghost use Rattle.items.specs.Asking.{asked};
 use command::numbers::FunNum;
 use command::numbers::NodeNum;
 use command::numbers::VarNum;
 use declared::last_range;
+use items::Question;
+use items::find;
 use tables::cells;
-use tables::cells::entry;
 use tables::cells::marked;
 
 // Whether a node may read a variable.
@@ -34,48 +34,13 @@ pub fn may_call_any(tables: &[u32], n: NodeNum, f: FunNum) -> bool
     marked(tables, cells::CALLS, n.0 as usize, f.0 as usize)
 }
 
-// What is asked of a range: whether it holds an argument, or whether it is that of a command with this byte, low and high.
-enum Question {
-    Holds(u32),
-    Is(u32, u32, u32),
-}
-
-// Whether the answer for a range is yes.
-fn answers(q: Question, byte: u32, low: u32, high: u32) -> bool
-    ensures { λ r. ⌜ r ≡ asked q (range byte low high) ⌝ }
-{
-    match q {
-        Question::Holds(v) => (low <= v) & (v <= high),
-        Question::Is(b, l, h) => (byte == b) & ((low == l) & (high == h)),
-    }
-}
-
-// Where the search goes on: at the range before, which has a lower number; 0 ends it.
-fn go_back(at: usize, before: usize) -> usize
-    ensures { λ r. ⌜ r ≡ cond (ltb before at) before 0 ⌝ }
-{
-    if before < at {
-        return before;
-    }
-    0
-}
-
 // Whether the answer is yes for one of the ranges of a node and a function; no others are looked at.
 fn has_range(tables: &[u32], n: NodeNum, f: FunNum, q: Question) -> bool
-    ensures { λ r. ⌜ r ≡ someRange (asked q) (rangesIn (now (tables .entry)) (n .0) (f .0)) ⌝ }
+    ensures { λ r. ⌜ r ≡ isThere (firstItem (asked q) (rangesIn (now (tables .entry)) (n .0) (f .0))) ⌝ }
 {
-    let mut at = last_range(tables, n, f) as usize;
-    while 0 < at {
-        let i = at - 1;
-        let link = entry(tables, cells::RANGE_LINK, i);
-        let low = entry(tables, cells::RANGE_LOW, i);
-        let high = entry(tables, cells::RANGE_HIGH, i);
-        if answers(q, link / 65536, low, high) {
-            return true;
-        }
-        at = go_back(at, (link % 65536) as usize);
-    }
-    false
+    let last = last_range(tables, n, f) as usize;
+    let at = find(tables, last, q);
+    at != 0
 }
 
 // Whether there is a command with this byte, ARG or SPAN, node, function, and lowest and highest argument.

@@ -3,11 +3,12 @@ use Prim.Native.Nat.{ℕ, zero, suc, _+_, _/_, _≤_, _<_}
 use mathlib.Core.Path.{_≡_, refl, sym, ap, _∙_}
 use mathlib.Core.Bool.{Bool, true, false, cond, not, _&&_, _||_}
 use mathlib.Core.List.{List, [], _∷_}
-use mathlib.Core.Option.{Option, none, some}
+use mathlib.Core.Option.{none, some}
 use native.Mathlib.Omega.{arith}
 use lib.Dec.{leb, ltb, eqb}
 use borrow.Author.Tests.{ltb-true, leb-true, eqb-true, eqb-false}
-use Rattle.model.specs.Table.{SET, SKIP, OperandKind, Row, table, width, kindAt, operandsIn, operandsOf}
+use Rattle.model.specs.Table.{SET, SKIP, Row, table, width, kindAt, operandsIn, operandsOf}
+use Rattle.model.specs.Declared.{isThere}
 use Rattle.model.proofs.Logic.{true-false, and-left, and-right}
 use Rattle.command.specs.Rows.{isHandlerByte}
 
@@ -54,12 +55,8 @@ from-passes test k (suc n) b e l h = by-first (eqb b k) refl (from-passes test (
     by-first false t ih = let q = eqb-false b k t in ih (omega arith) (omega arith)
 
 -- a handler command byte is in the table, and has one operand at most
-abbrev is-known : Option (List OperandKind) → Bool
-is-known none = false
-is-known (some kinds) = true
-
 abbrev single : ℕ → Bool
-single b = is-known (operandsOf b) && eqb (width (kindAt b 1) + width (kindAt b 2) + width (kindAt b 3)) 0
+single b = isThere (operandsOf b) && eqb (width (kindAt b 1) + width (kindAt b 2) + width (kindAt b 3)) 0
 
 pub record OneOperand (b : ℕ) : Type 0 where
   pub known : ¬ (operandsOf b ≡ none)
@@ -71,6 +68,6 @@ handler-single b h =
     let e = from-passes single SET 11 b refl (leb-true SET b (and-left (leb SET b) _ h))
     (omega (arith, leb-true b SKIP (and-right (leb SET b) _ h))) in
     record {
-      known = λ n. let q = ap is-known (sym n) ∙ and-left (is-known (operandsOf b)) _ e in true-false (sym q);
-      others = eqb-true _ 0 (and-right (is-known (operandsOf b)) _ e);
+      known = λ n. let q = ap isThere (sym n) ∙ and-left (isThere (operandsOf b)) _ e in true-false (sym q);
+      others = eqb-true _ 0 (and-right (isThere (operandsOf b)) _ e);
     }

@@ -11,8 +11,8 @@ use lib.Dec.{eqb}
 use lib.ListN.{length, getD, drop, drop-of-length-le}
 use lib.Seq.{drop-cons}
 use borrow.Author.Tests.{eqb-true, eq-eqb, ne-eqb}
-use Rattle.model.specs.Table.{OperandKind, scope, owner, start, answer, node, port, target, function, value, low, high, variable, jump}
-use Rattle.model.specs.Table.{absent, width, Row, table, operandsIn, operandsOf, listOf, kindAt, groupOf, Limit, largestOf}
+use Rattle.model.specs.Table.{OperandKind, scope, owner, start, answer, node, port, target, function, argument, value, low, high, variable}
+use Rattle.model.specs.Table.{jump, absent, width, Row, table, operandsIn, operandsOf, listOf, kindAt, groupOf, Limit, largestOf}
 use Rattle.model.specs.Command.{numberAt}
 use Rattle.model.proofs.Reading.{number-none}
 use Rattle.command.specs.Rows.{unpacked, kindOf, limitOf, Says, rowIn, IsRow}
@@ -137,6 +137,7 @@ width-is node w e = inr (inl e)
 width-is port w e = inr (inl e)
 width-is target w e = inr (inl e)
 width-is function w e = inr (inl e)
+width-is argument w e = inl e
 width-is value w e = inl e
 width-is low w e = inl e
 width-is high w e = inl e
@@ -154,6 +155,7 @@ width-zero node e = absurd (omega arith)
 width-zero port e = absurd (omega arith)
 width-zero target e = absurd (omega arith)
 width-zero function e = absurd (omega arith)
+width-zero argument e = absurd (omega arith)
 width-zero value e = absurd (omega arith)
 width-zero low e = absurd (omega arith)
 width-zero high e = absurd (omega arith)

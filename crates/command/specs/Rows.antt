@@ -7,8 +7,9 @@ use mathlib.Core.Logic.{_⊎_}
 use mathlib.Core.Option.{Option, none, some}
 use lib.Dec.{leb, eqb}
 use lib.ListN.{getD}
-use Rattle.model.specs.Table.{ARG, SPAN, SET, SKIP, OperandKind, scope, owner, start, answer, node, port, target, function, value, low}
-use Rattle.model.specs.Table.{high, variable, jump, absent, isRangeByte, width, operandsOf, listOf, kindAt, groupOf, Limit, limit, largestOf}
+use Rattle.model.specs.Table.{ARG, SPAN, SET, SKIP, OperandKind, scope, owner, start, answer, node, port, target, function, argument, value}
+use Rattle.model.specs.Table.{low, high, variable, jump, absent, isRangeByte, width, operandsOf, listOf, kindAt, groupOf, Limit, limit}
+use Rattle.model.specs.Table.{largestOf}
 use Rattle.command.specs.declared.table.Row.{Row as Shape}
 use Rattle.command.specs.declared.table.Lookup.{Lookup}
 use Rattle.command.specs.declared.table.Lookup.the-variants.{Found, Missing}
@@ -34,7 +35,9 @@ unpacked p =
 -- the kind that the code's number stands for
 abbrev pub kindOf : ℕ → OperandKind
 kindOf i =
-    getD (absent ∷ scope ∷ owner ∷ node ∷ port ∷ target ∷ function ∷ variable ∷ start ∷ answer ∷ value ∷ jump ∷ low ∷ high ∷ []) i absent
+    getD
+    (absent ∷ scope ∷ owner ∷ node ∷ port ∷ target ∷ function ∷ variable ∷ start ∷ answer ∷ value ∷ jump ∷ low ∷ high ∷ argument ∷ [])
+    i absent
 
 -- the bytes that share a largest count with this one: ARG and SPAN do, every other has its own
 abbrev pub sharing : ℕ → List ℕ

@@ -10,6 +10,8 @@ pub const VAR: u8 = 0x10;
 
 pub const FUN: u8 = 0x11;
 
+pub const REPLY: u8 = 0x12;
+
 pub const WIRE: u8 = 0x20;
 
 pub const ANY: u8 = 0x30;

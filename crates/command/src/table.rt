@@ -31,8 +31,10 @@ pub const LOW_OPERAND: u8 = 12;
 
 pub const HIGH_OPERAND: u8 = 13;
 
+pub const ARGUMENT_OPERAND: u8 = 14;
+
 // How many commands there are.
-const ROW_COUNT: usize = 24;
+const ROW_COUNT: usize = 25;
 
 // The rows, one number each. Its columns, in hexadecimal digits: the largest count over the whole job, 0 for none (4); the kinds of the
 // operands, the first one first (4); their widths (4); their length, the sum of these (1); the group (1); the byte (2).
@@ -41,6 +43,7 @@ const ROWS: [u64; ROW_COUNT] = [
     0x0020_0000_0000_0_0_02, // NODE
     0x0040_1280_1140_6_1_10, // VAR
     0x0020_9000_4000_4_1_11, // FUN
+    0x0080_6E90_1440_9_1_12, // REPLY
     0x0000_3450_1110_3_2_20, // WIRE
     0x0000_3600_1100_2_3_30, // ANY
     0x0100_36A0_1140_6_3_31, // ARG

@@ -8,14 +8,17 @@ use lib.Seq.{set-getD}
 use Rattle.model.specs.Program.{Program}
 use Rattle.model.specs.State.{State, positionAt, accumulatorAt, messageAt, waitingAt, withPosition, withAccumulator}
 use Rattle.model.specs.Turn.{advanced, sum32, blocked, performed}
+use Rattle.command.specs.declared.numbers.FunNum.{FunNum}
 use Rattle.command.specs.declared.numbers.VarNum.{VarNum}
 use Rattle.command.specs.declared.instruction.Instruction.{Instruction}
 use Rattle.command.specs.declared.instruction.Instruction.the-variants as i
 use Rattle.command.specs.Instructions.{instructionOf}
+use Rattle.tables.specs.Tables.{answerIn}
 use Rattle.tables.specs.Programs.{Handlers, programIn}
 use Rattle.memory.specs.declared.Registers.{Registers}
 use Rattle.memory.specs.declared.Change.{Change}
 use Rattle.memory.specs.declared.Change.the-variants as c
+use Rattle.entries.proofs.Names.{answer-by}
 use Rattle.effects.specs.declared.Effect.{Effect}
 use Rattle.effects.specs.Effects.{effect, Shows, Does, Performs}
 use Rattle.memory.specs.Changes.{registers, registersAt, queuesAfter, variablesAfter, carried, Possible}
@@ -134,6 +137,10 @@ module _ (t : List ℕ) (l : Registers) (xs : List ℕ) (r : Effect) (a : ℕ) (
   pub gets : (x : VarNum) → a ≡ getD xs (x .0) 0 → Performs t (i.Get x) l xs r
   gets x v = sets t l xs (i.Get x) r a e (λ hs s n h. ap (λ (ys : List ℕ). advanced (withAccumulator s n (getD ys (x .0) 0)) n)
       (h .variables) ∙ ap (λ (b : ℕ). advanced (withAccumulator s n b) n) (sym v))
+
+  pub calls : (f : FunNum) → a ≡ answerIn t (f .0) (l .accumulator) → Performs t (i.Call f) l xs r
+  calls f q = sets t l xs (i.Call f) r a e (λ hs s n h. ap (λ (v : ℕ). advanced (withAccumulator s n v) n)
+      (answer-by t hs (f .0) (accumulatorAt s n) ∙ ap (λ (o : Registers). answerIn t (f .0) (o .accumulator)) (h .own) ∙ sym q))
 
   pub adds : (v : ℕ) → a ≡ sum32 (l .accumulator) v → Performs t (i.Add v) l xs r
   adds v q = sets t l xs (i.Add v) r a e (λ hs s n h. ap (λ (o : Registers). advanced (withAccumulator s n (sum32 (o .accumulator) v)) n)

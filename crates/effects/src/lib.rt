@@ -69,7 +69,7 @@ pub fn effect_of(
         }
         Instruction::Jump(target) => continue_at(own, target, a, Change::Nothing),
         Instruction::Send(port) => continue_at(own, next, a, Change::Send(port)),
-        Instruction::Call(f) => continue_at(own, next, answer_of(tables, f), Change::Nothing),
+        Instruction::Call(f) => continue_at(own, next, answer_of(tables, f, a), Change::Nothing),
         Instruction::Skip => continue_at(own, next, a, Change::Nothing),
     }
 }

@@ -3,7 +3,7 @@ use Prim.Native.Nat.{ℕ}
 use mathlib.Core.Path.{_≡_, refl}
 use mathlib.Core.List.{List}
 use Rattle.model.specs.Program.{sharedIn as isShared}
-use Rattle.tables.specs.Tables.{sharedIn, wiredIn, funAnswerIn, readIn, writeIn, callIn}
+use Rattle.tables.specs.Tables.{sharedIn, wiredIn, answerIn, readIn, writeIn, callIn}
 use Rattle.tables.specs.Programs.{Handlers, programIn}
 
 module _ (t : List ℕ) (hs : Handlers) where
@@ -15,7 +15,7 @@ module _ (t : List ℕ) (hs : Handlers) where
   unfolding programIn
   wired-by n port target = refl
 
-  pub answer-by : (f argument : ℕ) → programIn t hs .answer f argument ≡ funAnswerIn t f
+  pub answer-by : (f argument : ℕ) → programIn t hs .answer f argument ≡ answerIn t f argument
   unfolding programIn
   answer-by f argument = refl
 

@@ -2,8 +2,8 @@
 use mathlib.Core.Path.{refl}
 use Rattle.model.specs.Table.{operandsIn, operandsOf, isAmong, largestIn, largestOf}
 use Rattle.model.specs.Command.{numberAt, readCommand}
-use Rattle.model.specs.Declared.{countOf, countAmong, occurs, inSpan, declared, openBody, bodyLength, handlerOf, startsOf, startedIn}
-use Rattle.model.specs.Declared.{turnsOf}
+use Rattle.model.specs.Declared.{countOf, countAmong, occurs, inSpan, declared, replyOf, openBody, bodyLength, handlerOf, startsOf}
+use Rattle.model.specs.Declared.{startedIn, turnsOf}
 use Rattle.model.specs.Program.{programOf}
 use Rattle.model.specs.State.{tabulate, initialState}
 use Rattle.model.specs.Turn.{someBelow, delivered, turn}
@@ -15,12 +15,13 @@ use Rattle.model.specs.Result.{report, monitored, unmonitored}
 use Rattle.model.specs.Examples.{outcome, enough, monitoredRow, unmonitoredRow, times, k1, k1Read, k7, four, traced, nodePart}
 use Rattle.model.specs.Examples.{idleNode, ends, noEntry, k1First, k1Last, examples, ExamplesHold}
 use Rattle.model.specs.Readings.{within, nodes, global, turns, orderRows, variable, undeclaredRows, sightRows, declaredRows, turnRows}
-use Rattle.model.specs.Readings.{calling, span, arg, called, forbidden, spanRows, ReadingsHold}
+use Rattle.model.specs.Readings.{callingOf, calling, span, arg, answered, called, forbidden, spanRows, reply, any, replies, replyRows}
+use Rattle.model.specs.Readings.{ReadingsHold}
 
 rows-hold : ExamplesHold × ReadingsHold
 unfolding operandsIn operandsOf isAmong largestIn largestOf
     numberAt readCommand
-    countOf countAmong occurs inSpan declared openBody bodyLength handlerOf startsOf startedIn turnsOf
+    countOf countAmong occurs inSpan declared replyOf openBody bodyLength handlerOf startsOf startedIn turnsOf
     programOf tabulate initialState
     someBelow delivered turn monitoredTurn
     runFrom unmonitoredRun monitoredRun
@@ -30,7 +31,8 @@ unfolding operandsIn operandsOf isAmong largestIn largestOf
     outcome enough monitoredRow unmonitoredRow times four traced nodePart idleNode ends noEntry
     k1 k1Read k7 k1First k1Last examples
     within nodes global turns orderRows variable undeclaredRows sightRows declaredRows turnRows
-    calling span arg called forbidden spanRows
+    callingOf calling span arg answered called forbidden spanRows
+    reply any replies replyRows
 rows-hold = (refl, refl)
 
 -- K1 to K11, and 32 and 33 nodes

@@ -3,6 +3,7 @@ use Prim.Native.Nat.{ℕ, suc, _+_, _≤_, _<_, zero-le, max}
 use mathlib.Core.Path.{_≡_, refl, sym, _∙_}
 use mathlib.Core.Bool.{Bool, true, false, cond, _&&_, _||_}
 use mathlib.Core.List.{List, [], _∷_, _++_, append-nil}
+use mathlib.Core.Option.{some}
 use native.Mathlib.Omega.{arith}
 use lib.Dec.{ltb, eqb}
 use lib.ListN.{length}
@@ -10,7 +11,7 @@ use borrow.Author.Tests.{ltb-true, ltb-false, lt-ltb, le-ltb, eq-eqb, ne-eqb}
 use Rattle.model.specs.Table.{BODY, START, TURN, groupOf}
 use Rattle.model.specs.Command.{Operands, Command, is}
 use Rattle.model.specs.Declared.{countOf, countAmong, declared, belongs, bodyLength, instruction, handlerOf, turnsOf, only, isSame}
-use Rattle.model.specs.Declared.{occurs, spanPermits, inSpan, flowOf, openBody, startsOf, startedIn}
+use Rattle.model.specs.Declared.{isReply, replyOf, occurs, spanPermits, inSpan, flowOf, openBody, startsOf, startedIn}
 use Rattle.model.specs.Refusal.{groupFalls}
 use Rattle.model.proofs.Lists.{length-only}
 
@@ -127,6 +128,11 @@ module _ (c : Command) (past : List Command) where
   pub span-next : (n f argument : ℕ) → inSpan n f argument (c ∷ past) ≡ (spanPermits n f argument c || inSpan n f argument past)
   unfolding inSpan
   span-next n f argument = refl
+
+  pub reply-next : (f argument : ℕ) → replyOf (c ∷ past) f argument ≡ cond (isReply f argument c) (some (c .operands .third))
+      (replyOf past f argument)
+  unfolding replyOf
+  reply-next f argument = refl
 
   pub open-next : openBody (c ∷ past) ≡ cond (is BODY c) (c .operands .first) (openBody past)
   unfolding openBody

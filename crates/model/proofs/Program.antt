@@ -5,7 +5,7 @@ use mathlib.Core.Bool.{false}
 use mathlib.Core.List.{List, _∷_, append-nil}
 use Rattle.model.specs.Table.{WIRE, ANY, ARG, READ, WRITE, SPAN, TURN}
 use Rattle.model.specs.Command.{Operands, binary, ternary, Command, is}
-use Rattle.model.specs.Declared.{countOf, occurs, inSpan, declared, handlerOf, startsOf}
+use Rattle.model.specs.Declared.{countOf, occurs, inSpan, declared, replyOf, handlerOf, startsOf}
 use Rattle.model.specs.Program.{Program, programOf}
 
 -- two programs that agree everywhere
@@ -59,7 +59,7 @@ span-other n f argument c past e = rw e
 
 -- the program of a job does not depend on its turns
 pub program-turn : (c : Command) (past : List Command) → c .byte ≡ TURN → programOf (c ∷ past) ≡ programOf past
-unfolding programOf countOf declared handlerOf startsOf
+unfolding programOf countOf declared replyOf handlerOf startsOf
 program-turn c past e =
     agree (programOf (c ∷ past)) (programOf past)
     (record {

@@ -7,9 +7,10 @@ use mathlib.Core.Option.{some}
 use native.Mathlib.Omega.{arith}
 use lib.Dec.{leb, eqb}
 use borrow.Author.Tests.{leb-false, ltb-false, eqb-true}
-use Rattle.model.specs.Table.{FLOW, NODE, VAR, FUN, ARG, SPAN, TURN, OperandKind, scope, owner, start, answer, node, port, target}
-use Rattle.model.specs.Table.{function, value, low, high, variable, jump, absent, limit, isAmong, largestIn, largestOf, maxFlows}
-use Rattle.model.specs.Table.{maxNodes, maxVariables, maxFunctions, maxRanges, maxTurns}
+use Rattle.model.specs.Table.{FLOW, NODE, VAR, FUN, REPLY, ARG, SPAN, TURN, OperandKind, scope, owner, start, answer, node, port}
+use Rattle.model.specs.Table.{target, function, argument, value, low, high, variable, jump, absent, limit, isAmong, largestIn}
+use Rattle.model.specs.Table.{largestOf, maxFlows}
+use Rattle.model.specs.Table.{maxNodes, maxVariables, maxFunctions, maxReplies, maxRanges, maxTurns}
 use Rattle.model.specs.Command.{Command, is}
 use Rattle.model.specs.Declared.{countOf, countAmong, isHandler, openBody, belongs, bodyLength}
 use Rattle.model.specs.Refusal.{groupFalls, isReached, exceedsCount, countsOf, noOwner, namesNothing, undeclared, outOfReach}
@@ -145,6 +146,7 @@ limits past v =
       nodes = omega (arith, kept NODE maxNodes (refl, (refl, tt)));
       variables = omega (arith, kept VAR maxVariables (refl, (refl, tt)));
       functions = omega (arith, kept FUN maxFunctions (refl, (refl, tt)));
+      replies = omega (arith, kept REPLY maxReplies (refl, (refl, tt)));
       ranges = omega (arith, count-limit (ARG ∷ SPAN ∷ []) maxRanges (refl, (refl, (refl, (refl, tt)))) past v);
       turns = omega (arith, kept TURN maxTurns (refl, (refl, tt)));
       handlers = handler-limit past v;
@@ -173,6 +175,7 @@ module _ (past : List Command) (l : Limits past) (s : ℕ) where
   allowed port x z e = omega (arith, ltb-false 3 x e)
   allowed target x z e = omega (arith, leb-false (countOf NODE past) x e, l .nodes)
   allowed function x z e = omega (arith, leb-false (countOf FUN past) x e, l .functions)
+  allowed argument x z e = tt
   allowed value x z e = tt
   allowed low x z e = tt
   allowed high x z e = tt

@@ -3,14 +3,15 @@ use Prim.Native.Nat.{ℕ, zero, suc, _+_, _^_, _<_, _/_, _*_, _%_}
 use mathlib.Core.Path.{_≡_, _∙_}
 use mathlib.Core.Bool.{Bool, true, false, cond, _&&_}
 use mathlib.Core.List.{List, [], _∷_, _++_}
+use mathlib.Core.Option.{some, Option·getD}
 use native.Mathlib.Omega.{arith}
 use native.Mathlib.Nat.{div-div-eq-div-mul, div-add-mod', mod-eq-of-lt}
 use lib.Dec.{eqb}
 use lib.ListN.{length, getD, set, drop}
 use Rattle.model.specs.Table.{VAR, FUN, START, OperandKind, scope, owner, start, answer, node, port, target, function}
-use Rattle.model.specs.Table.{value, low, high, variable, jump, absent, width, operandAt, maxNodes, maxVariables}
+use Rattle.model.specs.Table.{argument, value, low, high, variable, jump, absent, width, operandAt, maxNodes, maxVariables}
 use Rattle.model.specs.Command.{Operands, Command, is, numberAt, firstAt, secondAt, thirdAt, fourthAt, operandsAt}
-use Rattle.model.specs.Declared.{countOf, declared, belongs, Instruction, instruction, handlerOf, startsOf, turnsOf}
+use Rattle.model.specs.Declared.{countOf, declared, isReply, replyOf, belongs, Instruction, instruction, handlerOf, startsOf, turnsOf}
 use Rattle.model.specs.Program.{Program, programOf}
 use Rattle.model.specs.State.{State, positionAt, accumulatorAt, queueAt, initialState}
 use Rattle.model.specs.Turn.{delivered, sum32, performed, instructionAt, turn}
@@ -46,6 +47,7 @@ module _ (job : List ℕ) (bytes : Bytes job) (at : ℕ) where
   number-fits port = one-fits
   number-fits target = one-fits
   number-fits function = one-fits
+  number-fits argument = four-fit
   number-fits value = four-fit
   number-fits low = four-fit
   number-fits high = four-fit
@@ -102,6 +104,18 @@ handler-fits (c ∷ past) fit n =
     (instruction (c .byte) (c .operands .first))
     (handler-fits past (fit .0) n) (λ _. fit .1 .first)
 
+-- an answer, with any number below 2^32 where there is no REPLY
+reply-fits : (past : List Command) → CommandsFit past → (f v other : ℕ) → other < 2 ^ 32 → Option·getD (replyOf past f v) other < 2 ^ 32
+unfolding replyOf
+reply-fits [] fit f v other h = h
+reply-fits (c ∷ past) fit f v other h = by-reply (isReply f v c) (reply-fits past (fit .0) f v other h)
+  where
+    by-reply :
+        (t : Bool) → Option·getD (replyOf past f v) other < 2 ^ 32
+        → Option·getD (cond t (some (c .operands .third)) (replyOf past f v)) other < 2 ^ 32
+    by-reply true ih = fit .1 .third
+    by-reply false ih = ih
+
 starts-fit : (past : List Command) → CommandsFit past → (n i : ℕ) → i < length (startsOf past n) → getD (startsOf past n) i 0 < 2 ^ 32
 unfolding startsOf
 starts-fit [] fit n = λ i h. absurd (omega arith)
@@ -114,7 +128,7 @@ unfolding programOf
 program-fits past fit =
     record {
       startValue = declared-fits (λ c before. c .operands .third) (λ c before o. o .third) VAR past fit;
-      answer = λ f argument. declared-fits (λ c before. c .operands .first) (λ c before o. o .first) FUN past fit f;
+      answer = λ f v. reply-fits past fit f v _ (declared-fits (λ c before. c .operands .first) (λ c before o. o .first) FUN past fit f);
       operand = λ n. getD-each (λ k (i : Instruction). i .operand < 2 ^ 32) (instruction 0 0) (handlerOf past n) (handler-fits past fit n)
           (λ k. omega arith);
       firstMessage = λ n. getD-each (λ k m. m < 2 ^ 32) 0 (startsOf past n) (starts-fit past fit n) (λ k. omega arith);

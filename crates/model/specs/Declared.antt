@@ -3,8 +3,9 @@
 use Prim.Native.Nat.{ℕ, _+_, _-_}
 use mathlib.Core.Bool.{Bool, true, false, cond, not, _&&_, _||_}
 use mathlib.Core.List.{List, [], _∷_, _++_}
+use mathlib.Core.Option.{Option, none, some, Option·getD}
 use lib.Dec.{leb, eqb}
-use Rattle.model.specs.Table.{FLOW, NODE, VAR, FUN, SPAN, BODY, SET, SKIP, START, TURN}
+use Rattle.model.specs.Table.{FLOW, NODE, VAR, FUN, REPLY, SPAN, BODY, SET, SKIP, START, TURN}
 use Rattle.model.specs.Command.{Operands, sameOperands, Command, is}
 
 -- a list of the value if the test passes, and else the empty list
@@ -66,9 +67,27 @@ ownerOf = declared (λ c before. c .operands .second) VAR
 abbrev pub startOf : List Command → ℕ → ℕ
 startOf = declared (λ c before. c .operands .third) VAR
 
--- the answer of a function to every argument
+-- FUN's answer of a function, to every argument without a REPLY
 abbrev pub funAnswerOf : List Command → ℕ → ℕ
 funAnswerOf = declared (λ c before. c .operands .first) FUN
+
+-- the command is a REPLY of the function to the argument
+abbrev pub isReply : ℕ → ℕ → Command → Bool
+isReply f argument c = is REPLY c && (eqb (c .operands .first) f && eqb (c .operands .second) argument)
+
+-- the answer in the last such REPLY, if there is one
+unfoldable pub replyOf : List Command → ℕ → ℕ → Option ℕ
+replyOf [] f argument = none
+replyOf (c ∷ past) f argument = cond (isReply f argument c) (some (c .operands .third)) (replyOf past f argument)
+
+-- there is a value
+abbrev pub isThere : {A : Type 0} → Option A → Bool
+isThere none = false
+isThere (some a) = true
+
+-- the answer of a function to an argument: that of its REPLY, and without one FUN's (S-1)
+abbrev pub answerOf : List Command → ℕ → ℕ → ℕ
+answerOf past f argument = Option·getD (replyOf past f argument) (funAnswerOf past f)
 
 -- a variable of this scope is shared: flow and global ones are
 abbrev pub isShared : ℕ → Bool

@@ -20,6 +20,8 @@ pub mod Transparency
 pub mod Examples
 pub mod Readings
 -- statements on change requests
+pub mod LargestCounts
+pub mod Replies
 pub mod Spans
 pub mod WorkSize
 -- what holds of accepted jobs and of states, for proofs about code

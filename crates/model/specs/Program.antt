@@ -4,7 +4,7 @@ use mathlib.Core.Bool.{Bool, _||_}
 use mathlib.Core.List.{List}
 use Rattle.model.specs.Table.{FLOW, NODE, VAR, FUN, WIRE, ANY, ARG, READ, WRITE}
 use Rattle.model.specs.Command.{Command, binary, ternary}
-use Rattle.model.specs.Declared.{Instruction, countOf, occurs, flowOf, scopeOf, ownerOf, startOf, funAnswerOf, isShared, handlerOf}
+use Rattle.model.specs.Declared.{Instruction, countOf, occurs, flowOf, scopeOf, ownerOf, startOf, answerOf, isShared, handlerOf}
 use Rattle.model.specs.Declared.{inSpan, startsOf}
 
 -- a program
@@ -20,7 +20,7 @@ pub record Program : Type 0 where
   pub scope : ℕ → ℕ
   pub owner : ℕ → ℕ
   pub startValue : ℕ → ℕ
-  -- the answer: by function and argument
+  -- the answer, by REPLY or FUN: by function and argument
   pub answer : ℕ → ℕ → ℕ
   -- a port is wired to a target: by node, port and target
   pub wired : ℕ → ℕ → ℕ → Bool
@@ -50,7 +50,7 @@ programOf past =
       scope = scopeOf past;
       owner = ownerOf past;
       startValue = startOf past;
-      answer = λ f argument. funAnswerOf past f;
+      answer = answerOf past;
       wired = λ n port t. occurs WIRE (ternary n port t) past;
       mayCall = λ n f argument. occurs ANY (binary n f) past || (occurs ARG (ternary n f argument) past || inSpan n f argument past);
       mayRead = λ n x. occurs READ (binary n x) past;

@@ -178,10 +178,15 @@ turnRows =
     (nodePart 17 3 3 0 ++ nodePart 255 0 0 16 ++ times 16 (four 0)))
     ∷ []
 
--- one node that calls function 0 with its first message, given the permissions and the 4 bytes of that message
+-- one node that calls a function with its first message, given what is declared and permitted besides the node and function 0, which has
+-- FUN's answer 9, and the 4 bytes of that message
+unfoldable pub callingOf : ℕ → List ℕ → List ℕ → List ℕ
+callingOf f declarations message =
+    nodes 1 ++ 0x11 ∷ four 9 ++ declarations ++ 0x40 ∷ 0x00 ∷ 0x42 ∷ 0x4A ∷ f ∷ 0x50 ∷ 0x00 ∷ message ++ turns 3 0
+
+-- likewise, of function 0
 unfoldable pub calling : List ℕ → List ℕ → List ℕ
-calling permissions message =
-    nodes 1 ++ 0x11 ∷ four 9 ++ permissions ++ 0x40 ∷ 0x00 ∷ 0x42 ∷ 0x4A ∷ 0x00 ∷ 0x50 ∷ 0x00 ∷ message ++ turns 3 0
+calling = callingOf 0
 
 -- a SPAN of node 0 and function 0 from low to high, both below 256
 unfoldable pub span : ℕ → ℕ → List ℕ
@@ -191,9 +196,13 @@ span low high = 0x34 ∷ 0x00 ∷ 0x00 ∷ four low ++ four high
 unfoldable pub arg : ℕ → List ℕ
 arg value = 0x31 ∷ 0x00 ∷ 0x00 ∷ four value
 
--- what such a job gives if the call with this argument is made, and if it is forbidden
+-- what such a job gives if the function is called with this argument and has this answer
+unfoldable pub answered : ℕ → ℕ → ℕ → Result
+answered f v answer = ends 0 3 noEntry (traced 0 1 0 v ++ traced 0 0 0 0 ++ traced 0 5 f v) (nodePart 2 answer v 0)
+
+-- what it gives if function 0 is called with this argument and has FUN's answer, and if the call is forbidden
 unfoldable pub called : ℕ → Result
-called v = ends 0 3 noEntry (traced 0 1 0 v ++ traced 0 0 0 0 ++ traced 0 5 0 v) (nodePart 2 9 v 0)
+called v = answered 0 v 9
 
 unfoldable pub forbidden : ℕ → Result
 forbidden v = ends 1 2 (entry 0 5 0 v) (traced 0 1 0 v ++ traced 0 0 0 0) (nodePart 1 v v 0)
@@ -242,6 +251,59 @@ spanRows =
     ∷ monitoredRow (nodes 1 ++ 0x11 ∷ four 9 ++ span 11 10 ++ (0x40 ∷ 0x00 ∷ 0x48 ∷ 0x05 ∷ [])) (refused (refuse 15 7))
     ∷ []
 
+-- a REPLY of a function to an argument, with its answer
+unfoldable pub reply : ℕ → ℕ → ℕ → List ℕ
+reply f v answer = 0x12 ∷ f ∷ four v ++ four answer
+
+-- the permission to call a function with every argument
+unfoldable pub any : ℕ → List ℕ
+any f = 0x30 ∷ 0x00 ∷ f ∷ []
+
+-- three replies of function 0, and the permission to call it
+unfoldable pub replies : List ℕ
+replies = reply 0 5 7 ++ reply 0 6 8 ++ reply 0 7 6 ++ any 0
+
+-- recorded replies (S-1)
+unfoldable pub replyRows : List Example
+replyRows =
+    -- an argument with a REPLY has its answer, whichever of several it is; another argument has FUN's
+    monitoredRow (calling replies (four 5)) (answered 0 5 7)
+    ∷ monitoredRow (calling replies (four 6)) (answered 0 6 8)
+    ∷ monitoredRow (calling replies (four 7)) (answered 0 7 6)
+    ∷ monitoredRow (calling replies (four 8)) (called 8)
+    -- unmonitored likewise, where nothing is permitted
+    ∷ unmonitoredRow (calling (reply 0 5 7) (four 5)) (answered 0 5 7)
+    -- an answer that is asked for next: 5 gives 7, and 7 gives 6
+    ∷ monitoredRow
+    (nodes 1 ++ 0x11 ∷ four 9 ++ replies ++ 0x40 ∷ 0x00 ∷ 0x42 ∷ 0x4A ∷ 0x00 ∷ 0x4A ∷ 0x00 ∷ 0x50 ∷ 0x00 ∷ four 5 ++ turns 4 0)
+    (ends 0 4 noEntry (traced 0 1 0 5 ++ traced 0 0 0 0 ++ traced 0 5 0 5 ++ traced 0 5 0 7) (nodePart 3 6 5 0))
+    -- accepted: a reply with FUN's answer, and replies before a variable and before another function
+    ∷ monitoredRow (calling (reply 0 5 9 ++ any 0) (four 5)) (called 5)
+    ∷ monitoredRow (nodes 1 ++ 0x11 ∷ four 9 ++ reply 0 5 7 ++ global 3 ++ 0x11 ∷ four 8) (ends 0 0 noEntry [] (idleNode ++ four 3))
+    -- the same argument and answer of two functions, each with its own; and of another function alone
+    ∷ monitoredRow (calling (0x11 ∷ four 8 ++ reply 0 5 7 ++ reply 1 5 6 ++ any 0) (four 5)) (answered 0 5 7)
+    ∷ monitoredRow (callingOf 1 (0x11 ∷ four 8 ++ reply 0 5 7 ++ reply 1 5 6 ++ any 1) (four 5)) (answered 1 5 6)
+    ∷ monitoredRow (calling (0x11 ∷ four 8 ++ reply 1 5 6 ++ any 0) (four 5)) (called 5)
+    -- arguments are compared whole: 2^32-1 has a reply, 255 has none
+    ∷ monitoredRow (calling (0x12 ∷ 0x00 ∷ times 4 (0xFF ∷ []) ++ four 7 ++ any 0) (times 4 (0xFF ∷ [])))
+    (ends 0 3 noEntry (0 ∷ 1 ∷ 0 ∷ times 4 (0xFF ∷ []) ++ traced 0 0 0 0 ++ 0 ∷ 5 ∷ 0 ∷ times 4 (0xFF ∷ []))
+    (2 ∷ four 7 ++ times 4 (0xFF ∷ []) ++ (0 ∷ [])))
+    ∷ monitoredRow (calling (0x12 ∷ 0x00 ∷ times 4 (0xFF ∷ []) ++ four 7 ++ any 0) (four 255)) (called 255)
+    -- the list goes by what is asked, and not by the reply
+    ∷ monitoredRow (calling (reply 0 5 7 ++ arg 7) (four 5)) (forbidden 5)
+    -- 3: the last byte of the answer is missing
+    ∷ monitoredRow (nodes 1 ++ 0x11 ∷ four 9 ++ 0x12 ∷ 0x00 ∷ four 5 ++ (7 ∷ 0 ∷ 0 ∷ [])) (refused (refuse 3 7))
+    -- 4: after a permission; 4 before 8
+    ∷ monitoredRow (nodes 1 ++ 0x11 ∷ four 9 ++ reply 0 5 7 ++ any 0 ++ reply 0 5 7) (refused (refuse 4 20))
+    -- 6: no function, and a function that is declared after its REPLY
+    ∷ monitoredRow (nodes 1 ++ reply 0 5 7) (refused (refuse 6 2))
+    ∷ monitoredRow (nodes 1 ++ 0x11 ∷ four 9 ++ reply 1 5 7 ++ 0x11 ∷ four 8) (refused (refuse 6 7))
+    -- 8: the same function and argument again, with another answer and with the same; unmonitored alike
+    ∷ monitoredRow (nodes 1 ++ 0x11 ∷ four 9 ++ reply 0 5 7 ++ reply 0 6 7 ++ reply 0 5 8) (refused (refuse 8 27))
+    ∷ monitoredRow (nodes 1 ++ 0x11 ∷ four 9 ++ times 2 (reply 0 5 7)) (refused (refuse 8 17))
+    ∷ unmonitoredRow (nodes 1 ++ 0x11 ∷ four 9 ++ reply 0 5 7 ++ reply 0 5 8) (refused (refuse 8 17))
+    ∷ []
+
 -- every row holds
 abbrev pub ReadingsHold : Type 0
-ReadingsHold = RowsHold (orderRows ++ undeclaredRows ++ sightRows ++ declaredRows ++ turnRows ++ spanRows)
+ReadingsHold = RowsHold (orderRows ++ undeclaredRows ++ sightRows ++ declaredRows ++ turnRows ++ spanRows ++ replyRows)

@@ -6,11 +6,12 @@ use mathlib.Core.List.{List, [], _∷_}
 use mathlib.Core.Option.{Option, none, some}
 use lib.Dec.{leb, ltb, eqb}
 use lib.ListN.{length}
-use Rattle.model.specs.Table.{FLOW, NODE, VAR, FUN, WIRE, READ, WRITE, SPAN, BODY, GET, PUT, PLUS, JUMPZ, JUMP, START, TURN}
-use Rattle.model.specs.Table.{OperandKind, scope, owner, start, answer, node, port, target, function, value, low, high, variable, jump}
-use Rattle.model.specs.Table.{absent, kindAt, groupOf, Limit, largestOf, maxPort, maxHandler, maxJob}
+use Rattle.model.specs.Table.{FLOW, NODE, VAR, FUN, REPLY, WIRE, READ, WRITE, SPAN, BODY, GET, PUT, PLUS, JUMPZ, JUMP, START, TURN}
+use Rattle.model.specs.Table.{OperandKind, scope, owner, start, answer, node, port, target, function, argument, value, low, high}
+use Rattle.model.specs.Table.{variable, jump, absent, kindAt, groupOf, Limit, largestOf, maxPort, maxHandler, maxJob}
 use Rattle.model.specs.Command.{Command, Parsed, whole, unknown, cutShort, is, readCommand}
-use Rattle.model.specs.Declared.{countOf, countAmong, occurs, flowOf, shared, sees, isHandler, openBody, bodyLength, startedIn}
+use Rattle.model.specs.Declared.{countOf, countAmong, occurs, flowOf, replyOf, isThere, shared, sees, isHandler, openBody}
+use Rattle.model.specs.Declared.{bodyLength, startedIn}
 
 -- some test passes
 unfoldable pub anyOf : List Bool → Bool
@@ -61,6 +62,7 @@ namesNothing d s node x = leb (d .nodes) x
 namesNothing d s port x = ltb maxPort x
 namesNothing d s target x = leb (d .nodes) x
 namesNothing d s function x = leb (d .functions) x
+namesNothing d s argument x = false
 namesNothing d s value x = false
 namesNothing d s low x = false
 namesNothing d s high x = false
@@ -103,12 +105,13 @@ outOfReach past c =
 abbrev pub mustDiffer : Command → Bool
 mustDiffer c = is WIRE c || eqb (groupOf (c .byte)) 3 || is BODY c
 
--- 8: the same WIRE or permission again, a node's second BODY, a flow's second START
+-- 8: the same WIRE or permission again, a node's second BODY, a flow's second START, a second REPLY of a function to an argument (S-1)
 abbrev pub repeated : List Command → Command → Bool
 repeated past c =
     anyOf
     ((mustDiffer c && occurs (c .byte) (c .operands) past)
     ∷ (is START c && startedIn past (flowOf past (c .operands .first)))
+    ∷ (is REPLY c && isThere (replyOf past (c .operands .first) (c .operands .second)))
     ∷ [])
 
 -- 15 (S-5): a SPAN whose low is above its high

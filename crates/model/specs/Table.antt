@@ -1,5 +1,5 @@
 -- The command table ("The job"): each command byte with its operands, in the paper's order and under the paper's names; the largest counts.
--- SPAN is that of request S-5.
+-- REPLY is that of request S-1, SPAN that of S-5.
 use Prim.Native.Nat.{ℕ, _/_}
 use mathlib.Core.Bool.{Bool, false, cond, _||_}
 use mathlib.Core.List.{List, [], _∷_}
@@ -19,6 +19,9 @@ VAR = 0x10
 
 abbrev pub FUN : ℕ
 FUN = 0x11
+
+abbrev pub REPLY : ℕ
+REPLY = 0x12
 
 abbrev pub WIRE : ℕ
 WIRE = 0x20
@@ -83,9 +86,9 @@ TURN = 0x60
 -- what an operand is, by the name in its column: `target` is that of a wire, `jump` that of a jump; `absent` stands where a command has no
 -- operand
 pub data OperandKind : Type 0 where
-  scope owner start answer node port target function value low high variable jump absent : OperandKind
+  scope owner start answer node port target function argument value low high variable jump absent : OperandKind
 
--- the bytes of an operand: one, but four for `value`, `start` and `answer`, and for `low` and `high`
+-- the bytes of an operand: one, but four for `value`, `start` and `answer`, and for `argument`, `low` and `high`
 abbrev pub width : OperandKind → ℕ
 width scope = 1
 width owner = 1
@@ -95,6 +98,7 @@ width node = 1
 width port = 1
 width target = 1
 width function = 1
+width argument = 4
 width value = 4
 width low = 4
 width high = 4
@@ -118,6 +122,7 @@ table =
     ∷ row NODE []
     ∷ row VAR (scope ∷ owner ∷ start ∷ [])
     ∷ row FUN (answer ∷ [])
+    ∷ row REPLY (function ∷ argument ∷ answer ∷ [])
     ∷ row WIRE (node ∷ port ∷ target ∷ [])
     ∷ row ANY (node ∷ function ∷ [])
     ∷ row ARG (node ∷ function ∷ value ∷ [])
@@ -170,8 +175,8 @@ groupOf b = b / 16
 abbrev pub isRangeByte : ℕ → Bool
 isRangeByte b = eqb b ARG || eqb b SPAN
 
--- the largest counts ("Largest counts"): flows, nodes, variables, functions, commands of a body, ARG and SPAN commands together (S-5),
--- turns
+-- the largest counts ("Largest counts"): flows, nodes, variables, functions, REPLY commands (S-1), commands of a body, ARG and SPAN
+-- commands together (S-5), turns
 abbrev pub maxFlows : ℕ
 maxFlows = 8
 
@@ -183,6 +188,9 @@ maxVariables = 64
 
 abbrev pub maxFunctions : ℕ
 maxFunctions = 32
+
+abbrev pub maxReplies : ℕ
+maxReplies = 128
 
 abbrev pub maxHandler : ℕ
 maxHandler = 64
@@ -221,6 +229,7 @@ largestCounts =
     ∷ limit (NODE ∷ []) maxNodes
     ∷ limit (VAR ∷ []) maxVariables
     ∷ limit (FUN ∷ []) maxFunctions
+    ∷ limit (REPLY ∷ []) maxReplies
     ∷ limit (ARG ∷ SPAN ∷ []) maxRanges
     ∷ limit (TURN ∷ []) maxTurns
     ∷ []

@@ -7,9 +7,10 @@ use mathlib.Core.List.{List, [], _∷_}
 use mathlib.Core.Option.{none}
 use lib.Dec.{leb}
 use lib.ListN.{length, getD}
-use Rattle.model.specs.Table.{FLOW, NODE, VAR, FUN, ARG, SPAN, SET, SKIP, TURN, OperandKind, scope, owner, start, answer, node}
-use Rattle.model.specs.Table.{port, target, function, value, low, high, variable, jump, absent, operandsOf, kindAt, maxFlows, maxNodes}
-use Rattle.model.specs.Table.{maxVariables, maxFunctions, maxHandler, maxRanges, maxTurns, maxPort, maxWaiting}
+use Rattle.model.specs.Table.{FLOW, NODE, VAR, FUN, REPLY, ARG, SPAN, SET, SKIP, TURN, OperandKind, scope, owner, start, answer}
+use Rattle.model.specs.Table.{node, port, target, function, argument, value, low, high, variable, jump, absent, operandsOf, kindAt}
+use Rattle.model.specs.Table.{maxFlows, maxNodes, maxVariables, maxFunctions, maxReplies, maxHandler, maxRanges, maxTurns, maxPort}
+use Rattle.model.specs.Table.{maxWaiting}
 use Rattle.model.specs.Command.{Operands, Command}
 use Rattle.model.specs.Declared.{Instruction, countOf, bodyLength}
 use Rattle.model.specs.Program.{Program}
@@ -28,6 +29,7 @@ Allowed node x = x < maxNodes
 Allowed port x = x ≤ maxPort
 Allowed target x = x < maxNodes
 Allowed function x = x < maxFunctions
+Allowed argument x = Unit {0}
 Allowed value x = Unit {0}
 Allowed low x = Unit {0}
 Allowed high x = Unit {0}
@@ -80,6 +82,7 @@ pub record Limits (past : List Command) : Type 0 where
   pub nodes : countOf NODE past ≤ maxNodes
   pub variables : countOf VAR past ≤ maxVariables
   pub functions : countOf FUN past ≤ maxFunctions
+  pub replies : countOf REPLY past ≤ maxReplies
   pub ranges : countOf ARG past + countOf SPAN past ≤ maxRanges
   pub turns : countOf TURN past ≤ maxTurns
   pub handlers : (n : ℕ) → bodyLength past n ≤ maxHandler
@@ -103,7 +106,7 @@ Bytes job = (i : ℕ) → getD job i 0 < 256
 -- every number that a program fixes for accumulators, messages and variables is below 2^32
 pub record ProgramFits (P : Program) : Type 0 where
   pub startValue : (x : ℕ) → P .startValue x < 2 ^ 32
-  pub answer : (f argument : ℕ) → P .answer f argument < 2 ^ 32
+  pub answer : (f v : ℕ) → P .answer f v < 2 ^ 32
   pub operand : (n i : ℕ) → instructionAt P n i .operand < 2 ^ 32
   pub firstMessage : (n i : ℕ) → getD (P .firstMessages n) i 0 < 2 ^ 32
 

@@ -5,7 +5,7 @@ use mathlib.Core.Bool.{Bool, true, false, cond, not, _&&_}
 use mathlib.Core.List.{List, [], _∷_}
 use native.Mathlib.Omega.{arith}
 use borrow.Author.Tests.{ne-eqb}
-use Rattle.model.specs.Table.{NODE, VAR, FUN, WIRE, ANY, ARG, READ, WRITE, SPAN, BODY, START}
+use Rattle.model.specs.Table.{NODE, VAR, FUN, REPLY, WIRE, ANY, ARG, READ, WRITE, SPAN, BODY, START}
 use Rattle.model.specs.Command.{quaternary}
 use Rattle.command.specs.declared.read.Command.{Command as Code}
 use Rattle.command.specs.Reading.{commandOf}
@@ -47,10 +47,10 @@ module _ (t : List ℕ) (c : Code) where
 
   -- none of these bytes: a handler command, or one that declares nothing
   pub rest-arm :
-      ¬ (c .byte ≡ NODE) → ¬ (c .byte ≡ VAR) → ¬ (c .byte ≡ FUN) → ¬ (c .byte ≡ WIRE) → ¬ (c .byte ≡ ANY) → ¬ (c .byte ≡ ARG)
-      → ¬ (c .byte ≡ READ) → ¬ (c .byte ≡ WRITE) → ¬ (c .byte ≡ SPAN) → ¬ (c .byte ≡ BODY) → ¬ (c .byte ≡ START)
+      ¬ (c .byte ≡ NODE) → ¬ (c .byte ≡ VAR) → ¬ (c .byte ≡ FUN) → ¬ (c .byte ≡ REPLY) → ¬ (c .byte ≡ WIRE) → ¬ (c .byte ≡ ANY)
+      → ¬ (c .byte ≡ ARG) → ¬ (c .byte ≡ READ) → ¬ (c .byte ≡ WRITE) → ¬ (c .byte ≡ SPAN) → ¬ (c .byte ≡ BODY) → ¬ (c .byte ≡ START)
       → cond (isHandlerByte (c .byte)) (putIn t lengthCells (openIn t) (oneMore (lengthIn t (openIn t)))) t ≡ noted
-  rest-arm n₁ n₂ n₃ n₄ n₅ n₆ n₇ n₈ n₉ n₁₀ n₁₁ =
+  rest-arm n₁ n₂ n₃ n₄ n₅ n₆ n₇ n₈ n₉ n₁₀ n₁₁ n₁₂ =
       let first = made t (handlerWrite t (commandOf c)) in
       made-if t (handlerWrite t (commandOf c))
       ∙ sym (none-made first (declaredWrites t (commandOf c))
@@ -58,12 +58,13 @@ module _ (t : List ℕ) (c : Code) where
         ne-eqb (c .byte) NODE n₁,
         ne-eqb (c .byte) VAR n₂,
         ne-eqb (c .byte) FUN n₃,
-        ne-eqb (c .byte) WIRE n₄,
-        ne-eqb (c .byte) ANY n₅,
-        ne-eqb (c .byte) ARG n₆,
-        ne-eqb (c .byte) READ n₇,
-        ne-eqb (c .byte) WRITE n₈,
-        ne-eqb (c .byte) SPAN n₉,
-        ne-eqb (c .byte) BODY n₁₀,
-        ne-eqb (c .byte) START n₁₁,
+        ne-eqb (c .byte) REPLY n₄,
+        ne-eqb (c .byte) WIRE n₅,
+        ne-eqb (c .byte) ANY n₆,
+        ne-eqb (c .byte) ARG n₇,
+        ne-eqb (c .byte) READ n₈,
+        ne-eqb (c .byte) WRITE n₉,
+        ne-eqb (c .byte) SPAN n₁₀,
+        ne-eqb (c .byte) BODY n₁₁,
+        ne-eqb (c .byte) START n₁₂,
       )))

@@ -41,7 +41,7 @@ only-length t c handler =
       fourth = c .operands .fourth;
     } in
     rest-arm t code (λ q. omega arith) (λ q. omega arith) (λ q. omega arith) (λ q. omega arith) (λ q. omega arith) (λ q. omega arith)
-    (λ q. omega arith) (λ q. omega arith) (λ q. omega arith) (λ q. omega arith) (λ q. omega arith)
+    (λ q. omega arith) (λ q. omega arith) (λ q. omega arith) (λ q. omega arith) (λ q. omega arith) (λ q. omega arith)
 
 -- the command with these operands, at place 0
 abbrev with-operands : Command → Operands → Command

@@ -2,6 +2,6 @@ pub mod Arms
 pub mod Sections
 pub mod Cases
 pub mod Same
-pub mod Ranged
+pub mod Kept
 pub mod Noting
 pub mod Forgetting

@@ -1,21 +1,23 @@
 -- One more command in the tables: every section then says what the model says of one command more.
 use Prim.Native.Nat.{ℕ, _+_, _-_, _*_, _/_, _%_, _≤_, _<_, zero-le}
 use mathlib.Core.Path.{_≡_, refl, sym, ap, _∙_}
-use mathlib.Core.Bool.{Bool, true, false, cond, not, _&&_, _||_}
+use mathlib.Core.Bool.{Bool, true, false, cond, not, _&&_, _||_, and-assoc}
 use mathlib.Core.List.{List, [], _∷_, _++_, append-nil}
+use mathlib.Core.Option.{Option, some}
 use mathlib.Core.Logic.{_⊎_, inl, inr}
 use native.Mathlib.Omega.{arith}
 use lib.Dec.{ltb, eqb}
 use lib.ListN.{length, length-append}
 use borrow.Author.Tests.{ltb-false, lt-ltb, le-ltb, eqb-true}
-use Rattle.model.specs.Table.{FLOW, NODE, VAR, FUN, WIRE, ANY, ARG, READ, WRITE, SPAN, BODY, START, operandsIn, operandsOf, groupOf}
+use Rattle.model.specs.Table.{FLOW, NODE, VAR, FUN, REPLY, WIRE, ANY, ARG, READ, WRITE, SPAN, BODY, START, operandsIn, operandsOf, groupOf}
 use Rattle.model.specs.Command.{Command, is, quaternary, ternary, binary}
+use Rattle.model.specs.Declared.{isReply, replyOf, isThere}
 use Rattle.model.specs.Declared.{only, countOf, occurs, inSpan, declared, flowOf, isHandler, openBody, bodyLength, startsOf, startedIn}
 use Rattle.model.specs.Refusal.{groupFalls}
 use Rattle.model.specs.Valid.{Valid, Named}
 use Rattle.model.proofs.Growth.{count-same, count-grows, count-below, occurs-next, open-next, body-next, starts-next}
-use Rattle.model.proofs.Growth.{span-next, started-next}
-use Rattle.model.proofs.Logic.{true-false}
+use Rattle.model.proofs.Growth.{span-next, reply-next, started-next}
+use Rattle.model.proofs.Logic.{true-false, or-first, or-second, and-left}
 use Rattle.model.proofs.Naming.{open-inside, starts-one}
 use Rattle.model.proofs.Valid.{passes, limits, named}
 use Rattle.command.specs.declared.read.Command.{Command as Code}
@@ -24,19 +26,19 @@ use Rattle.tables.specs.declared.cells.Section.{Section}
 use Rattle.tables.specs.Bits.{bitOf}
 use Rattle.tables.specs.Cells.{cellCount, entryIn, putIn, flagIn, isMarkPlace, markCell, marksWith, markIn, halvesWith}
 use Rattle.tables.specs.Tables.{countCells, progressCells, flowCells, scopeCells, ownerCells, startCells, answerCells, lengthCells}
-use Rattle.tables.specs.Tables.{bodyCells, startedCells, firstCells, messageCells, lowCells, highCells, linkCells, headCells}
+use Rattle.tables.specs.Tables.{bodyCells, startedCells, firstCells, messageCells, linkCells, rangeHeadCells, replyHeadCells}
 use Rattle.tables.specs.Tables.{readCells, writeCells, anyCells, wireCells, countIn, groupIn, openIn, flowIn, lengthIn, wiredIn}
-use Rattle.tables.specs.Tables.{rangeCountIn, headPlace, headIn}
-use Rattle.tables.specs.Tables.{listedIn, inRangeIn}
-use Rattle.tables.specs.Ranges.{range, isRange, holds, isThis}
+use Rattle.tables.specs.Tables.{itemFirstCells, itemSecondCells, itemCountIn, headPlace, rangeHeadIn, rangesIn, listedIn, inRangeIn}
+use Rattle.tables.specs.Tables.{replyHeadIn, repliesIn, replyIn}
+use Rattle.tables.specs.Items.{Item, item, isRange, rangeOf, exchangeOf, isItem, firstItem, holds, isThis, isTo, answerFound}
 use Rattle.tables.specs.Stands.{Stands}
 use Rattle.notes.specs.Notes.{Notes}
 use Rattle.tables.specs.Writes.{oneMore, made, written, commandWrites, noteWrites, tablesOf}
 use Rattle.notes.proofs.Sections.{sorted, left, length-written, entry-written}
 use Rattle.command.proofs.Known.{byte-low}
 use Rattle.notes.proofs.Cases.{column, flag, marking, wire}
-use Rattle.notes.proofs.Ranged.{RangeWritten, head-next, some-next}
-use Rattle.notes.proofs.Same.{same-three, same-two, same-one, by-range, argument-same, span-same, call-same}
+use Rattle.notes.proofs.Kept.{ItemWritten, repliesFor, head-next, reply-head-next, ranges-next, replies-next, first-next, some-next}
+use Rattle.notes.proofs.Same.{same-three, same-two, same-one, by-range, isOf, argument-same, span-same, call-same}
 
 -- one more, where that is counted
 more : (n : ℕ) → n < 65536 → oneMore n ≡ n + 1
@@ -140,7 +142,7 @@ module _ (t : List ℕ) (past : List Command) (c : Command) (s : Stands t past) 
   opened-next : openIn after ≡ openBody (c ∷ past)
   opened-next =
       in-section progressCells (omega arith) refl 1
-      ∙ this-last (is BODY c) (isRange c) (c .operands .first) (oneMore (rangeCountIn t)) (openIn t)
+      ∙ this-last (is BODY c) (isItem c) (c .operands .first) (oneMore (itemCountIn t)) (openIn t)
       ∙ rw (s .opened, open-next c past)
 
   flow-next : (n : ℕ) → flowIn after n ≡ flowOf (c ∷ past) n
@@ -298,78 +300,134 @@ module _ (t : List ℕ) (past : List Command) (c : Command) (s : Stands t past) 
   unfolding operandsOf operandsIn
   arg-range e = rw (byte-is ARG e) at (named-here .fourth)
 
-  -- how many ranges there are
-  ranges-next : countOf ARG (c ∷ past) + countOf SPAN (c ∷ past) ≡ cond (isRange c) (rangeCountIn t + 1) (rangeCountIn t)
+  reply-range : is REPLY c ≡ true → c .operands .first < 32
+  unfolding operandsOf operandsIn
+  reply-range e = rw (byte-is REPLY e) at (named-here .first)
+
+  -- how many items there are
+  items-next : countOf REPLY (c ∷ past) + (countOf ARG (c ∷ past) + countOf SPAN (c ∷ past)) ≡ cond (isItem c) (itemCountIn t + 1)
+      (itemCountIn t)
   unfolding countOf
-  ranges-next = by-range c
-      (λ p q. cond p (countOf ARG past + 1) (countOf ARG past) + cond q (countOf SPAN past + 1) (countOf SPAN past) ≡ cond (p || q)
-      (rangeCountIn t + 1) (rangeCountIn t)) (λ e. omega (arith, s .rangeCount)) (λ e. omega (arith, s .rangeCount))
-      (sym (s .rangeCount))
-
-  range-room : isRange c ≡ true → rangeCountIn t < 256
-  range-room e = let n : countOf ARG (c ∷ past) + countOf SPAN (c ∷ past) ≡ rangeCountIn t + 1 = ranges-next ∙ rw e in
-      omega (arith, limits (c ∷ past) v .ranges)
-
-  range-more : isRange c ≡ true → oneMore (rangeCountIn t) ≡ rangeCountIn t + 1
-  range-more e = more (rangeCountIn t) (omega (arith, range-room e))
-
-  -- what is counted and written for a range
-  range-count-next : rangeCountIn after ≡ countOf ARG (c ∷ past) + countOf SPAN (c ∷ past)
-  range-count-next =
-      in-section progressCells (omega arith) refl 2
-      ∙ this-first (is BODY c) (isRange c) (c .operands .first) (oneMore (rangeCountIn t)) (rangeCountIn t)
-      ∙ counted (isRange c) refl ∙ sym ranges-next
+  items-next = by-reply (is REPLY c) refl
     where
-      counted : (b : Bool) → isRange c ≡ b
-          → cond b (oneMore (rangeCountIn t)) (rangeCountIn t) ≡ cond b (rangeCountIn t + 1) (rangeCountIn t)
-      counted true e = range-more e
+      by-reply : (b : Bool) → is REPLY c ≡ b
+          → cond b (countOf REPLY past + 1) (countOf REPLY past)
+          + (cond (is ARG c) (countOf ARG past + 1) (countOf ARG past) + cond (is SPAN c) (countOf SPAN past + 1) (countOf SPAN past))
+          ≡ cond (b || isRange c) (itemCountIn t + 1) (itemCountIn t)
+      by-reply true e = rw (byte-is REPLY e) (omega (arith, s .itemCount))
+      by-reply false e = by-range c
+          (λ p q. countOf REPLY past
+          + (cond p (countOf ARG past + 1) (countOf ARG past) + cond q (countOf SPAN past + 1) (countOf SPAN past))
+          ≡ cond (p || q) (itemCountIn t + 1) (itemCountIn t)) (λ e. omega (arith, s .itemCount)) (λ e. omega (arith, s .itemCount))
+          (sym (s .itemCount))
+
+  item-room : isItem c ≡ true → itemCountIn t < 384
+  item-room e =
+      let n : countOf REPLY (c ∷ past) + (countOf ARG (c ∷ past) + countOf SPAN (c ∷ past)) ≡ itemCountIn t + 1 = items-next ∙ rw e in
+      omega (arith, limits (c ∷ past) v .ranges, limits (c ∷ past) v .replies)
+
+  item-more : isItem c ≡ true → oneMore (itemCountIn t) ≡ itemCountIn t + 1
+  item-more e = more (itemCountIn t) (omega (arith, item-room e))
+
+  -- what is counted and written for an item
+  item-count-next : itemCountIn after ≡ countOf REPLY (c ∷ past) + (countOf ARG (c ∷ past) + countOf SPAN (c ∷ past))
+  item-count-next =
+      in-section progressCells (omega arith) refl 2
+      ∙ this-first (is BODY c) (isItem c) (c .operands .first) (oneMore (itemCountIn t)) (itemCountIn t)
+      ∙ counted (isItem c) refl ∙ sym items-next
+    where
+      counted : (b : Bool) → isItem c ≡ b → cond b (oneMore (itemCountIn t)) (itemCountIn t) ≡ cond b (itemCountIn t + 1) (itemCountIn t)
+      counted true e = item-more e
       counted false e = refl
 
-  written-range : RangeWritten t after c
-  written-range =
+  written-item : ItemWritten t after c
+  written-item =
       record {
-        low = in-section lowCells (omega arith) refl;
-        high = in-section highCells (omega arith) refl;
+        first = in-section itemFirstCells (omega arith) refl;
+        second = in-section itemSecondCells (omega arith) refl;
         linked = in-section linkCells (omega arith) refl;
-        head = λ i. in-section headCells (omega arith) refl i ∙ headed i (isRange c) refl;
-        room = range-room;
+        head = λ i. in-section rangeHeadCells (omega arith) refl i ∙ headed i (isRange c) refl;
+        replyHead = λ f. in-section replyHeadCells (omega arith) refl f ∙ replied f (is REPLY c) refl;
+        room = item-room;
         inside = range-range;
+        function = reply-range;
         heads = s .heads;
+        replyHeads = s .replyHeads;
       }
     where
       headed : (i : ℕ) (b : Bool) → isRange c ≡ b
           → cond (b && (eqb (headPlace (c .operands .first) (c .operands .second) / 2) i && ltb i 512))
-          (halvesWith t headCells (headPlace (c .operands .first) (c .operands .second)) (oneMore (rangeCountIn t))) (entryIn t headCells i)
+          (halvesWith t rangeHeadCells (headPlace (c .operands .first) (c .operands .second)) (oneMore (itemCountIn t)))
+          (entryIn t rangeHeadCells i)
           ≡ cond (b && (eqb (headPlace (c .operands .first) (c .operands .second) / 2) i && ltb i 512))
-          (halvesWith t headCells (headPlace (c .operands .first) (c .operands .second)) (rangeCountIn t + 1)) (entryIn t headCells i)
-      headed i true e = rw (range-more e)
+          (halvesWith t rangeHeadCells (headPlace (c .operands .first) (c .operands .second)) (itemCountIn t + 1))
+          (entryIn t rangeHeadCells i)
+      headed i true e = rw (item-more (or-second (is REPLY c) (isRange c) e))
       headed i false e = refl
 
-  heads-next : (n f : ℕ) → headIn after n f ≤ rangeCountIn after
+      replied : (f : ℕ) (b : Bool) → is REPLY c ≡ b
+          → cond (b && (eqb (c .operands .first) f && ltb f 32)) (oneMore (itemCountIn t)) (replyHeadIn t f)
+          ≡ cond (b && (eqb (c .operands .first) f && ltb f 32)) (itemCountIn t + 1) (replyHeadIn t f)
+      replied f true e = rw (item-more (or-first (is REPLY c) (isRange c) e))
+      replied f false e = refl
+
+  -- the last item of a chain is one of those counted
+  head-counted : (b here : Bool) (h : ℕ) → (here ≡ true → b ≡ true) → h ≤ itemCountIn t
+      → cond here (itemCountIn t + 1) h ≤ cond b (itemCountIn t + 1) (itemCountIn t)
+  head-counted true true h e l = omega arith
+  head-counted true false h e l = omega arith
+  head-counted false true h e l = true-false (sym (e refl))
+  head-counted false false h e l = l
+
+  heads-next : (n f : ℕ) → rangeHeadIn after n f ≤ itemCountIn after
   heads-next n f =
-      rw (head-next t after c written-range n f, range-count-next, ranges-next)
-      (by-command (isRange c) (eqb (c .operands .first) n && eqb (c .operands .second) f))
-    where
-      by-command : (b d : Bool) → cond (b && d) (rangeCountIn t + 1) (headIn t n f) ≤ cond b (rangeCountIn t + 1) (rangeCountIn t)
-      by-command true true = omega arith
-      by-command true false = omega (arith, s .heads n f)
-      by-command false d = s .heads n f
+      rw (head-next t after c written-item n f, item-count-next, items-next)
+      (head-counted (isItem c) (isOf c n f) (rangeHeadIn t n f) (λ e. or-second (is REPLY c) (isRange c) (and-left (isRange c) _ e))
+      (s .heads n f))
+
+  reply-heads-next : (f : ℕ) → replyHeadIn after f ≤ itemCountIn after
+  reply-heads-next f =
+      rw (reply-head-next t after c written-item f, item-count-next, items-next)
+      (head-counted (isItem c) (repliesFor c f) (replyHeadIn t f) (λ e. or-first (is REPLY c) (isRange c) (and-left (is REPLY c) _ e))
+      (s .replyHeads f))
+
+  -- a test of the ranges of a node and a function
+  some-range : (test : Item → Bool) (n f : ℕ)
+      → isThere (firstItem test (rangesIn after n f))
+      ≡ ((isOf c n f && test (rangeOf c)) || isThere (firstItem test (rangesIn t n f)))
+  some-range test n f = rw (ranges-next t after c written-item n f) (some-next test (isOf c n f) (rangeOf c) (rangesIn t n f))
 
   arguments-next : (n f w : ℕ) → listedIn after ARG n f w w ≡ occurs ARG (ternary n f w) (c ∷ past)
   arguments-next n f w =
-      some-next t after c written-range (isThis (range ARG w w)) n f
+      some-range (isThis (item ARG w w)) n f
       ∙ rw (s .arguments n f w, argument-same c n f w arg-range, occurs-next c past ARG (ternary n f w))
 
   spans-next : (n f low high : ℕ) → listedIn after SPAN n f low high ≡ occurs SPAN (quaternary n f low high) (c ∷ past)
   spans-next n f low high =
-      some-next t after c written-range (isThis (range SPAN low high)) n f
+      some-range (isThis (item SPAN low high)) n f
       ∙ rw (s .spans n f low high, span-same c n f low high, occurs-next c past SPAN (quaternary n f low high))
 
   calls-next : (n f w : ℕ) → inRangeIn after n f w ≡ (occurs ARG (ternary n f w) (c ∷ past) || inSpan n f w (c ∷ past))
   calls-next n f w =
-      some-next t after c written-range (holds w) n f
+      some-range (holds w) n f
       ∙ rw (s .calls n f w, occurs-next c past ARG (ternary n f w), span-next c past n f w)
       (call-same c n f w (occurs ARG (ternary n f w) past) (inSpan n f w past) arg-range)
+
+  replies-after : (f w : ℕ) → replyIn after f w ≡ replyOf (c ∷ past) f w
+  replies-after f w =
+      rw (
+        replies-next t after c written-item f,
+        first-next (isTo w) (repliesFor c f) (exchangeOf c) (repliesIn t f),
+        reply-next c past f w,
+        ← s .replies f w,
+        and-assoc (is REPLY c) (eqb (c .operands .first) f) (eqb (c .operands .second) w),
+      )
+      (found (isReply f w c) (firstItem (isTo w) (repliesIn t f)))
+    where
+      found : (b : Bool) (o : Option Item)
+          → answerFound (cond b (some (exchangeOf c)) o) ≡ cond b (some (c .operands .third)) (answerFound o)
+      found true o = refl
+      found false o = refl
 
   -- the tables stand for one command more
   pub stands-next : Stands (written t (noteWrites t c)) (c ∷ past)
@@ -393,11 +451,13 @@ module _ (t : List ℕ) (past : List Command) (c : Command) (s : Stands t past) 
         reads = reads-next;
         writes = writes-next;
         anys = anys-next;
-        rangeCount = range-count-next;
+        itemCount = item-count-next;
         heads = heads-next;
         arguments = arguments-next;
         spans = spans-next;
         calls = calls-next;
+        replyHeads = reply-heads-next;
+        replies = replies-after;
         cells = ap (λ (u : List ℕ). written u (noteWrites u c)) (s .cells);
       }
 

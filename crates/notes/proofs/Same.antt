@@ -8,7 +8,7 @@ use borrow.Author.Tests.{leb-true, leb-false, eqb-true, eq-eqb, ne-eqb}
 use Rattle.model.specs.Table.{ARG, SPAN}
 use Rattle.model.specs.Command.{Command, is, quaternary, ternary, binary}
 use Rattle.model.specs.Declared.{isSame, spanPermits}
-use Rattle.tables.specs.Ranges.{range, isRange, rangeOf, holds, isThis}
+use Rattle.tables.specs.Items.{item, isRange, rangeOf, holds, isThis}
 
 -- a test that need not be asked
 absent : (p a t : Bool) → (p ≡ true → t ≡ true) → (p && (a && t)) ≡ (p && a)
@@ -78,7 +78,7 @@ module _ (c : Command) where
 
     -- it is this ARG, and this SPAN
     pub argument-same : (v : ℕ) → (is ARG c ≡ true → c .operands .fourth ≡ 0)
-        → (isOf && isThis (range ARG v v) (rangeOf c)) ≡ isSame ARG (ternary n f v) c
+        → (isOf && isThis (item ARG v v) (rangeOf c)) ≡ isSame ARG (ternary n f v) c
     argument-same v h =
         let a = eqb (c .operands .first) n in
         let b = eqb (c .operands .second) f in
@@ -88,7 +88,7 @@ module _ (c : Command) where
         (λ e. rw (h e) (and-twice a b (eqb x v))) (λ e. and-false (a && b)) refl
 
     pub span-same : (low high : ℕ)
-        → (isOf && isThis (range SPAN low high) (rangeOf c))
+        → (isOf && isThis (item SPAN low high) (rangeOf c))
         ≡ isSame SPAN (quaternary n f low high) c
     span-same low high =
         let a = eqb (c .operands .first) n in

@@ -1,14 +1,16 @@
 // What a command writes to the tables, where it is more than a mark.
 ghost use mathlib.Core.Path.{_≡_};
 ghost use mathlib.Core.Bool.{true, cond};
+ghost use mathlib.Core.List.{_∷_};
 ghost use Prim.Native.Nat.{_-_};
-ghost use Rattle.model.specs.Table.{FLOW, NODE, VAR, FUN};
+ghost use Rattle.model.specs.Table.{FLOW, NODE, VAR, FUN, REPLY};
 ghost use Rattle.command.specs.Rows.{isHandlerByte};
 ghost use Rattle.tables.specs.Cells.{putIn};
-ghost use Rattle.tables.specs.Tables.{countIn, openIn, flowIn, lengthIn, flowCells, scopeCells, ownerCells, startCells, answerCells, lengthCells, progressCells, bodyCells};
-ghost use Rattle.tables.specs.Tables.{startedCells, firstCells, messageCells};
-ghost use Rattle.tables.specs.Ranges.{range};
-ghost use Rattle.tables.specs.Writes.{oneMore, written, rangeWrites};
+ghost use Rattle.tables.specs.Tables.{countIn, openIn, flowIn, lengthIn, flowCells, scopeCells, ownerCells, startCells, answerCells};
+ghost use Rattle.tables.specs.Tables.{lengthCells, progressCells, bodyCells};
+ghost use Rattle.tables.specs.Tables.{startedCells, firstCells, messageCells, itemCountIn, rangeHeadIn, replyHeadIn};
+ghost use Rattle.tables.specs.Items.{item};
+ghost use Rattle.tables.specs.Writes.{oneMore, written, rangeWrite, replyWrite, itemWrites};
 use crate::one_less;
 use crate::one_more;
 use command::bytes;
@@ -18,9 +20,9 @@ use command::read::Command;
 use declared::count_of;
 use declared::flow_of;
 use declared::last_range;
+use declared::last_reply;
 use declared::length_of;
 use declared::open_node;
-use declared::range_count;
 use tables::cells;
 use tables::cells::put;
 use tables::cells::put_half;
@@ -48,22 +50,39 @@ pub(crate) fn note_variable(tables: &mut [u32], c: Command)
     put(tables, cells::INITIAL, number, c.third);
 }
 
-// One range more: the last of its node and function, with its lowest and highest argument, its byte, and the range before it.
-pub(crate) fn note_range(tables: &mut [u32], byte: u8, n: NodeNum, f: FunNum, low: u32, high: u32)
-    ensures { λ _. ⌜ now (tables .exit) ≡ written (now (tables .entry)) (rangeWrites (now (tables .entry)) true (n .0) (f .0)
-        (range byte low high)) ⌝ }
+// One more item: its numbers, its byte, and the item before it in its chain.
+fn note_item(tables: &mut [u32], number: u32, before: u32, byte: u8, first: u32, second: u32)
+    ensures { λ _. ⌜ now (tables .exit) ≡ written (now (tables .entry)) (itemWrites true number before (item byte first second)) ⌝ }
 {
-    let count = range_count(tables);
-    let before = last_range(tables, n, f);
-    let number = count as usize;
-    let more = one_more(count);
+    let place = number as usize;
     let link = (byte as u32) * 65536 + before % 65536;
+    put(tables, cells::ITEM_FIRST, place, first);
+    put(tables, cells::ITEM_SECOND, place, second);
+    put(tables, cells::ITEM_LINK, place, link);
+    put(tables, cells::PROGRESS, 2, one_more(number));
+}
+
+// One more range: the last of its node and function, with its lowest and highest argument.
+pub(crate) fn note_range(tables: &mut [u32], byte: u8, n: NodeNum, f: FunNum, low: u32, high: u32)
+    ensures { λ _. ⌜ now (tables .exit) ≡ written (now (tables .entry)) (rangeWrite (now (tables .entry)) true (n .0) (f .0)
+        ∷ itemWrites true (itemCountIn (now (tables .entry))) (rangeHeadIn (now (tables .entry)) (n .0) (f .0)) (item byte low high)) ⌝ }
+{
+    let number = items::count(tables);
+    let before = last_range(tables, n, f);
     let place = (n.0 as usize) * 32 + (f.0 as usize);
-    put_half(tables, cells::RANGE_HEAD, place, more);
-    put(tables, cells::RANGE_LOW, number, low);
-    put(tables, cells::RANGE_HIGH, number, high);
-    put(tables, cells::RANGE_LINK, number, link);
-    put(tables, cells::PROGRESS, 2, more);
+    put_half(tables, cells::RANGE_HEAD, place, one_more(number));
+    note_item(tables, number, before, byte, low, high);
+}
+
+// One more reply: the last of its function, with argument and answer.
+pub(crate) fn note_reply(tables: &mut [u32], f: FunNum, argument: u32, answer: u32)
+    ensures { λ _. ⌜ now (tables .exit) ≡ written (now (tables .entry)) (replyWrite (now (tables .entry)) true (f .0)
+        ∷ itemWrites true (itemCountIn (now (tables .entry))) (replyHeadIn (now (tables .entry)) (f .0)) (item REPLY argument answer)) ⌝ }
+{
+    let number = items::count(tables);
+    let before = last_reply(tables, f);
+    put(tables, cells::REPLY_HEAD, f.0 as usize, one_more(number));
+    note_item(tables, number, before, bytes::REPLY, argument, answer);
 }
 
 // The answer of the next function.

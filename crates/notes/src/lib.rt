@@ -15,6 +15,7 @@ use commands::note_function;
 use commands::note_handler;
 use commands::note_node;
 use commands::note_range;
+use commands::note_reply;
 use commands::note_start;
 use commands::note_variable;
 use declared::count_of;
@@ -55,6 +56,7 @@ fn note_content(tables: &mut [u32], c: Command)
         bytes::NODE => note_node(tables),
         bytes::VAR => note_variable(tables, c),
         bytes::FUN => note_function(tables, c),
+        bytes::REPLY => note_reply(tables, FunNum(c.first), c.second, c.third),
         bytes::WIRE => mark(tables, cells::WIRES, first * 4 + second, c.third as usize),
         bytes::ANY => mark(tables, cells::CALLS, first, second),
         bytes::ARG => note_range(tables, byte, node, function, c.third, c.third),

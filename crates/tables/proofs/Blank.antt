@@ -3,18 +3,21 @@ use Prim.Native.Nat.{ℕ, _+_, _*_, _/_, _%_, _≤_, zero-le}
 use mathlib.Core.Path.{_≡_, refl, sym, _∙_}
 use mathlib.Core.Bool.{Bool, true, false, cond, and-false}
 use mathlib.Core.List.{[]}
+use mathlib.Core.Option.{none}
 use native.Mathlib.Omega.{arith}
 use lib.Dec.{ltb, eqb}
 use lib.ListN.{length-replicate, getD-replicate}
 use borrow.Author.Tests.{ltb-true, ltb-false, le-ltb}
 use Rattle.model.specs.Table.{ARG, SPAN, groupOf}
-use Rattle.model.specs.Declared.{countOf, occurs, inSpan, declared, openBody, bodyLength, startsOf, startedIn}
+use Rattle.model.specs.Declared.{countOf, isThere, occurs, inSpan, declared, replyOf, openBody, bodyLength, startsOf, startedIn}
 use Rattle.model.specs.Refusal.{groupFalls}
 use Rattle.tables.specs.declared.cells.Section.{Section}
 use Rattle.tables.specs.Cells.{cellCount, entryIn, flagIn, isMarkPlace, markCell, markIn, halfIn, blank}
-use Rattle.tables.specs.Tables.{countCells, progressCells, firstCells, wireCells, headCells, headPlace, headIn, chainIn, rangesIn}
+use Rattle.tables.specs.Tables.{countCells, progressCells, replyHeadCells, firstCells, wireCells, rangeHeadCells, headPlace}
+use Rattle.tables.specs.Tables.{rangeHeadIn, chainIn}
+use Rattle.tables.specs.Tables.{rangesIn, replyIn}
 use Rattle.tables.specs.Bits.{halfOf}
-use Rattle.tables.specs.Ranges.{Range, range, someRange, holds, isThis}
+use Rattle.tables.specs.Items.{Item, item, firstItem, holds, isThis}
 use Rattle.tables.specs.Writes.{tablesOf}
 use Rattle.tables.specs.Stands.{Stands}
 use Rattle.tables.proofs.Setting.{bit-zero}
@@ -40,7 +43,7 @@ unfolding markIn
 mark-blank s r x h = rw (entry-blank s (markCell r x) h, bit-zero (x % 32)) (and-false (isMarkPlace r x))
 
 -- no node has a range for a function
-head-blank : (n f : ℕ) → headIn blank n f ≡ 0
+head-blank : (n f : ℕ) → rangeHeadIn blank n f ≡ 0
 unfolding halfIn halfOf
 head-blank n f = by-function (ltb f 32)
   where
@@ -48,16 +51,21 @@ head-blank n f = by-function (ltb f 32)
     by-half true = refl
     by-half false = refl
 
-    by-function : (b : Bool) → cond b (halfIn blank headCells (headPlace n f)) 0 ≡ 0
-    by-function true = rw (entry-blank headCells (headPlace n f / 2) (omega arith)) (by-half (eqb (headPlace n f % 2) 0))
+    by-function : (b : Bool) → cond b (halfIn blank rangeHeadCells (headPlace n f)) 0 ≡ 0
+    by-function true = rw (entry-blank rangeHeadCells (headPlace n f / 2) (omega arith)) (by-half (eqb (headPlace n f % 2) 0))
     by-function false = refl
 
-some-blank : (test : Range → Bool) (n f : ℕ) → someRange test (rangesIn blank n f) ≡ false
-unfolding chainIn someRange
+some-blank : (test : Item → Bool) (n f : ℕ) → isThere (firstItem test (rangesIn blank n f)) ≡ false
+unfolding chainIn firstItem
 some-blank test n f = rw (head-blank n f)
 
+-- no function has a reply
+reply-blank : (f v : ℕ) → replyIn blank f v ≡ none
+unfolding chainIn firstItem
+reply-blank f v = rw (entry-blank replyHeadCells f (omega arith))
+
 pub stands-blank : Stands blank []
-unfolding groupFalls countOf occurs declared openBody bodyLength startsOf startedIn inSpan blank tablesOf
+unfolding groupFalls countOf occurs declared replyOf openBody bodyLength startsOf startedIn inSpan blank tablesOf
 stands-blank =
     record {
       size = length-replicate {A = ℕ} cellCount 0;
@@ -77,10 +85,12 @@ stands-blank =
       reads = λ n x. mark-blank _ n x (omega arith);
       writes = λ n x. mark-blank _ n x (omega arith);
       anys = λ n f. mark-blank _ n f (omega arith);
-      rangeCount = entry-blank progressCells 2 (omega arith);
+      itemCount = entry-blank progressCells 2 (omega arith);
       heads = λ n f. rw (head-blank n f) zero-le;
-      arguments = λ n f v. some-blank (isThis (range ARG v v)) n f;
-      spans = λ n f low high. some-blank (isThis (range SPAN low high)) n f;
+      arguments = λ n f v. some-blank (isThis (item ARG v v)) n f;
+      spans = λ n f low high. some-blank (isThis (item SPAN low high)) n f;
       calls = λ n f v. some-blank (holds v) n f;
+      replyHeads = λ f. rw (entry-blank replyHeadCells f (omega arith)) zero-le;
+      replies = reply-blank;
       cells = refl;
     }

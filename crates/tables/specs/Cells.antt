@@ -9,7 +9,7 @@ use Rattle.tables.specs.Bits.{bitOf, withBit, halfOf, withHalf}
 
 -- how many cells there are
 abbrev pub cellCount : ℕ
-cellCount = 2304
+cellCount = 2720
 
 -- the section with this first cell and this many cells
 abbrev pub section : ℕ → ℕ → Section

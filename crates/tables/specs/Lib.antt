@@ -1,6 +1,6 @@
 pub mod Bits
 pub mod Cells
-pub mod Ranges
+pub mod Items
 pub mod Tables
 pub mod Writes
 pub mod Stands

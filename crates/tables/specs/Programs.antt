@@ -4,7 +4,7 @@ use mathlib.Core.List.{List}
 use Rattle.model.specs.Table.{FLOW, NODE, VAR, FUN}
 use Rattle.model.specs.Declared.{Instruction}
 use Rattle.model.specs.Program.{Program}
-use Rattle.tables.specs.Tables.{countIn, flowIn, scopeIn, ownerIn, startIn, funAnswerIn, wiredIn, callIn, readIn, writeIn, firstsIn}
+use Rattle.tables.specs.Tables.{countIn, flowIn, scopeIn, ownerIn, startIn, answerIn, wiredIn, callIn, readIn, writeIn, firstsIn}
 
 -- the handler of each node
 abbrev pub Handlers : Type 0
@@ -22,7 +22,7 @@ programIn t hs =
       scope = scopeIn t;
       owner = ownerIn t;
       startValue = startIn t;
-      answer = λ f argument. funAnswerIn t f;
+      answer = answerIn t;
       wired = wiredIn t;
       mayCall = callIn t;
       mayRead = readIn t;

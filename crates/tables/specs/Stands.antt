@@ -1,19 +1,20 @@
 -- The tables stand for the commands read so far: each name in `Tables` has the value that the model gives it, also where nothing is
--- declared; `heads` bounds the numbers of ranges; and no cell holds anything else than what is written for these commands.
+-- declared; `heads` and `replyHeads` bound the numbers of items; and no cell holds anything else than what is written for these commands.
 use Prim.Native.Nat.{ℕ, _+_, _≤_, _<_}
 use mathlib.Core.Path.{_≡_}
 use mathlib.Core.Bool.{_||_}
 use mathlib.Core.List.{List}
 use lib.Dec.{ltb}
 use lib.ListN.{length}
-use Rattle.model.specs.Table.{WIRE, ANY, ARG, READ, WRITE, SPAN, BODY, groupOf}
+use Rattle.model.specs.Table.{REPLY, WIRE, ANY, ARG, READ, WRITE, SPAN, BODY, groupOf}
 use Rattle.model.specs.Command.{Command, quaternary, ternary, binary}
-use Rattle.model.specs.Declared.{countOf, occurs, inSpan, flowOf, scopeOf, ownerOf, startOf, funAnswerOf, openBody, bodyLength, startsOf}
-use Rattle.model.specs.Declared.{startedIn}
+use Rattle.model.specs.Declared.{countOf, occurs, inSpan, flowOf, scopeOf, ownerOf, startOf, funAnswerOf, replyOf, openBody, bodyLength}
+use Rattle.model.specs.Declared.{startsOf, startedIn}
 use Rattle.model.specs.Refusal.{groupFalls}
 use Rattle.tables.specs.Cells.{cellCount}
 use Rattle.tables.specs.Tables.{countIn, groupIn, openIn, flowIn, scopeIn, ownerIn, startIn, funAnswerIn, lengthIn, bodyIn, startedAt}
-use Rattle.tables.specs.Tables.{firstsIn, wiredIn, readIn, writeIn, anyIn, rangeCountIn, headIn, listedIn, inRangeIn}
+use Rattle.tables.specs.Tables.{firstsIn, wiredIn, readIn, writeIn, anyIn, itemCountIn, rangeHeadIn, listedIn, inRangeIn}
+use Rattle.tables.specs.Tables.{replyHeadIn, replyIn}
 use Rattle.tables.specs.Writes.{tablesOf}
 
 pub record Stands (t : List ℕ) (past : List Command) : Type 0 where
@@ -34,9 +35,11 @@ pub record Stands (t : List ℕ) (past : List Command) : Type 0 where
   pub reads : (n x : ℕ) → readIn t n x ≡ occurs READ (binary n x) past
   pub writes : (n x : ℕ) → writeIn t n x ≡ occurs WRITE (binary n x) past
   pub anys : (n f : ℕ) → anyIn t n f ≡ occurs ANY (binary n f) past
-  pub rangeCount : rangeCountIn t ≡ countOf ARG past + countOf SPAN past
-  pub heads : (n f : ℕ) → headIn t n f ≤ rangeCountIn t
+  pub itemCount : itemCountIn t ≡ countOf REPLY past + (countOf ARG past + countOf SPAN past)
+  pub heads : (n f : ℕ) → rangeHeadIn t n f ≤ itemCountIn t
   pub arguments : (n f v : ℕ) → listedIn t ARG n f v v ≡ occurs ARG (ternary n f v) past
   pub spans : (n f low high : ℕ) → listedIn t SPAN n f low high ≡ occurs SPAN (quaternary n f low high) past
   pub calls : (n f v : ℕ) → inRangeIn t n f v ≡ (occurs ARG (ternary n f v) past || inSpan n f v past)
+  pub replyHeads : (f : ℕ) → replyHeadIn t f ≤ itemCountIn t
+  pub replies : (f v : ℕ) → replyIn t f v ≡ replyOf past f v
   pub cells : t ≡ tablesOf past

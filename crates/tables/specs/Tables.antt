@@ -2,11 +2,12 @@
 use Prim.Native.Nat.{ℕ, zero, suc, _+_, _*_, _/_, _%_}
 use mathlib.Core.Bool.{Bool, cond, _&&_, _||_}
 use mathlib.Core.List.{List, [], _∷_}
+use mathlib.Core.Option.{Option, Option·getD}
 use lib.Dec.{ltb, eqb}
-use Rattle.model.specs.Declared.{only, isShared, isSeen}
+use Rattle.model.specs.Declared.{only, isThere, isShared, isSeen}
 use Rattle.tables.specs.declared.cells.Section.{Section}
 use Rattle.tables.specs.Cells.{section, entryIn, flagIn, markIn, halfIn}
-use Rattle.tables.specs.Ranges.{Range, range, someRange, holds, isThis}
+use Rattle.tables.specs.Items.{Item, item, firstItem, holds, isThis, isTo, answerFound}
 
 -- the sections, in the code's order
 abbrev pub countCells : Section
@@ -30,44 +31,47 @@ startCells = section 320 64
 abbrev pub answerCells : Section
 answerCells = section 384 32
 
+abbrev pub replyHeadCells : Section
+replyHeadCells = section 416 32
+
 abbrev pub lengthCells : Section
-lengthCells = section 416 32
+lengthCells = section 448 32
 
 abbrev pub bodyCells : Section
-bodyCells = section 448 32
+bodyCells = section 480 32
 
 abbrev pub startedCells : Section
-startedCells = section 480 32
+startedCells = section 512 32
 
 abbrev pub firstCells : Section
-firstCells = section 512 32
+firstCells = section 544 32
 
 abbrev pub messageCells : Section
-messageCells = section 544 32
+messageCells = section 576 32
 
-abbrev pub lowCells : Section
-lowCells = section 576 256
+abbrev pub itemFirstCells : Section
+itemFirstCells = section 608 384
 
-abbrev pub highCells : Section
-highCells = section 832 256
+abbrev pub itemSecondCells : Section
+itemSecondCells = section 992 384
 
 abbrev pub linkCells : Section
-linkCells = section 1088 256
+linkCells = section 1376 384
 
 abbrev pub readCells : Section
-readCells = section 1344 64
+readCells = section 1760 64
 
 abbrev pub writeCells : Section
-writeCells = section 1408 64
+writeCells = section 1824 64
 
 abbrev pub anyCells : Section
-anyCells = section 1472 64
+anyCells = section 1888 64
 
 abbrev pub wireCells : Section
-wireCells = section 1536 256
+wireCells = section 1952 256
 
-abbrev pub headCells : Section
-headCells = section 1792 512
+abbrev pub rangeHeadCells : Section
+rangeHeadCells = section 2208 512
 
 -- how many commands have this byte
 abbrev pub countIn : List ℕ → ℕ → ℕ
@@ -95,7 +99,7 @@ ownerIn t x = entryIn t ownerCells x
 abbrev pub startIn : List ℕ → ℕ → ℕ
 startIn t x = entryIn t startCells x
 
--- the answer of a function
+-- FUN's answer of a function
 abbrev pub funAnswerIn : List ℕ → ℕ → ℕ
 funAnswerIn t f = entryIn t answerCells f
 
@@ -137,48 +141,64 @@ writeIn t n x = markIn t writeCells n x
 abbrev pub anyIn : List ℕ → ℕ → ℕ → Bool
 anyIn t n f = markIn t anyCells n f
 
--- how many ranges there are
-abbrev pub rangeCountIn : List ℕ → ℕ
-rangeCountIn t = entryIn t progressCells 2
+-- how many items there are
+abbrev pub itemCountIn : List ℕ → ℕ
+itemCountIn t = entryIn t progressCells 2
 
--- what is kept of a range besides its arguments, in one number: the byte of its command, and the range before it of the same node and
--- function, by its number plus 1, or 0 if there is none
+-- what is kept of an item besides its numbers, in one number: the byte of its command, and the item before it in its chain, by its number
+-- plus 1, or 0 if there is none
 abbrev pub link : ℕ → ℕ → ℕ
 link b before = b * 65536 + before % 65536
 
--- range i
-abbrev pub rangeIn : List ℕ → ℕ → Range
-rangeIn t i = range (entryIn t linkCells i / 65536) (entryIn t lowCells i) (entryIn t highCells i)
+-- item i
+abbrev pub itemIn : List ℕ → ℕ → Item
+itemIn t i = item (entryIn t linkCells i / 65536) (entryIn t itemFirstCells i) (entryIn t itemSecondCells i)
 
--- the range before range i: its number plus 1, or 0
+-- the item before item i in its chain: its number plus 1, or 0
 abbrev pub beforeIn : List ℕ → ℕ → ℕ
 beforeIn t i = entryIn t linkCells i % 65536
+
+-- the items of a chain from item `at` - 1 back, each given by the one after it, as far as they are among the first `k`
+unfoldable pub chainIn : List ℕ → ℕ → ℕ → List Item
+chainIn t zero at = []
+chainIn t (suc k) at = cond (eqb at (suc k)) (itemIn t k ∷ chainIn t k (beforeIn t k)) (chainIn t k at)
 
 -- the half of a node and a function, 32 functions a node
 abbrev pub headPlace : ℕ → ℕ → ℕ
 headPlace n f = n * 32 + f
 
--- the last range of a node and a function: its number plus 1, or 0 if there is none
-abbrev pub headIn : List ℕ → ℕ → ℕ → ℕ
-headIn t n f = cond (ltb f 32) (halfIn t headCells (headPlace n f)) 0
-
--- the ranges from range `at` - 1 back, each given by the one after it, as far as they are among the first `k`
-unfoldable pub chainIn : List ℕ → ℕ → ℕ → List Range
-chainIn t zero at = []
-chainIn t (suc k) at = cond (eqb at (suc k)) (rangeIn t k ∷ chainIn t k (beforeIn t k)) (chainIn t k at)
+-- the last range of a node and a function: its number among the items plus 1, or 0 if there is none
+abbrev pub rangeHeadIn : List ℕ → ℕ → ℕ → ℕ
+rangeHeadIn t n f = cond (ltb f 32) (halfIn t rangeHeadCells (headPlace n f)) 0
 
 -- the ranges of a node and a function, the latest first
-abbrev pub rangesIn : List ℕ → ℕ → ℕ → List Range
-rangesIn t n f = chainIn t (headIn t n f) (headIn t n f)
+abbrev pub rangesIn : List ℕ → ℕ → ℕ → List Item
+rangesIn t n f = chainIn t (rangeHeadIn t n f) (rangeHeadIn t n f)
 
 -- there is a command with this byte, node, function, low and high
 abbrev pub listedIn : List ℕ → ℕ → ℕ → ℕ → ℕ → ℕ → Bool
-listedIn t b n f low high = someRange (isThis (range b low high)) (rangesIn t n f)
+listedIn t b n f low high = isThere (firstItem (isThis (item b low high)) (rangesIn t n f))
 
 -- a range permits the call with this argument
 abbrev pub inRangeIn : List ℕ → ℕ → ℕ → ℕ → Bool
-inRangeIn t n f v = someRange (holds v) (rangesIn t n f)
+inRangeIn t n f v = isThere (firstItem (holds v) (rangesIn t n f))
 
 -- the call with this argument is permitted
 abbrev pub callIn : List ℕ → ℕ → ℕ → ℕ → Bool
 callIn t n f v = anyIn t n f || inRangeIn t n f v
+
+-- the last reply of a function: its number among the items plus 1, or 0 if there is none
+abbrev pub replyHeadIn : List ℕ → ℕ → ℕ
+replyHeadIn t f = entryIn t replyHeadCells f
+
+-- the replies of a function, the latest first
+abbrev pub repliesIn : List ℕ → ℕ → List Item
+repliesIn t f = chainIn t (replyHeadIn t f) (replyHeadIn t f)
+
+-- the answer of a function in its reply to an argument, if there is one
+abbrev pub replyIn : List ℕ → ℕ → ℕ → Option ℕ
+replyIn t f v = answerFound (firstItem (isTo v) (repliesIn t f))
+
+-- the answer of a function to an argument: that reply's, and without one FUN's
+abbrev pub answerIn : List ℕ → ℕ → ℕ → ℕ
+answerIn t f v = Option·getD (replyIn t f v) (funAnswerIn t f)

@@ -3,15 +3,18 @@ use Prim.Native.Nat.{ℕ, _+_, _-_, _*_, _/_}
 use mathlib.Core.Bool.{Bool, true, cond, _&&_}
 use mathlib.Core.List.{List, [], _∷_, _++_}
 use lib.Dec.{ltb}
-use Rattle.model.specs.Table.{FLOW, NODE, VAR, FUN, WIRE, ANY, READ, WRITE, BODY, START, groupOf}
+use Rattle.model.specs.Table.{FLOW, NODE, VAR, FUN, REPLY, WIRE, ANY, READ, WRITE, BODY, START, groupOf}
 use Rattle.model.specs.Command.{Command, is}
 use Rattle.model.specs.Declared.{isHandler}
 use Rattle.tables.specs.declared.cells.Section.{Section}
 use Rattle.tables.specs.Cells.{putIn, isMarkPlace, markCell, marksWith, halvesWith, blank}
-use Rattle.tables.specs.Ranges.{Range, isRange, rangeOf}
-use Rattle.tables.specs.Tables.{countIn, openIn, flowIn, lengthIn, flowCells, scopeCells, ownerCells, startCells, answerCells, lengthCells}
-use Rattle.tables.specs.Tables.{countCells, progressCells, bodyCells, startedCells, firstCells, messageCells, lowCells, highCells}
-use Rattle.tables.specs.Tables.{linkCells, readCells, writeCells, anyCells, wireCells, headCells, rangeCountIn, link, headIn, headPlace}
+use Rattle.tables.specs.Items.{Item, isRange, isItem, itemOf}
+use Rattle.tables.specs.Tables.{countIn, openIn, flowIn, lengthIn, flowCells, scopeCells, ownerCells, startCells, answerCells}
+use Rattle.tables.specs.Tables.{lengthCells}
+use Rattle.tables.specs.Tables.{countCells, progressCells, bodyCells, startedCells, firstCells, messageCells, replyHeadCells}
+use Rattle.tables.specs.Tables.{itemFirstCells, itemSecondCells, linkCells, readCells, writeCells, anyCells, wireCells}
+use Rattle.tables.specs.Tables.{rangeHeadCells}
+use Rattle.tables.specs.Tables.{itemCountIn, link, rangeHeadIn, headPlace, replyHeadIn}
 
 -- one more, for a number below 65,536; others stay
 unfoldable pub oneMore : ℕ → ℕ
@@ -49,14 +52,24 @@ written t (w ∷ ws) = written (made t w) ws
 abbrev pub handlerWrite : List ℕ → Command → Write
 handlerWrite t c = write (isHandler c) lengthCells (openIn t) (oneMore (lengthIn t (openIn t)))
 
--- one range more of a node and a function: it is the last of them, with its arguments, and linked to the one before it
-abbrev pub rangeWrites : List ℕ → Bool → ℕ → ℕ → Range → List Write
-rangeWrites t on n f r =
-    halfWrite t on headCells (headPlace n f) (oneMore (rangeCountIn t))
-    ∷ write on lowCells (rangeCountIn t) (r .low)
-    ∷ write on highCells (rangeCountIn t) (r .high)
-    ∷ write on linkCells (rangeCountIn t) (link (r .byte) (headIn t n f))
-    ∷ write on progressCells 2 (oneMore (rangeCountIn t))
+-- one more range of a node and a function, and one more reply of a function: it is the last one of its chain
+abbrev pub rangeWrite : List ℕ → Bool → ℕ → ℕ → Write
+rangeWrite t on n f = halfWrite t on rangeHeadCells (headPlace n f) (oneMore (itemCountIn t))
+
+abbrev pub replyWrite : List ℕ → Bool → ℕ → Write
+replyWrite t on f = write on replyHeadCells f (oneMore (itemCountIn t))
+
+-- the item before it in its chain
+abbrev pub beforeOf : List ℕ → Command → ℕ
+beforeOf t c = cond (is REPLY c) (replyHeadIn t (c .operands .first)) (rangeHeadIn t (c .operands .first) (c .operands .second))
+
+-- one more item: its number, the item before it in its chain, and what it is
+abbrev pub itemWrites : Bool → ℕ → ℕ → Item → List Write
+itemWrites on number before i =
+    write on itemFirstCells number (i .first)
+    ∷ write on itemSecondCells number (i .second)
+    ∷ write on linkCells number (link (i .byte) before)
+    ∷ write on progressCells 2 (oneMore number)
     ∷ []
 
 -- the writes for what commands declare and permit, each made for those that it belongs to, by the cells before
@@ -69,7 +82,9 @@ declaredWrites t c =
     ∷ write (is FUN c) answerCells (countIn t FUN) (c .operands .first)
     ∷ markWrite t (is WIRE c) wireCells (c .operands .first * 4 + c .operands .second) (c .operands .third)
     ∷ markWrite t (is ANY c) anyCells (c .operands .first) (c .operands .second)
-    ∷ rangeWrites t (isRange c) (c .operands .first) (c .operands .second) (rangeOf c)
+    ∷ rangeWrite t (isRange c) (c .operands .first) (c .operands .second)
+    ∷ replyWrite t (is REPLY c) (c .operands .first)
+    ∷ itemWrites (isItem c) (itemCountIn t) (beforeOf t c) (itemOf c)
     ++ markWrite t (is READ c) readCells (c .operands .first) (c .operands .second)
     ∷ markWrite t (is WRITE c) writeCells (c .operands .first) (c .operands .second)
     ∷ write (is BODY c) progressCells 1 (c .operands .first)

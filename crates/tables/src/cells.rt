@@ -8,14 +8,14 @@ use crate::bits::is_set;
 use crate::bits::with_bit;
 use crate::bits::with_half;
 
-pub const CELLS: usize = 2304;
+pub const CELLS: usize = 2720;
 
 // A section: its first cell, and how many cells it has.
 pub struct Section(pub usize, pub usize);
 
 // By command byte: how many commands.
 pub const COUNTS: Section = Section(0, 128);
-// The highest group so far, the node of the open handler, and how many ranges there are.
+// The highest group so far, the node of the open handler, and how many items there are.
 pub const PROGRESS: Section = Section(128, 32);
 // By node: its flow.
 pub const FLOW: Section = Section(160, 32);
@@ -25,34 +25,36 @@ pub const SCOPE: Section = Section(192, 64);
 pub const OWNER: Section = Section(256, 64);
 
 pub const INITIAL: Section = Section(320, 64);
-// By function: its answer.
+// By function: FUN's answer, and its last reply.
 pub const ANSWER: Section = Section(384, 32);
+
+pub const REPLY_HEAD: Section = Section(416, 32);
 // By node: how many commands its handler has, and 1 if it has a BODY.
-pub const LENGTH: Section = Section(416, 32);
+pub const LENGTH: Section = Section(448, 32);
 
-pub const BODY: Section = Section(448, 32);
+pub const BODY: Section = Section(480, 32);
 // By flow: 1 if it has a START.
-pub const STARTED: Section = Section(480, 32);
+pub const STARTED: Section = Section(512, 32);
 // By node: 1 if it has a START, and its first message.
-pub const FIRST: Section = Section(512, 32);
+pub const FIRST: Section = Section(544, 32);
 
-pub const MESSAGE: Section = Section(544, 32);
-// By range, an ARG or SPAN command: its lowest and highest argument; its byte with the range before it of the same node and function.
-pub const RANGE_LOW: Section = Section(576, 256);
+pub const MESSAGE: Section = Section(576, 32);
+// By item, an ARG, SPAN or REPLY command: its lowest and highest argument, or argument and answer; its byte with the item before it.
+pub const ITEM_FIRST: Section = Section(608, 384);
 
-pub const RANGE_HIGH: Section = Section(832, 256);
+pub const ITEM_SECOND: Section = Section(992, 384);
 
-pub const RANGE_LINK: Section = Section(1088, 256);
+pub const ITEM_LINK: Section = Section(1376, 384);
 // 64 bits a node, 32 a cell, by variable or function: 1 if there is a READ, a WRITE, an ANY.
-pub const READS: Section = Section(1344, 64);
+pub const READS: Section = Section(1760, 64);
 
-pub const WRITES: Section = Section(1408, 64);
+pub const WRITES: Section = Section(1824, 64);
 
-pub const CALLS: Section = Section(1472, 64);
+pub const CALLS: Section = Section(1888, 64);
 // 64 bits a port, 4 ports a node, by target: 1 if there is a WIRE.
-pub const WIRES: Section = Section(1536, 256);
+pub const WIRES: Section = Section(1952, 256);
 // Half a cell a function, 32 functions a node: its last range.
-pub const RANGE_HEAD: Section = Section(1792, 512);
+pub const RANGE_HEAD: Section = Section(2208, 512);
 
 // Cell i of a section.
 pub fn entry(tables: &[u32], s: Section, i: usize) -> u32

@@ -1,5 +1,5 @@
 -- The code's tests of one command are the model's, if the tables stand for the commands before it.
-use Prim.Native.Nat.{ℕ, zero, suc}
+use Prim.Native.Nat.{ℕ, zero, suc, _-_}
 use mathlib.Core.Path.{_≡_, refl, sym, _∙_}
 use mathlib.Core.Bool.{Bool, true, false, cond, not, _&&_, _||_, or-false}
 use mathlib.Core.List.{List, [], _∷_}
@@ -8,10 +8,10 @@ use native.Mathlib.Omega.{arith}
 use lib.Dec.{ltb, leb, eqb}
 use lib.ListN.{getD}
 use borrow.Author.Tests.{eqb-true, ne-eqb}
-use Rattle.model.specs.Table.{FLOW, NODE, VAR, FUN, WIRE, ANY, ARG, READ, WRITE, SPAN, BODY, GET, PUT, PLUS, START, operandsIn}
-use Rattle.model.specs.Table.{operandsOf, isRangeByte, kindAt, start, answer, value, jump, low, high, absent, groupOf}
+use Rattle.model.specs.Table.{FLOW, NODE, VAR, FUN, REPLY, WIRE, ANY, ARG, READ, WRITE, SPAN, BODY, GET, PUT, PLUS, START, operandsIn}
+use Rattle.model.specs.Table.{operandsOf, isRangeByte, kindAt, start, answer, value, jump, low, high, argument, absent, groupOf}
 use Rattle.model.specs.Command.{Command, Operands, quaternary, ternary, binary}
-use Rattle.model.specs.Declared.{countAmong, occurs, openBody, flowOf, sees}
+use Rattle.model.specs.Declared.{countAmong, occurs, openBody, flowOf, isThere, sees, startedIn}
 use Rattle.model.specs.Refusal.{anyOf, isReached, exceedsCount, Counts, namesNothing, undeclared, outOfReach, mustDiffer, repeated}
 use Rattle.model.specs.Refusal.{emptySpan, violation}
 use Rattle.model.specs.Valid.{Plain}
@@ -23,7 +23,7 @@ use Rattle.command.specs.Reading.{commandOf, Known}
 use Rattle.command.proofs.Known.{byte-low, permission-byte}
 use Rattle.command.proofs.Shaped.{width-zero}
 use Rattle.tables.specs.Tables.{countIn, groupIn, openIn, flowIn, lengthIn, seesIn, sharedIn, wiredIn, anyIn, listedIn, readIn, writeIn}
-use Rattle.tables.specs.Tables.{bodyIn, startedAt, rangeCountIn}
+use Rattle.tables.specs.Tables.{bodyIn, startedAt, itemCountIn, replyIn}
 use Rattle.tables.specs.Stands.{Stands}
 use Rattle.violations.specs.Tests.{countsIn}
 
@@ -59,14 +59,15 @@ names-none d s (suc (suc (suc (suc (suc (suc zero)))))) x n₁ n₂ n₃ n₄ n�
 names-none d s (suc (suc (suc (suc (suc (suc (suc zero))))))) x n₁ n₂ n₃ n₄ n₅ n₆ n₇ = absurd (n₇ refl)
 names-none d s (suc (suc (suc (suc (suc (suc (suc (suc k)))))))) x n₁ n₂ n₃ n₄ n₅ n₆ n₇ = later k
   where
-    later : (k : ℕ) → namesNothing d s (getD (start ∷ answer ∷ value ∷ jump ∷ low ∷ high ∷ []) k absent) x ≡ false
+    later : (k : ℕ) → namesNothing d s (getD (start ∷ answer ∷ value ∷ jump ∷ low ∷ high ∷ argument ∷ []) k absent) x ≡ false
     later zero = refl
     later (suc zero) = refl
     later (suc (suc zero)) = refl
     later (suc (suc (suc zero))) = refl
     later (suc (suc (suc (suc zero)))) = refl
     later (suc (suc (suc (suc (suc zero))))) = refl
-    later (suc (suc (suc (suc (suc (suc k)))))) = refl
+    later (suc (suc (suc (suc (suc (suc zero)))))) = refl
+    later (suc (suc (suc (suc (suc (suc (suc k))))))) = refl
 
 -- one of the tests is true
 any-found : (i : ℕ) (tests : List Bool) → getD tests i false ≡ true → anyOf tests ≡ true
@@ -77,18 +78,20 @@ any-found (suc i) (b ∷ tests) e = or-second b (anyOf tests) (any-found i tests
 
 module _ (t : List ℕ) (c : Code) (past : List Command) (s : Stands t past) where
   -- how many count to the largest count of the command
-  counted-among : Known c → countAmong (sharing (c .byte)) past ≡ cond (isRangeByte (c .byte)) (rangeCountIn t) (countIn t (c .byte))
+  counted-among : Known c → countAmong (sharing (c .byte)) past ≡ cond (isRangeByte (c .byte)) (itemCountIn t - countIn t REPLY)
+      (countIn t (c .byte))
   unfolding countAmong
   counted-among k = by-byte (isRangeByte (c .byte))
     where
-      by-byte : (b : Bool) → countAmong (cond b (ARG ∷ SPAN ∷ []) (c .byte ∷ [])) past ≡ cond b (rangeCountIn t) (countIn t (c .byte))
-      by-byte true = omega (arith, s .rangeCount)
+      by-byte : (b : Bool) → countAmong (cond b (ARG ∷ SPAN ∷ []) (c .byte ∷ [])) past ≡ cond b (itemCountIn t - countIn t REPLY)
+          (countIn t (c .byte))
+      by-byte true = omega (arith, s .itemCount, s .counts REPLY (omega arith))
       by-byte false = omega (arith, s .counts (c .byte) (byte-low (c .byte) (is-known (c .byte) _ (k .row))))
 
   -- 5
   pub exceeds-same :
       (row : Shape) (have opened inside : ℕ) (body : Bool) → Known c → row ≡ unpacked (c .row)
-      → have ≡ cond (isRangeByte (c .byte)) (rangeCountIn t) (countIn t (c .byte)) → opened ≡ openIn t
+      → have ≡ cond (isRangeByte (c .byte)) (itemCountIn t - countIn t REPLY) (countIn t (c .byte)) → opened ≡ openIn t
       → inside ≡ lengthIn t opened → body ≡ isHandlerByte (c .byte)
       → ((not (eqb (row .most) 0) && leb (row .most) have) || (body && leb 64 inside)) ≡ exceedsCount past (commandOf c)
   exceeds-same row have opened inside body k is h o i b =
@@ -215,8 +218,8 @@ module _ (t : List ℕ) (c : Code) (past : List Command) (s : Stands t past) whe
 
   -- 8: a byte of those that may not be repeated, a START, and every other known byte
   repeated-as : (b : ℕ) (x : Operands) (r : Bool) → c .byte ≡ b → mustDiffer (record { place = 0; byte = b; operands = x }) ≡ true
-      → eqb b START ≡ false → commandOf c .operands ≡ x → r ≡ occurs b x past → r ≡ repeated past (commandOf c)
-  repeated-as b x r e m n o q = rw (any-next, any-last, e, o, n, m, ← q) (sym (or-false r))
+      → eqb b START ≡ false → eqb b REPLY ≡ false → commandOf c .operands ≡ x → r ≡ occurs b x past → r ≡ repeated past (commandOf c)
+  repeated-as b x r e m n p o q = rw (any-next, any-next, any-last, e, o, n, p, m, ← q) (sym (or-false r))
 
   module _ (plain : Plain (commandOf c)) where
     -- an operand that is absent is 0
@@ -231,18 +234,18 @@ module _ (t : List ℕ) (c : Code) (past : List Command) (s : Stands t past) whe
 
     pub wire-same : (r : Bool) → c .byte ≡ WIRE → r ≡ wiredIn t (c .first) (c .second) (c .third) → r ≡ repeated past (commandOf c)
     unfolding operandsOf operandsIn
-    wire-same r e q = repeated-as WIRE (ternary (c .first) (c .second) (c .third)) r e refl refl (rw (fourth-absent WIRE e refl))
+    wire-same r e q = repeated-as WIRE (ternary (c .first) (c .second) (c .third)) r e refl refl refl (rw (fourth-absent WIRE e refl))
         (q ∙ s .wires (c .first) (c .second) (c .third))
 
     pub arg-same : (r : Bool) → c .byte ≡ ARG → r ≡ listedIn t (c .byte) (c .first) (c .second) (c .third) (c .third)
         → r ≡ repeated past (commandOf c)
     unfolding operandsOf operandsIn
-    arg-same r e q = repeated-as ARG (ternary (c .first) (c .second) (c .third)) r e refl refl (rw (fourth-absent ARG e refl))
+    arg-same r e q = repeated-as ARG (ternary (c .first) (c .second) (c .third)) r e refl refl refl (rw (fourth-absent ARG e refl))
         (q ∙ rw e (s .arguments (c .first) (c .second) (c .third)))
 
     pub span-same : (r : Bool) → c .byte ≡ SPAN → r ≡ listedIn t (c .byte) (c .first) (c .second) (c .third) (c .fourth)
         → r ≡ repeated past (commandOf c)
-    span-same r e q = repeated-as SPAN (quaternary (c .first) (c .second) (c .third) (c .fourth)) r e refl refl refl
+    span-same r e q = repeated-as SPAN (quaternary (c .first) (c .second) (c .third) (c .fourth)) r e refl refl refl refl
         (q ∙ rw e (s .spans (c .first) (c .second) (c .third) (c .fourth)))
 
     -- two operands
@@ -251,36 +254,49 @@ module _ (t : List ℕ) (c : Code) (past : List Command) (s : Stands t past) whe
 
     pub any-same : (r : Bool) → c .byte ≡ ANY → r ≡ anyIn t (c .first) (c .second) → r ≡ repeated past (commandOf c)
     unfolding operandsOf operandsIn
-    any-same r e q = repeated-as ANY (binary (c .first) (c .second)) r e refl refl (binary-as ANY e refl refl)
+    any-same r e q = repeated-as ANY (binary (c .first) (c .second)) r e refl refl refl (binary-as ANY e refl refl)
         (q ∙ s .anys (c .first) (c .second))
 
     pub read-same : (r : Bool) → c .byte ≡ READ → r ≡ readIn t (c .first) (c .second) → r ≡ repeated past (commandOf c)
     unfolding operandsOf operandsIn
-    read-same r e q = repeated-as READ (binary (c .first) (c .second)) r e refl refl (binary-as READ e refl refl)
+    read-same r e q = repeated-as READ (binary (c .first) (c .second)) r e refl refl refl (binary-as READ e refl refl)
         (q ∙ s .reads (c .first) (c .second))
 
     pub write-same : (r : Bool) → c .byte ≡ WRITE → r ≡ writeIn t (c .first) (c .second) → r ≡ repeated past (commandOf c)
     unfolding operandsOf operandsIn
-    write-same r e q = repeated-as WRITE (binary (c .first) (c .second)) r e refl refl (binary-as WRITE e refl refl)
+    write-same r e q = repeated-as WRITE (binary (c .first) (c .second)) r e refl refl refl (binary-as WRITE e refl refl)
         (q ∙ s .writes (c .first) (c .second))
 
     pub body-same : (r : Bool) → c .byte ≡ BODY → r ≡ bodyIn t (c .first) → r ≡ repeated past (commandOf c)
     unfolding operandsOf operandsIn
-    body-same r e q = repeated-as BODY (binary (c .first) 0) r e refl refl
+    body-same r e q = repeated-as BODY (binary (c .first) 0) r e refl refl refl
         (rw (second-absent BODY e refl, third-absent BODY e refl, fourth-absent BODY e refl)) (q ∙ s .bodies (c .first))
 
     pub start-same : (r : Bool) (f : ℕ) → c .byte ≡ START → f ≡ flowIn t (c .first) → r ≡ startedAt t f → r ≡ repeated past (commandOf c)
-    start-same r f e p q = rw (any-next, any-last, e, q, p, s .flow (c .first), s .started (flowOf past (c .first)))
+    start-same r f e p q = rw (any-next, any-next, any-last, e, q, p, s .flow (c .first), s .started (flowOf past (c .first)))
+        (sym (or-false (startedIn past (flowOf past (c .first)))))
+
+    pub reply-same : (r : Bool) → c .byte ≡ REPLY → r ≡ isThere (replyIn t (c .first) (c .second)) → r ≡ repeated past (commandOf c)
+    reply-same r e q = rw (any-next, any-next, any-last, e, q, s .replies (c .first) (c .second))
 
     pub other-same :
-        ¬ (c .byte ≡ WIRE) → ¬ (c .byte ≡ ANY) → ¬ (c .byte ≡ ARG) → ¬ (c .byte ≡ READ) → ¬ (c .byte ≡ WRITE) → ¬ (c .byte ≡ SPAN)
-        → ¬ (c .byte ≡ BODY) → ¬ (c .byte ≡ START)
+        ¬ (c .byte ≡ REPLY) → ¬ (c .byte ≡ WIRE) → ¬ (c .byte ≡ ANY) → ¬ (c .byte ≡ ARG) → ¬ (c .byte ≡ READ) → ¬ (c .byte ≡ WRITE)
+        → ¬ (c .byte ≡ SPAN) → ¬ (c .byte ≡ BODY) → ¬ (c .byte ≡ START)
         → false ≡ repeated past (commandOf c)
-    other-same n₁ n₂ n₃ n₄ n₅ n₆ n₇ n₈ =
+    other-same n₀ n₁ n₂ n₃ n₄ n₅ n₆ n₇ n₈ =
         let z : eqb (groupOf (c .byte)) 3 ≡ false = not-three (eqb (groupOf (c .byte)) 3)
         (rw (ne-eqb (c .byte) ANY n₂, ne-eqb (c .byte) ARG n₃, ne-eqb (c .byte) READ n₄, ne-eqb (c .byte) WRITE n₅, ne-eqb (c .byte) SPAN n₆)
         at (permission-byte (c .byte) (plain .known))) in
-        rw (any-next, any-last, ne-eqb (c .byte) WIRE n₁, z, ne-eqb (c .byte) BODY n₇, ne-eqb (c .byte) START n₈)
+        rw (
+          any-next,
+          any-next,
+          any-last,
+          ne-eqb (c .byte) REPLY n₀,
+          ne-eqb (c .byte) WIRE n₁,
+          z,
+          ne-eqb (c .byte) BODY n₇,
+          ne-eqb (c .byte) START n₈,
+        )
       where
         not-three : (b : Bool) → (not b || false) ≡ true → b ≡ false
         not-three true e = sym e

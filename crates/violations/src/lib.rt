@@ -1,16 +1,17 @@
 // The tests 4 to 8 and 15 of a command, by the tables of those before it.
 ghost use mathlib.Core.Path.{_≡_};
 ghost use mathlib.Core.Bool.{cond, _||_};
+ghost use Prim.Native.Nat.{_-_};
 ghost use mathlib.Core.List.{List};
 ghost use lib.Dec.{eqb};
-ghost use Rattle.model.specs.Table.{READ, WRITE, GET, PUT, PLUS, isRangeByte};
+ghost use Rattle.model.specs.Table.{REPLY, READ, WRITE, GET, PUT, PLUS, isRangeByte};
 ghost use Rattle.model.specs.Command.{Command as Past};
 ghost use Rattle.model.specs.Refusal.{exceedsCount, noOwner, namesNothing, undeclared, outOfReach, repeated, emptySpan};
 ghost use Rattle.model.specs.Refusal.{violation};
 ghost use Rattle.model.specs.Valid.{Plain};
 ghost use Rattle.command.specs.Rows.{kindOf};
 ghost use Rattle.command.specs.Reading.{commandOf, Known};
-ghost use Rattle.tables.specs.Tables.{countIn, rangeCountIn};
+ghost use Rattle.tables.specs.Tables.{countIn, itemCountIn};
 ghost use Rattle.tables.specs.Stands.{Stands};
 ghost use Rattle.violations.specs.Tests.{countsAs, countsIn};
 use command::bytes;
@@ -44,12 +45,25 @@ fn counts_of(tables: &[u32]) -> Counts
     }
 }
 
+// How many ranges there are: the items that are no replies.
+fn range_count(tables: &[u32]) -> u32
+    ensures { λ r. ⌜ r ≡ itemCountIn (now (tables .entry)) - countIn (now (tables .entry)) REPLY ⌝ }
+{
+    let all = items::count(tables);
+    let replies = declared::count_of(tables, bytes::REPLY);
+    if replies < all {
+        return all - replies;
+    }
+    0
+}
+
 // How many commands count to the largest count of this byte: ARG and SPAN share theirs.
 fn counted(tables: &[u32], byte: u8) -> u32
-    ensures { λ r. ⌜ r ≡ cond (isRangeByte byte) (rangeCountIn (now (tables .entry))) (countIn (now (tables .entry)) byte) ⌝ }
+    ensures { λ r. ⌜ r ≡ cond (isRangeByte byte) (itemCountIn (now (tables .entry)) - countIn (now (tables .entry)) REPLY)
+        (countIn (now (tables .entry)) byte) ⌝ }
 {
     if (byte == bytes::ARG) | (byte == bytes::SPAN) {
-        return declared::range_count(tables);
+        return range_count(tables);
     }
     declared::count_of(tables, byte)
 }
@@ -161,13 +175,14 @@ fn is_out_of_reach(tables: &[u32], c: Command) -> bool
     false
 }
 
-// 8: the same WIRE or permission again, a node's second BODY, a flow's second START.
+// 8: the same WIRE or permission again, a node's second BODY, a flow's second START, a second REPLY of a function to an argument.
 fn is_repeated(tables: &[u32], c: Command) -> bool
     ensures { λ r. ⌜ ((past : List Past) → Stands (now (tables .entry)) past → Plain (commandOf c) → r ≡ repeated past (commandOf c)) ⌝ }
 {
     let n = NodeNum(c.first);
     let b = c.byte;
     match b {
+        bytes::REPLY => declared::has_reply(tables, FunNum(c.first), c.second),
         bytes::WIRE => declared::is_wired(tables, n, c.second, NodeNum(c.third)),
         bytes::ANY => allowlists::may_call_any(tables, n, FunNum(c.second)),
         bytes::ARG => allowlists::is_listed(tables, b, n, FunNum(c.second), c.third, c.third),

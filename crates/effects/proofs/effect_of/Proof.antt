@@ -1,13 +1,11 @@
 -- `effects::effect_of` meets its contract.
-use Prim.Native.Nat.{ℕ, _+_}
+use Prim.Native.Nat.{_+_}
 use mathlib.Core.Path.{_∙_, ap, sym, refl}
-use denote.Ref.{now}
 use borrow.Author.Tests.{eq-eqb, ne-eqb}
 use borrow.Author.Needs.{needs}
 use Rattle.model.specs.State.{accumulatorAt, withPosition, withAccumulator}
 use Rattle.model.specs.Turn.{advanced}
-use Rattle.entries.proofs.Names.{answer-by}
-use Rattle.effects.proofs.Carrying.{nexts, gets, adds, pluses, sets, jumps}
+use Rattle.effects.proofs.Carrying.{nexts, gets, adds, pluses, calls, sets, jumps}
 use Rattle.memory.specs.declared.Registers.{Registers}
 use Rattle.effects.proofs.effect_of.Statement.{statement}
 use Rattle.effects.proofs.effect_of.Tie as tie
@@ -144,9 +142,8 @@ returns-10 c = rw (c .before .before .instruction8 .given .1)
 
 returns-11 : tie.Need-returns-11
 returns-11 c = rw (c .before .before .before .instruction9 .given .1)
-    (sets _ _ _ _ _ _ (c .continue-at11 .ensures) (λ hs s n h. ap (λ (v : ℕ). advanced (withAccumulator s n v) n)
-    (answer-by (now (c .before .before .before .before .before .before .before .before .args .tables)) hs _ _
-    ∙ sym (c .before .answer-of .ensures))))
+    (calls _ (c .before .before .before .before .before .before .before .before .args .own) _ _ _ (c .continue-at11 .ensures) _
+    (c .before .answer-of .ensures))
 
 returns-12 : tie.Need-returns-12
 returns-12 c = rw (c .before .enum-told2 .given .1) (nexts _ _ _ _ _ _ (c .continue-at12 .ensures) (λ hs s n. refl) (λ hs s n _. tt))

@@ -23,6 +23,9 @@ note-variable-requires c κs = search needs
 note-function-requires : tie.Need-note-function-requires
 note-function-requires c κs = search needs
 
+note-reply-requires : tie.Need-note-reply-requires
+note-reply-requires c κs = search needs
+
 mul-mark : tie.Need-mul-mark
 mul-mark c = search needs
 
@@ -93,11 +96,11 @@ same-length-4 : tie.Need-same-length-4
 same-length-4 c = search needs
 
 returns-4 : tie.Need-returns-4
-unfolding made markAt
+unfolding made
 returns-4 c =
-    let p = c .before .before .before .before .before in
+    let p = c .before .before .before .before in
     let a = p .before .before .before .before .args in
-    known-arm (now (a .tables)) (a .c) _ _ (p .match .keys4) (c .before .before .mark .ensures)
+    known-arm (now (a .tables)) (a .c) _ _ (p .match .keys4) (c .before .before .note-reply .ensures)
 
 same-length-5 : tie.Need-same-length-5
 same-length-5 c = search needs
@@ -105,29 +108,29 @@ same-length-5 c = search needs
 returns-5 : tie.Need-returns-5
 unfolding made markAt
 returns-5 c =
-    let p = c .before .before .before .before in
+    let p = c .before .before .before .before .before in
     let a = p .before .before .before .before .args in
-    known-arm (now (a .tables)) (a .c) _ _ (p .match .keys5) (c .before .before .mark2 .ensures)
+    known-arm (now (a .tables)) (a .c) _ _ (p .match .keys5) (c .before .before .mark .ensures)
 
 same-length-6 : tie.Need-same-length-6
 same-length-6 c = search needs
 
 returns-6 : tie.Need-returns-6
-unfolding made putHalf
+unfolding made markAt
 returns-6 c =
     let p = c .before .before .before .before in
     let a = p .before .before .before .before .args in
-    known-arm (now (a .tables)) (a .c) _ _ (p .match .keys6) (rw (p .match .keys6) at (c .before .before .note-range .ensures))
+    known-arm (now (a .tables)) (a .c) _ _ (p .match .keys6) (c .before .before .mark2 .ensures)
 
 same-length-7 : tie.Need-same-length-7
 same-length-7 c = search needs
 
 returns-7 : tie.Need-returns-7
-unfolding made markAt
+unfolding made putHalf
 returns-7 c =
     let p = c .before .before .before .before in
     let a = p .before .before .before .before .args in
-    known-arm (now (a .tables)) (a .c) _ _ (p .match .keys7) (c .before .before .mark3 .ensures)
+    known-arm (now (a .tables)) (a .c) _ _ (p .match .keys7) (rw (p .match .keys7) at (c .before .before .note-range .ensures))
 
 same-length-8 : tie.Need-same-length-8
 same-length-8 c = search needs
@@ -137,27 +140,27 @@ unfolding made markAt
 returns-8 c =
     let p = c .before .before .before .before in
     let a = p .before .before .before .before .args in
-    known-arm (now (a .tables)) (a .c) _ _ (p .match .keys8) (c .before .before .mark4 .ensures)
+    known-arm (now (a .tables)) (a .c) _ _ (p .match .keys8) (c .before .before .mark3 .ensures)
 
 same-length-9 : tie.Need-same-length-9
 same-length-9 c = search needs
 
 returns-9 : tie.Need-returns-9
-unfolding made putHalf
+unfolding made markAt
 returns-9 c =
     let p = c .before .before .before .before in
     let a = p .before .before .before .before .args in
-    known-arm (now (a .tables)) (a .c) _ _ (p .match .keys9) (rw (p .match .keys9) at (c .before .before .note-range2 .ensures))
+    known-arm (now (a .tables)) (a .c) _ _ (p .match .keys9) (c .before .before .mark4 .ensures)
 
 same-length-10 : tie.Need-same-length-10
 same-length-10 c = search needs
 
 returns-10 : tie.Need-returns-10
-unfolding made
+unfolding made putHalf
 returns-10 c =
     let p = c .before .before .before .before in
     let a = p .before .before .before .before .args in
-    known-arm (now (a .tables)) (a .c) _ _ (p .match .keys10) (c .before .before .note-body .ensures)
+    known-arm (now (a .tables)) (a .c) _ _ (p .match .keys10) (rw (p .match .keys10) at (c .before .before .note-range2 .ensures))
 
 same-length-11 : tie.Need-same-length-11
 same-length-11 c = search needs
@@ -167,20 +170,30 @@ unfolding made
 returns-11 c =
     let p = c .before .before .before .before in
     let a = p .before .before .before .before .args in
-    known-arm (now (a .tables)) (a .c) _ _ (p .match .keys11) (c .before .before .note-start .ensures)
+    known-arm (now (a .tables)) (a .c) _ _ (p .match .keys11) (c .before .before .note-body .ensures)
 
 same-length-12 : tie.Need-same-length-12
 same-length-12 c = search needs
 
 returns-12 : tie.Need-returns-12
+unfolding made
 returns-12 c =
+    let p = c .before .before .before .before in
+    let a = p .before .before .before .before .args in
+    known-arm (now (a .tables)) (a .c) _ _ (p .match .keys12) (c .before .before .note-start .ensures)
+
+same-length-13 : tie.Need-same-length-13
+same-length-13 c = search needs
+
+returns-13 : tie.Need-returns-13
+returns-13 c =
     let p = c .before .before .before .before in
     let a = p .before .before .before .before .args in
     let n = p .match .rest in
     c .before .before .note-handler .ensures
-    ∙ rest-arm (now (a .tables)) (a .c) (n .0 .0 .0 .0 .0 .0 .0 .0 .0 .0 .1) (n .0 .0 .0 .0 .0 .0 .0 .0 .0 .1) (n .0 .0 .0 .0 .0 .0 .0 .0 .1)
-    (n .0 .0 .0 .0 .0 .0 .0 .1) (n .0 .0 .0 .0 .0 .0 .1) (n .0 .0 .0 .0 .0 .1) (n .0 .0 .0 .0 .1)
-    (n .0 .0 .0 .1) (n .0 .0 .1) (n .0 .1) (n .1)
+    ∙ rest-arm (now (a .tables)) (a .c) (n .0 .0 .0 .0 .0 .0 .0 .0 .0 .0 .0 .1) (n .0 .0 .0 .0 .0 .0 .0 .0 .0 .0 .1)
+    (n .0 .0 .0 .0 .0 .0 .0 .0 .0 .1) (n .0 .0 .0 .0 .0 .0 .0 .0 .1) (n .0 .0 .0 .0 .0 .0 .0 .1) (n .0 .0 .0 .0 .0 .0 .1)
+    (n .0 .0 .0 .0 .0 .1) (n .0 .0 .0 .0 .1) (n .0 .0 .0 .1) (n .0 .0 .1) (n .0 .1) (n .1)
 
 pub note-content-spec : {M : Type 1} → statement M
 note-content-spec =
@@ -191,6 +204,7 @@ note-content-spec =
     note-node-requires
     note-variable-requires
     note-function-requires
+    note-reply-requires
     mul-mark
     add-mark
     cast-mark
@@ -226,4 +240,6 @@ note-content-spec =
     same-length-11
     returns-11
     same-length-12
-    returns-12)
+    returns-12
+    same-length-13
+    returns-13)

@@ -1,7 +1,7 @@
--- `allowlists::go_back` meets its contract.
+-- `items::go_back` meets its contract.
 use borrow.Author.Tests.{lt-ltb, le-ltb}
-use Rattle.allowlists.proofs.go_back.Statement.{statement}
-use Rattle.allowlists.proofs.go_back.Tie as tie
+use Rattle.items.proofs.go_back.Statement.{statement}
+use Rattle.items.proofs.go_back.Tie as tie
 
 returns : tie.Need-returns
 returns c = rw (lt-ltb _ _ (c .if1 .taken))

@@ -1,0 +1,27 @@
+-- Test 5 ("Largest counts"; S-1, S-5): what its sentences say of every job, where a row of `Readings` would show one case.
+use Prim.Native.Nat.{_<_}
+use mathlib.Core.Path.{_≡_}
+use mathlib.Core.Bool.{true, false}
+use mathlib.Core.List.{List, [], _∷_}
+use mathlib.Core.Option.{some}
+use Rattle.model.specs.Table.{REPLY, ARG, SPAN, isRangeByte, Limit, limit, largestOf}
+use Rattle.model.specs.Command.{Command}
+use Rattle.model.specs.Declared.{countAmong}
+use Rattle.model.specs.Refusal.{groupFalls, exceedsCount, violation}
+
+-- a command that counts to this largest count: while fewer came before, it does not exceed it; after as many, it is refused by 5 if it
+-- passes test 4, whatever else is wrong with it
+pub record Limited (l : Limit) (past : List Command) (c : Command) : Type 0 where
+  pub below : countAmong (l .bytes) past < l .most → exceedsCount past c ≡ false
+  pub reached : countAmong (l .bytes) past ≡ l .most → groupFalls past c ≡ false → violation past c ≡ 5
+
+-- the claim: every largest count over the whole job, after any commands
+abbrev pub LargestCountsHold : Type 0
+LargestCountsHold = (past : List Command) (c : Command) (l : Limit) → largestOf (c .byte) ≡ some l → Limited l past c
+
+-- so 128 of REPLY (S-1), and 256 of ARG and SPAN together (S-5), however both are mixed
+abbrev pub ReplyLimitHolds : Type 0
+ReplyLimitHolds = (past : List Command) (c : Command) → c .byte ≡ REPLY → Limited (limit (REPLY ∷ []) 128) past c
+
+abbrev pub RangeLimitHolds : Type 0
+RangeLimitHolds = (past : List Command) (c : Command) → isRangeByte (c .byte) ≡ true → Limited (limit (ARG ∷ SPAN ∷ []) 256) past c
