@@ -2,13 +2,16 @@
 
 use flow_reference::Mode;
 
+use crate::replies::Form;
 use crate::runs::{Bench, Case, Engine};
 
 /// What the four words are.
 pub const WORDS: &str = "ENGINE: proved or reference; MODE: monitored or bare; RUNS: how often, above 0;
 CASE: turns (4,096 of them), stopped (as many, none of which is made), none,
 large (the large job: 3,362 commands, no turns),
-spread or single (256 ARG and SPAN commands, of 16 nodes or of one; 4,096 turns)";
+spread or single (256 ARG and SPAN commands, of 16 nodes or of one; 4,096 turns),
+spread-replies or single-replies (128 REPLY commands, of 32 functions or of one; 4,096 turns),
+spread-plain or single-plain (the same without REPLY), each of these four with -none (the same without turns)";
 
 /// Reads the words: what to run, and how often.
 pub fn read(words: &[&str]) -> Option<(Bench, u32)> {
@@ -30,7 +33,7 @@ pub fn read(words: &[&str]) -> Option<(Bench, u32)> {
         "large" => Case::Large,
         "spread" => Case::Spread,
         "single" => Case::Single,
-        _ => return None,
+        word => Case::Replies(Form::named(word)?),
     };
     let runs = runs.parse().ok().filter(|&runs| runs > 0)?;
     Some((Bench::new(engine, mode, case, 0), runs))

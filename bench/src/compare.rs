@@ -31,8 +31,9 @@ pub fn compare() -> Result<(), String> {
 fn expected(case: Case) -> [u64; 8] {
     let (stop, turns, node) = match case {
         Case::Turns | Case::Spread | Case::Single => (stop::TURNS_OUT, MAX_TURNS, 0),
+        Case::Replies(form) if form.turns => (stop::TURNS_OUT, MAX_TURNS, 0),
         Case::Stopped => (stop::NOT_READY, 0, 1),
-        Case::None | Case::Large => (stop::TURNS_OUT, 0, 0),
+        Case::None | Case::Large | Case::Replies(_) => (stop::TURNS_OUT, 0, 0),
     };
     [0, 0, stop.into(), turns as u64, node, 0, 0, 0]
 }

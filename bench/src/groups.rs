@@ -5,7 +5,7 @@ use std::{fs, io};
 use flow_reference::Mode;
 
 use crate::largest;
-use crate::runs::{CASES, MODES};
+use crate::runs::{cases, Case, MODES};
 
 /// The folder of the repository's examples.
 const EXAMPLES: &str = concat!(env!("CARGO_MANIFEST_DIR"), "/../examples");
@@ -27,7 +27,7 @@ impl Group {
 pub fn all() -> io::Result<[Group; 3]> {
     Ok([
         Group { name: "examples", jobs: examples()? },
-        Group { name: "tables", jobs: CASES.map(|case| case.job()).to_vec() },
+        Group { name: "tables", jobs: cases().into_iter().map(Case::job).collect() },
         Group { name: "largest job", jobs: vec![largest::job()] },
     ])
 }

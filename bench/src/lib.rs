@@ -10,6 +10,7 @@ pub mod largest;
 pub mod lists;
 pub mod proved;
 pub mod reference;
+pub mod replies;
 pub mod runs;
 pub mod script;
 pub mod stack;

@@ -47,7 +47,7 @@ fn handler(node: u32) -> Vec<u8> {
 }
 
 /// A call with an argument.
-fn call(function: u32, argument: u32) -> Vec<u8> {
+pub fn call(function: u32, argument: u32) -> Vec<u8> {
     [table::write(SET, &[argument]), table::write(CALL, &[function])].concat()
 }
 
@@ -80,7 +80,7 @@ fn single_argument(number: u32) -> u32 {
 }
 
 /// The job with as many turns as a job can have, each of which completes.
-fn with_turns(job: Vec<u8>) -> Vec<u8> {
+pub fn with_turns(job: Vec<u8>) -> Vec<u8> {
     let turns: Vec<u8> = entries(&job).iter().flat_map(|entry| [TURN, entry.node]).collect();
     [job, turns].concat()
 }

@@ -1,10 +1,11 @@
 //! Runs a job, takes the time, compares both implementations, or tells what the script is, how many calls the
-//! jobs with long lists make and how much stack the runs take.
+//! jobs with long lists or replies make and how much stack the runs take.
 
 use std::process::ExitCode;
 
 use flow_bench::compare::compare;
 use flow_bench::groups::{self, Group};
+use flow_bench::replies::FORMS;
 use flow_bench::runs::Engine;
 use flow_bench::script::Script;
 use flow_bench::{arguments, lists, stack};
@@ -37,9 +38,12 @@ fn print_mix() {
     println!();
 }
 
-/// How many calls the jobs with long lists make: the spread ones, the single one.
+/// How many calls the jobs with long lists make, spread and single, then those with replies.
 fn print_calls() {
-    println!("{} {}", lists::calls(&lists::spread()), lists::calls(&lists::single()));
+    let replies =
+        FORMS.into_iter().filter(|(_, form)| form.replies && form.turns).map(|(_, form)| form.job());
+    let jobs = [lists::spread(), lists::single()].into_iter().chain(replies);
+    println!("{}", jobs.map(|job| lists::calls(&job).to_string()).collect::<Vec<_>>().join(" "));
 }
 
 /// Bytes of stack that a run by an engine takes: the most of all jobs, and of each group.

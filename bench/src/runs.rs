@@ -6,6 +6,7 @@ use std::time::{Duration, Instant};
 use flow_reference::Mode;
 
 use crate::buffers::Buffers;
+use crate::replies::{Form, FORMS};
 use crate::script::Script;
 use crate::{job, large, lists, proved, reference};
 
@@ -31,15 +32,21 @@ pub enum Case {
     Spread,
     /// The same number of one node and one function.
     Single,
+    /// A job with 128 REPLY commands, or the same job without them or without turns.
+    Replies(Form),
 }
 
-pub const CASES: [Case; 6] =
-    [Case::Turns, Case::Stopped, Case::None, Case::Large, Case::Spread, Case::Single];
 pub const MODES: [Mode; 2] = [Mode::Monitored, Mode::Unmonitored];
+
+/// Every case.
+pub fn cases() -> Vec<Case> {
+    let cases = [Case::Turns, Case::Stopped, Case::None, Case::Large, Case::Spread, Case::Single];
+    cases.into_iter().chain(FORMS.map(|(_, form)| Case::Replies(form))).collect()
+}
 
 /// Every case, monitored and bare.
 pub fn all() -> impl Iterator<Item = (Mode, Case)> {
-    MODES.into_iter().flat_map(|mode| CASES.map(|case| (mode, case)))
+    MODES.into_iter().flat_map(|mode| cases().into_iter().map(move |case| (mode, case)))
 }
 
 impl Case {
@@ -50,6 +57,7 @@ impl Case {
             Case::Large => large::job(),
             Case::Spread => lists::spread(),
             Case::Single => lists::single(),
+            Case::Replies(form) => form.job(),
             Case::Turns | Case::Stopped => Script::new().job,
         };
         if self == Case::Stopped {

@@ -12,7 +12,7 @@ fn all() -> [Group; 3] {
 #[test]
 fn groups_and_jobs() {
     let counts = all().map(|group| (group.name, group.jobs.len()));
-    assert_eq!(counts, [("examples", 16), ("tables", 6), ("largest job", 1)]);
+    assert_eq!(counts, [("examples", 18), ("tables", 14), ("largest job", 1)]);
     assert!(all().iter().flat_map(|group| &group.jobs).all(|job| decode(job).is_ok()));
 }
 
@@ -21,6 +21,6 @@ fn groups_and_jobs() {
 fn stack() {
     for group in all() {
         let bytes = most(Engine::Proved, &group);
-        assert!((9_216 + 2_720..20_000).contains(&bytes), "{}: {bytes}", group.name);
+        assert!((10_880 + 2_720..20_000).contains(&bytes), "{}: {bytes}", group.name);
     }
 }

@@ -4,8 +4,8 @@ use flow_reference::generate::Random;
 use flow_reference::table::{self, *};
 use flow_reference::{decode, Program};
 
-/// An accepted job with as many nodes, variables and functions as can be, and with some permissions to use the
-/// added ones: its own nodes do the same as before, from later places. A refused job stays what it is, and so
+/// An accepted job with as many nodes, variables, functions and replies as can be, and with some permissions to use
+/// the added ones: its own nodes do the same as before, from later places. A refused job stays what it is, and so
 /// does one that would get too long.
 pub fn moved(job: &[u8], random: &mut Random) -> Vec<u8> {
     let Some(program) = decode(job).ok().filter(|program| program.flows > 0) else { return job.to_vec() };
@@ -14,6 +14,7 @@ pub fn moved(job: &[u8], random: &mut Random) -> Vec<u8> {
     nodes.extend((program.nodes.len()..MAX_NODES).map(|_| NODE));
     values.extend((program.variables.len()..MAX_VARIABLES).flat_map(|_| [VAR, 2, 0, 7, 0, 0, 0]));
     values.extend((program.functions.len()..MAX_FUNCTIONS).flat_map(|_| [FUN, 7, 0, 0, 0]));
+    values.extend(added_replies(&program));
     permissions.extend(some(added_permissions(&program), random));
     let longer = parts.concat();
     if longer.len() > MAX_JOB_BYTES {
@@ -31,6 +32,14 @@ fn by_group(mut job: &[u8]) -> [Vec<u8>; 7] {
         job = rest;
     }
     parts
+}
+
+/// Replies of the added functions in turn, until there are as many as can be.
+fn added_replies(program: &Program) -> Vec<u8> {
+    let functions = program.functions.len() as u32..MAX_FUNCTIONS as u32;
+    let numbers = program.replies.len() as u32..MAX_REPLIES as u32;
+    let replies = numbers.zip(functions.cycle());
+    replies.flat_map(|(number, function)| table::write(REPLY, &[function, number, 7])).collect()
 }
 
 /// READ and WRITE of each added variable by every node, ANY of each added function.

@@ -1,8 +1,8 @@
 //! Running a job, monitored or not, from Rust: the functions of the proved static library librun.a.
 //!
-//! Document 01, with requests S-5 and S-9 of document 02, says what a job is, what a run does and when a job
-//! is refused; `include/leqsumir.h` says what the functions promise. The lengths below are enough for every
-//! job.
+//! Document 01, with requests S-1, S-5 and S-9 of document 02, says what a job is, what a run does and when a
+//! job is refused; `include/leqsumir.h` says what the functions promise. The lengths below are enough for
+//! every job.
 
 /// The longest job that is accepted.
 pub const JOB_BYTES: usize = 16_384;

@@ -40,6 +40,7 @@ impl Builder {
                 p.variables.push(Variable { scope, start });
             }
             Command::Fun { answer } => p.functions.push(answer),
+            Command::Reply(reply) => p.replies.push(reply),
             Command::Wire { node, port, target } => {
                 p.nodes[usize::from(node)].wires[usize::from(port)] |= 1 << target;
             }
@@ -98,6 +99,7 @@ impl Builder {
     }
 
     pub fn finish(mut self) -> Program {
+        self.program.replies.sort_unstable();
         self.program.args.sort_unstable();
         self.program.spans.sort_unstable();
         self.program

@@ -2,7 +2,7 @@
 
 use crate::builder::Builder;
 use crate::command::{Command, HandlerCommand};
-use crate::program::{arg_key, Span};
+use crate::program::{arg_key, Reply, Span};
 use crate::table::*;
 
 /// A SPAN whose low is above its high.
@@ -37,6 +37,7 @@ impl Builder {
             Command::Node => p.nodes.len() == MAX_NODES,
             Command::Var { .. } => p.variables.len() == MAX_VARIABLES,
             Command::Fun { .. } => p.functions.len() == MAX_FUNCTIONS,
+            Command::Reply(_) => p.replies.len() == MAX_REPLIES,
             Command::Arg { .. } | Command::Span(_) => p.args.len() + p.spans.len() == MAX_ARGS,
             Command::Turn { .. } => p.turns.len() == MAX_TURNS,
             Command::Handler(_) => match self.body {
@@ -72,6 +73,7 @@ impl Builder {
             Command::Var { scope: 1, owner, .. } => !self.has_flow(owner),
             Command::Var { scope: 2, owner, .. } => owner != 0,
             Command::Var { .. } => true,
+            Command::Reply(Reply { function, .. }) => !self.has_function(function),
             Command::Wire { node, port, target } => {
                 !self.has_node(node) || !is_port(port) || !self.has_node(target)
             }
@@ -120,6 +122,7 @@ impl Builder {
         let p = &self.program;
         let at = |node: u8| &p.nodes[usize::from(node)];
         match *command {
+            Command::Reply(reply) => p.replies.iter().any(|other| other.call() == reply.call()),
             Command::Wire { node, port, target } => at(node).wires[usize::from(port)] >> target & 1 == 1,
             Command::Any { node, function } => at(node).any >> function & 1 == 1,
             Command::Arg { node, function, value } => p.args.contains(&arg_key(node, function, value)),

@@ -1,6 +1,6 @@
 //! One command with its operands, as it stands in the job.
 
-use crate::program::Span;
+use crate::program::{Reply, Span};
 use crate::table::{self, *};
 
 #[derive(Clone, Copy, Debug, PartialEq, Eq)]
@@ -9,6 +9,7 @@ pub enum Command {
     Node,
     Var { scope: u8, owner: u8, start: u32 },
     Fun { answer: u32 },
+    Reply(Reply),
     Wire { node: u8, port: u8, target: u8 },
     Any { node: u8, function: u8 },
     Arg { node: u8, function: u8, value: u32 },
@@ -61,6 +62,7 @@ fn parse(byte: u8, o: &[u8]) -> Command {
         NODE => Command::Node,
         VAR => Command::Var { scope: o[0], owner: o[1], start: number(&o[2..]) },
         FUN => Command::Fun { answer: number(o) },
+        REPLY => Command::Reply(Reply { function: o[0], argument: number(&o[1..]), answer: number(&o[5..]) }),
         WIRE => Command::Wire { node: o[0], port: o[1], target: o[2] },
         ANY => Command::Any { node: o[0], function: o[1] },
         ARG => Command::Arg { node: o[0], function: o[1], value: number(&o[2..]) },

@@ -151,7 +151,7 @@ impl Turn<'_> {
         let value = self.own().accumulator;
         let entry = Entry { node: self.node, kind: kind::CALL, number: function, value };
         self.monitor(&entry)?;
-        self.own().accumulator = self.program.functions[usize::from(function)];
+        self.own().accumulator = self.program.answer(function, value);
         Ok(entry)
     }
 

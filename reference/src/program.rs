@@ -41,6 +41,21 @@ impl Node {
     }
 }
 
+/// The recorded answer to one argument of a function. The order is that of the fields.
+#[derive(Clone, Copy, Debug, PartialEq, Eq, PartialOrd, Ord)]
+pub struct Reply {
+    pub function: u8,
+    pub argument: u32,
+    pub answer: u32,
+}
+
+impl Reply {
+    /// What has to be called for this answer: function and argument.
+    pub fn call(&self) -> (u8, u32) {
+        (self.function, self.argument)
+    }
+}
+
 /// A permission for the arguments from `low` to `high`, both included. The order is that of the fields.
 #[derive(Clone, Copy, Debug, PartialEq, Eq, PartialOrd, Ord)]
 pub struct Span {
@@ -84,8 +99,10 @@ pub struct Program {
     pub flows: usize,
     pub nodes: Vec<Node>,
     pub variables: Vec<Variable>,
-    /// Answers by function.
+    /// Answers by function, to all arguments that have no REPLY.
     pub functions: Vec<u32>,
+    /// REPLY commands, sorted.
+    pub replies: Vec<Reply>,
     /// ARG permissions as `arg_key`, sorted.
     pub args: Vec<u64>,
     /// SPAN permissions, sorted.
@@ -126,6 +143,15 @@ impl Program {
             return None;
         }
         Some(self.code[usize::from(node.first) + usize::from(position)])
+    }
+
+    /// What a call gets: the answer of the REPLY for its function and argument, or else that of FUN.
+    #[inline]
+    pub fn answer(&self, function: u8, argument: u32) -> u32 {
+        match self.replies.binary_search_by_key(&(function, argument), Reply::call) {
+            Ok(index) => self.replies[index].answer,
+            Err(_) => self.functions[usize::from(function)],
+        }
     }
 
     /// Whether the permissions allow this entry.

@@ -1,9 +1,10 @@
-//! The 24 commands: byte, name and operands. Widths and groups follow from them.
+//! The 25 commands: byte, name and operands. Widths and groups follow from them.
 
 pub const FLOW: u8 = 0x01;
 pub const NODE: u8 = 0x02;
 pub const VAR: u8 = 0x10;
 pub const FUN: u8 = 0x11;
+pub const REPLY: u8 = 0x12;
 pub const WIRE: u8 = 0x20;
 pub const ANY: u8 = 0x30;
 pub const ARG: u8 = 0x31;
@@ -31,6 +32,7 @@ pub const MAX_FLOWS: usize = 8;
 pub const MAX_NODES: usize = 32;
 pub const MAX_VARIABLES: usize = 64;
 pub const MAX_FUNCTIONS: usize = 32;
+pub const MAX_REPLIES: usize = 128;
 pub const PORTS: usize = 4;
 pub const MAX_BODY_COMMANDS: usize = 64;
 /// ARG and SPAN commands together.
@@ -51,7 +53,7 @@ pub enum Operand {
     Variable,
     /// A position in a body (01: `target` of a jump).
     Position,
-    /// `value`, `start`, `answer`, `low` or `high`: 32 bits.
+    /// `value`, `start`, `answer`, `argument`, `low` or `high`: 32 bits.
     Number,
 }
 
@@ -88,11 +90,12 @@ impl Row {
 
 use Operand::*;
 
-pub const COMMANDS: [Row; 24] = [
+pub const COMMANDS: [Row; 25] = [
     Row::new(FLOW, "FLOW", &[]),
     Row::new(NODE, "NODE", &[]),
     Row::new(VAR, "VAR", &[Scope, Owner, Number]),
     Row::new(FUN, "FUN", &[Number]),
+    Row::new(REPLY, "REPLY", &[Function, Number, Number]),
     Row::new(WIRE, "WIRE", &[Node, Port, TargetNode]),
     Row::new(ANY, "ANY", &[Node, Function]),
     Row::new(ARG, "ARG", &[Node, Function, Number]),
@@ -128,16 +131,16 @@ const fn row_index() -> [u8; 256] {
 }
 
 static ROW_INDEX: [u8; 256] = row_index();
-static ROWS: [Row; 24] = COMMANDS;
+static ROWS: [Row; 25] = COMMANDS;
 
 /// The command with this byte, if the table has one.
 pub fn row(byte: u8) -> Option<&'static Row> {
     ROWS.get(usize::from(ROW_INDEX[usize::from(byte)]))
 }
 
-/// The commands of 01 itself: all but SPAN, which request S-5 added.
+/// The commands of 01 itself: all but SPAN and REPLY, which requests S-5 and S-1 added.
 pub fn commands_of_01() -> impl Iterator<Item = &'static Row> {
-    ROWS.iter().filter(|row| row.byte != SPAN)
+    ROWS.iter().filter(|row| !matches!(row.byte, SPAN | REPLY))
 }
 
 /// A command's group: its byte divided by 16, rounded down.

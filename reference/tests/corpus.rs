@@ -53,8 +53,8 @@ fn commands(holds: impl Fn(&Row) -> bool) -> BTreeSet<u8> {
 #[test]
 fn sizes() {
     let runs = all_runs();
-    assert_eq!(runs.len(), 6_755);
-    assert!(records(&runs).len() < 1_400_000);
+    assert_eq!(runs.len(), 7_105);
+    assert!(records(&runs).len() < 1_600_000);
     assert!(all_texts().len() < 2_000_000);
     assert!(runs.iter().all(|run| run.job.len() <= 16_400));
     let [trace, snapshot, work] = [0, 1, 2].map(|buffer| runs.iter().map(|run| run.lengths[buffer]).max());
@@ -76,11 +76,11 @@ fn every_command_of_each_refusal() {
     assert_eq!(bytes[&2], (0..=255).filter(|&byte| row(byte).is_none()).collect());
     assert_eq!(bytes[&3], commands(|row| row.width > 0));
     assert_eq!(bytes[&4], commands(|row| row.byte != TURN));
-    let counted = |byte| [FLOW, NODE, VAR, FUN, ARG, SPAN, TURN].contains(&byte) || is_handler(byte);
+    let counted = |byte| [FLOW, NODE, VAR, FUN, REPLY, ARG, SPAN, TURN].contains(&byte) || is_handler(byte);
     assert_eq!(bytes[&5], commands(|row| counted(row.byte)));
     assert_eq!(bytes[&6], commands(|row| names(row) || row.byte == NODE || is_handler(row.byte)));
     assert_eq!(bytes[&7], BTreeSet::from([WIRE, READ, WRITE, GET, PUT, PLUS]));
-    assert_eq!(bytes[&8], BTreeSet::from([WIRE, ANY, ARG, READ, WRITE, SPAN, BODY, START]));
+    assert_eq!(bytes[&8], BTreeSet::from([REPLY, WIRE, ANY, ARG, READ, WRITE, SPAN, BODY, START]));
     assert_eq!(bytes[&9], BTreeSet::from([JUMP, JUMPZ]));
     assert_eq!(bytes[&15], BTreeSet::from([SPAN]));
 }
@@ -93,6 +93,7 @@ fn largest_counts_reached() {
     assert_eq!(most(|program| program.nodes.len()), Some(32));
     assert_eq!(most(|program| program.variables.len()), Some(64));
     assert_eq!(most(|program| program.functions.len()), Some(32));
+    assert_eq!(most(|program| program.replies.len()), Some(128));
     assert_eq!(most(|program| program.args.len()), Some(256));
     assert_eq!(most(|program| program.args.len().min(program.spans.len())), Some(128));
     assert_eq!(most(|program| program.turns.len()), Some(4_096));
@@ -148,8 +149,8 @@ fn the_lowest_of_several_tests() {
     for number in 2..=6 {
         let mut lines = verdicts_of(&format!("{number} before others"));
         if number == 2 {
-            // No command of 01: a SPAN without operands now.
-            assert_eq!(lines.remove(4), "refused 3 52");
+            // No commands of 01: a REPLY and a SPAN without operands now.
+            assert_eq!([lines.remove(4), lines.remove(2)], ["refused 3 52"; 2]);
         }
         let start = format!("refused {number} ");
         assert!(lines.iter().all(|line| line.starts_with(&start)), "{number}: {lines:?}");
@@ -185,6 +186,23 @@ fn refusals_at_spans() {
     let first_goes = [15, 15, 15, 15, 15, 15, 15, 15, 15, 7, 6, 8];
     let jobs = [&groups[..], &names, &repeats, &low_and_high, &first_goes].concat();
     assert_eq!(numbers_of("spans"), jobs.iter().flat_map(|&number| [number; 2]).collect::<Vec<u8>>());
+}
+
+/// Jobs about REPLY. Once: cut, with the most of them, beside other counts, damaged. In both modes: groups, between
+/// others, names, repeats, close by, first goes.
+#[test]
+fn refusals_at_replies() {
+    let limits = [0, 5, 5, 5, 5, 3, 4, 8, 6, 0, 5, 0, 5];
+    let beside = [0, 5, 5, 5, 0, 5];
+    let damaged = [3, 3, 5, 5, 5, 5, 5, 5, 6, 6, 6, 6, 8, 8, 8, 8];
+    assert_eq!(numbers_of("replies once"), [&[3; 11][..], &limits, &beside, &damaged].concat());
+    let groups = [4, 4, 4, 4, 4, 4, 4, 4, 4, 4, 0];
+    let between = [6, 0, 6, 6, 6, 0, 0, 0];
+    let names = [0, 6, 6, 0, 6, 6];
+    let [repeats, close_by] = [&[8; 11][..], &[0; 8]];
+    let first_goes = [6, 8, 8, 8, 6, 8, 8, 9, 6, 6, 15];
+    let jobs = [&groups[..], &between, &names, repeats, close_by, &first_goes].concat();
+    assert_eq!(numbers_of("replies"), jobs.iter().flat_map(|&number| [number; 2]).collect::<Vec<u8>>());
 }
 
 /// The changes in the order of their numbers.

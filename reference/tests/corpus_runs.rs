@@ -120,6 +120,69 @@ fn calls_beside_ranges() {
     assert_eq!(signs, expected.concat());
 }
 
+/// A refusal at a REPLY, by 5, 6 and 8, goes before short buffers, by which the last job is refused.
+#[test]
+fn replies_beside_short_buffers() {
+    let number = |run: &Run| match run_dirty(&run.job, run.mode, run.lengths, run.seed).outcome {
+        Outcome::Refused(refusal) => refusal.number,
+        Outcome::Ran(_) => 0,
+    };
+    let numbers: Vec<u8> = runs_of("reply buffers").iter().map(number).collect();
+    let expected = [[5; 4], [6; 4], [8; 4], [0, 10, 11, 12]].concat();
+    assert_eq!(numbers, expected.iter().flat_map(|&number| [number; 2]).collect::<Vec<u8>>());
+}
+
+/// What a run sends, in order.
+fn sent(run: &Run) -> Vec<u32> {
+    let text = run.text();
+    let entries = text.lines().take_while(|line| !line.starts_with("end"));
+    let entries = entries.map(|line| line.split(' ').map(|word| word.parse().unwrap()).collect::<Vec<u32>>());
+    entries.filter(|entry| entry[1] == 6).map(|entry| entry[3]).collect()
+}
+
+/// What the runs of this family and mode send: of each the first, none if it stops before.
+fn first_sent(family: &str, mode: Mode) -> Vec<Option<u32>> {
+    let runs = runs_of(family).into_iter().filter(|run| run.mode == mode);
+    runs.map(|run| sent(&run).first().copied()).collect()
+}
+
+/// Beside replies, the answers that the unmonitored runs send, in the order of the jobs: one reply; extreme arguments;
+/// several; two functions, two nodes; lists; chains; loops; long lists; all functions; the last function. FUN's
+/// answer is 8; of function 1 it is 256, of the last one 31.
+#[test]
+fn answers_beside_replies() {
+    const MAX: u32 = u32::MAX;
+    let single = [&[5, 0, MAX, 7, 8, 0x0102_0304][..], &[8; 9]].concat();
+    let several = [[30, 70, 110].repeat(3), vec![8]].concat();
+    let short = [single, [5, 8].repeat(4), several, vec![1, 2, 8, 2, 7], vec![5; 6], vec![8; 4]].concat();
+    let loops = [20, 20, 1, 1, 0];
+    let long = [1_000, 1_063, 1_127, 8, 1_000, 1_127, 1_127, 8, 8];
+    let expected = [&short[..], &loops, &long, &[1; 3], &[MAX, 31, 31, 31]].concat();
+    let expected: Vec<Option<u32>> = expected.into_iter().map(Some).collect();
+    assert_eq!(first_sent("answers", Mode::Unmonitored), expected);
+    let monitored = first_sent("answers", Mode::Monitored);
+    let stopped: Vec<usize> = (0..monitored.len()).filter(|&job| monitored[job].is_none()).collect();
+    assert_eq!(stopped, [38, 40, 42, 43, 46, 47, 61]);
+    assert!(monitored.iter().zip(expected).all(|(sent, expected)| sent.is_none() || *sent == expected));
+}
+
+/// All answers of two loops, of two nodes, and of all functions.
+#[test]
+fn answers_of_many_calls() {
+    let runs = runs_of("answers");
+    let bare = |job: usize| sent(&runs[2 * job + 1]);
+    assert_eq!(bare(37), [7, 5, 5]);
+    assert_eq!(bare(48), [20, 8, 40, 8, 60, 8, 80, 8, 8, 8]);
+    assert_eq!(sent(&runs[2 * 49]), [20, 8, 40, 8, 60, 8]);
+    assert_eq!(bare(50)[..7], [1, 2, 7, 1, 2, 7, 1]);
+    let of_function = |function: u32| {
+        [[1, 11, 21, 31].map(|more| 1000 * function + more).to_vec(), vec![function]].concat()
+    };
+    let all: Vec<u32> = (0..32).flat_map(of_function).collect();
+    assert_eq!([62, 63, 64].map(bare), [all.clone(), all.clone(), all.clone()]);
+    assert_eq!(sent(&runs[2 * 64]), all[..159], "monitored, the last call stops");
+}
+
 /// Sends that found a queue full, by their number of targets.
 #[test]
 fn full_queues_of_one_and_several_targets() {
@@ -151,6 +214,10 @@ fn modes_seeds_and_pairs() {
         ("spans", 50),
         ("ranges", 40),
         ("span pairs", 12),
+        ("replies", 50),
+        ("reply buffers", 16),
+        ("answers", 60),
+        ("reply pairs", 12),
     ] {
         let runs = runs_of(family);
         assert!(runs.chunks(2).all(both), "{family}");

@@ -10,7 +10,7 @@ use flow_reference::print::print;
 use flow_reference::Mode::{Monitored, Unmonitored};
 
 /// Flows of the papers and that of request S-5, each as a benign and as a malicious job.
-const FLOWS: [&str; 5] = ["email", "water", "earthquake", "lowercase", "speed"];
+const FLOWS: [&str; 6] = ["email", "water", "earthquake", "lowercase", "speed", "baby"];
 
 fn folder() -> PathBuf {
     PathBuf::from(env!("CARGO_MANIFEST_DIR")).join("../examples")

@@ -9,7 +9,7 @@ use flow_reference::generate::count::{fill, pad, Count, COUNTS};
 use flow_reference::generate::damage::damage;
 use flow_reference::generate::{case, draw_case, valid, Kind, Random, Reason};
 use flow_reference::program::{arg_key, Instruction, Span};
-use flow_reference::table::SPAN;
+use flow_reference::table::{REPLY, SPAN};
 use flow_reference::{decode, Entry, Mode, Outcome, Program, Runner, State, Step};
 
 #[test]
@@ -230,16 +230,105 @@ fn calls_beside_spans() {
     assert!([one_below, one_above].iter().all(|&count| count > 15), "{meetings:?}");
 }
 
-/// Without SPAN, no job has one but by blind damage.
-#[test]
-fn jobs_of_01_alone() {
-    let reasons = Reason::drawn_with(&Random::new(0).without_spans());
-    assert_eq!(Reason::all().len() - reasons.len(), 5);
-    for index in 0..300 {
-        let mut random = Random::for_case(14, index).without_spans();
-        let case = draw_case(&mut random, Kind::Valid, usize::MAX);
-        assert!(common::commands(&case.job).iter().all(|command| command[0] != SPAN));
+/// How often a call meets a REPLY so: it gets its answer, which is another than FUN's or FUN's own; or FUN's answer,
+/// where its function has a REPLY to another argument, to the next one, or another function has one to this.
+#[derive(Debug, Default)]
+struct Replies {
+    other_answer: usize,
+    own_answer: usize,
+    other_argument: usize,
+    next_argument: usize,
+    other_function: usize,
+}
+
+impl Replies {
+    fn note_call(&mut self, program: &Program, call: &Entry) {
+        let (function, argument) = (call.number, call.value);
+        let own = program.functions[usize::from(function)];
+        if let Some(reply) = program.replies.iter().find(|reply| reply.call() == (function, argument)) {
+            self.other_answer += usize::from(reply.answer != own);
+            self.own_answer += usize::from(reply.answer == own);
+            return;
+        }
+        let has = |other: u32| program.replies.iter().any(|reply| reply.call() == (function, other));
+        let of_function = program.replies.iter().any(|reply| reply.function == function);
+        let to_argument = program.replies.iter().any(|reply| reply.argument == argument);
+        self.other_argument += usize::from(of_function);
+        self.next_argument += usize::from(has(argument.wrapping_add(1)) || has(argument.wrapping_sub(1)));
+        self.other_function += usize::from(to_argument);
     }
+}
+
+/// How often a job's replies are so: two of one function, two functions with one argument, in falling order, between
+/// functions, the most that there can be.
+#[derive(Debug, Default)]
+struct Lists {
+    of_one_function: usize,
+    of_one_argument: usize,
+    falling: usize,
+    between: usize,
+    most: usize,
+}
+
+impl Lists {
+    fn note(&mut self, job: &[u8]) {
+        let declarations: Vec<&[u8]> =
+            common::commands(job).into_iter().filter(|command| command[0] / 16 == 1).collect();
+        let calls: Vec<(u8, u32)> = declarations
+            .iter()
+            .filter(|command| command[0] == REPLY)
+            .map(|reply| (reply[1], common::number(&reply[..6])))
+            .collect();
+        let distinct = |key: fn(&(u8, u32)) -> u32| calls.iter().map(key).collect::<BTreeSet<u32>>().len();
+        self.of_one_function += usize::from(distinct(|call| call.0.into()) < calls.len());
+        self.of_one_argument += usize::from(distinct(|call| call.1) < calls.len());
+        self.falling += usize::from(calls.windows(2).any(|pair| pair[0] > pair[1]));
+        let is_before = |pair: &[&[u8]]| pair[0][0] == REPLY && pair[1][0] != REPLY;
+        self.between += usize::from(declarations.windows(2).any(is_before));
+        self.most += usize::from(calls.len() == 128);
+    }
+}
+
+#[test]
+fn calls_beside_replies() {
+    let (mut replies, mut lists) = (Replies::default(), Lists::default());
+    for index in 0..2_000 {
+        let job = case(15, index, Kind::Valid, usize::MAX).job;
+        let program = decode(&job).expect("a valid job");
+        lists.note(&job);
+        let mut runner = Runner::new(&program, Mode::Unmonitored);
+        while let Step::Completed(entry) = runner.step() {
+            if entry.kind == 5 {
+                replies.note_call(&program, &entry);
+            }
+        }
+    }
+    let Replies { other_answer, own_answer, other_argument, next_argument, other_function } = replies;
+    assert!(other_answer > 3_000 && own_answer > 400, "{replies:?}");
+    assert!([other_argument, next_argument, other_function].iter().all(|&count| count > 200), "{replies:?}");
+    let Lists { of_one_function, of_one_argument, falling, between, most } = lists;
+    let often = [of_one_function, of_one_argument, falling, between];
+    assert!(often.iter().all(|&count| count > 100) && most > 2, "{lists:?}");
+}
+
+/// Of 01's commands alone, no job has SPAN or REPLY but by blind damage; without REPLY it may have SPAN.
+#[test]
+fn jobs_without_newer_commands() {
+    let missing = |random: &Random| Reason::all().len() - Reason::drawn_with(random).len();
+    let bytes = |random: &mut Random| -> BTreeSet<u8> {
+        let job = draw_case(random, Kind::Valid, usize::MAX).job;
+        common::commands(&job).iter().map(|command| command[0]).collect()
+    };
+    let random = |index| Random::for_case(14, index);
+    assert_eq!([random(0).of_01(), random(0).without_replies(), random(0)].map(|r| missing(&r)), [13, 8, 0]);
+    let mut spans = 0;
+    for index in 0..300 {
+        let [of_01, without] =
+            [random(index).of_01(), random(index).without_replies()].map(|mut r| bytes(&mut r));
+        assert!(!of_01.contains(&SPAN) && !of_01.contains(&REPLY) && !without.contains(&REPLY));
+        spans += usize::from(without.contains(&SPAN));
+    }
+    assert!(spans > 50, "{spans}");
 }
 
 #[test]

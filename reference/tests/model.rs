@@ -25,6 +25,8 @@ struct Model {
     /// Whether it is shared, and its value.
     variables: Vec<(bool, u32)>,
     answers: Vec<u32>,
+    /// Function, argument, answer.
+    replies: Vec<(usize, u32, u32)>,
     wires: Vec<[u8; 3]>,
     turns: Vec<u8>,
 }
@@ -41,6 +43,9 @@ fn load(job: &[u8]) -> Model {
             [0x02] => model.nodes.push(Node::default()),
             [0x10, scope, ..] => model.variables.push((scope > 0, number(command))),
             [0x11, ..] => model.answers.push(number(command)),
+            [0x12, function, ..] => {
+                model.replies.push((usize::from(function), number(&command[..6]), number(command)));
+            }
             [0x20, node, port, target] => model.wires.push([node, port, target]),
             [0x30..=0x34, ..] => {}
             [0x40, node] => open = usize::from(node),
@@ -56,6 +61,17 @@ impl Model {
     fn targets(&self, node: u8, port: u8) -> Vec<usize> {
         let from_port = self.wires.iter().filter(|wire| wire[..2] == [node, port]);
         from_port.map(|wire| usize::from(wire[2])).collect()
+    }
+
+    /// What a call gets: that of the reply to it, if there is one.
+    fn answer(&self, function: usize, argument: u32) -> u32 {
+        let mut answer = self.answers[function];
+        for &(of, to, other) in &self.replies {
+            if of == function && to == argument {
+                answer = other;
+            }
+        }
+        answer
     }
 
     /// The event that a command would leave.
@@ -95,7 +111,7 @@ impl Model {
                     self.nodes[target].queue.push_back(accumulator);
                 }
             }
-            0x4A => own.accumulator = self.answers[operand],
+            0x4A => self.nodes[usize::from(node)].accumulator = self.answer(operand, accumulator),
             _ => {}
         }
     }

@@ -1,4 +1,4 @@
-//! Refusals 1 to 9 by hand: number and place. `spans.rs` has those at SPAN.
+//! Refusals 1 to 9 by hand: number and place. `spans.rs` and `replies.rs` have those at SPAN and REPLY.
 
 mod common;
 
@@ -45,7 +45,7 @@ fn small_jobs() {
 
 #[test]
 fn number_2() {
-    for byte in ["00", "03", "0F", "12", "21", "35", "3F", "4C", "51", "61", "70", "FF"] {
+    for byte in ["00", "03", "0F", "13", "21", "35", "3F", "4C", "51", "61", "70", "FF"] {
         refused(byte, 2, 0);
         refused(&format!("01 02 60 00 {byte}"), 2, 4);
     }

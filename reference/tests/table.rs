@@ -3,11 +3,12 @@
 use flow_reference::table::{commands_of_01, group, row, write, COMMANDS};
 
 /// Byte, name, operand bytes.
-const PAPER: [(u8, &str, usize); 24] = [
+const PAPER: [(u8, &str, usize); 25] = [
     (0x01, "FLOW", 0),
     (0x02, "NODE", 0),
     (0x10, "VAR", 6),
     (0x11, "FUN", 4),
+    (0x12, "REPLY", 9),
     (0x20, "WIRE", 3),
     (0x30, "ANY", 2),
     (0x31, "ARG", 6),
@@ -38,7 +39,8 @@ fn rows() {
 
 #[test]
 fn rows_of_01() {
-    let bytes: Vec<u8> = PAPER.iter().map(|line| line.0).filter(|&byte| byte != 0x34).collect();
+    let bytes: Vec<u8> =
+        PAPER.iter().map(|line| line.0).filter(|byte| ![0x12, 0x34].contains(byte)).collect();
     assert_eq!(bytes.len(), 23);
     assert!(commands_of_01().map(|row| row.byte).eq(bytes));
 }
@@ -53,7 +55,7 @@ fn bytes_outside_the_table() {
 
 #[test]
 fn groups() {
-    assert_eq!([0x02, 0x10, 0x20, 0x34, 0x4B, 0x50, 0x60].map(group), [0, 1, 2, 3, 4, 5, 6]);
+    assert_eq!([0x02, 0x12, 0x20, 0x34, 0x4B, 0x50, 0x60].map(group), [0, 1, 2, 3, 4, 5, 6]);
 }
 
 #[test]
@@ -61,4 +63,5 @@ fn operands_lowest_byte_first() {
     assert_eq!(write(0x31, &[1, 2, 0x0A0B_0C0D]), [0x31, 1, 2, 0x0D, 0x0C, 0x0B, 0x0A]);
     let span = [0x34, 1, 2, 0x04, 0x03, 0x02, 0x01, 0x08, 0x07, 0x06, 0x05];
     assert_eq!(write(0x34, &[1, 2, 0x0102_0304, 0x0506_0708]), span);
+    assert_eq!(write(0x12, &[1, 0x0102_0304, 0x0506_0708]), [0x12, 1, 4, 3, 2, 1, 8, 7, 6, 5]);
 }

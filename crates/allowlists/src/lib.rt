@@ -1,9 +1,6 @@
 // What the tables say of permissions, each under its own kind of number.
 ghost use mathlib.Core.Path.{_≡_};
-ghost use Rattle.model.specs.Declared.{isThere};
-ghost use Rattle.tables.specs.Items.{firstItem};
-ghost use Rattle.tables.specs.Tables.{readIn, writeIn, anyIn, rangesIn, listedIn, callIn};
-ghost use Rattle.items.specs.Asking.{asked};
+ghost use Rattle.tables.specs.Tables.{readIn, writeIn, anyIn, listedIn, callIn};
 use command::numbers::FunNum;
 use command::numbers::NodeNum;
 use command::numbers::VarNum;
@@ -34,20 +31,16 @@ pub fn may_call_any(tables: &[u32], n: NodeNum, f: FunNum) -> bool
     marked(tables, cells::CALLS, n.0 as usize, f.0 as usize)
 }
 
-// Whether the answer is yes for one of the ranges of a node and a function; no others are looked at.
-fn has_range(tables: &[u32], n: NodeNum, f: FunNum, q: Question) -> bool
-    ensures { λ r. ⌜ r ≡ isThere (firstItem (asked q) (rangesIn (now (tables .entry)) (n .0) (f .0))) ⌝ }
-{
-    let last = last_range(tables, n, f) as usize;
-    let at = find(tables, last, q);
-    at != 0
-}
-
 // Whether there is a command with this byte, ARG or SPAN, node, function, and lowest and highest argument.
 pub fn is_listed(tables: &[u32], byte: u8, n: NodeNum, f: FunNum, low: u32, high: u32) -> bool
     ensures { λ r. ⌜ r ≡ listedIn (now (tables .entry)) byte (n .0) (f .0) low high ⌝ }
 {
-    has_range(tables, n, f, Question::Is(byte as u32, low, high))
+    let at = find(
+        tables,
+        last_range(tables, n, f) as usize,
+        Question::Is(byte as u32, low, high),
+    );
+    at != 0
 }
 
 // Whether a node may call a function with this argument.
@@ -57,5 +50,7 @@ pub fn may_call(tables: &[u32], n: NodeNum, f: FunNum, argument: u32) -> bool
     if may_call_any(tables, n, f) {
         return true;
     }
-    has_range(tables, n, f, Question::Holds(argument))
+    let last = last_range(tables, n, f) as usize;
+    let at = find(tables, last, Question::Holds(argument));
+    at != 0
 }

@@ -52,7 +52,7 @@ fn far(job: &[u8]) -> Vec<Lengths> {
 }
 
 /// No bytes, some, and as many as a run of 9 turns needs.
-fn some_lengths() -> [Lengths; 6] {
+pub fn some_lengths() -> [Lengths; 6] {
     [[0; 3], [1; 3], [63, 2_624, 4_096], [62, 2_624, 4_096], [63, 2_623, 4_096], [70, 2_631, 4_095]]
 }
 

@@ -20,7 +20,7 @@ fn every_byte() -> Vec<Job> {
     places.into_iter().flat_map(at).collect()
 }
 
-/// A byte that is no command of 01 before each command of a valid job, and at its end. One of them is SPAN now.
+/// A byte that is no command of 01 before each command of a valid job, and at its end. Two of them are REPLY and SPAN now.
 fn unknown_everywhere() -> Vec<Job> {
     let unknown = [0x00, 0x03, 0x0F, 0x12, 0x21, 0x34, 0x3F, 0x4C, 0x51, 0x61, 0x70, 0x80, 0xFF];
     let commands = tour();

@@ -36,8 +36,13 @@ pub fn last_numbers() -> Vec<Job> {
 
 /// The accesses of the last node with these permissions.
 pub fn last_node(permissions: &[u8]) -> Job {
+    last_node_with(&[], permissions)
+}
+
+/// The same with these replies.
+pub fn last_node_with(replies: &[u8], permissions: &[u8]) -> Job {
     let wires = [WIRE, 31, 3, 28, WIRE, 31, 3, 31];
     let start = table::write(START, &[31, 7]);
     let turns = [[TURN, 31].repeat(9), [TURN, 28].repeat(2), [TURN, 31].repeat(2)].concat();
-    behind(&full(), &[&wires, permissions, &HANDLER, &start, &turns].concat())
+    behind(&full(), &[replies, &wires, permissions, &HANDLER, &start, &turns].concat())
 }

@@ -1,5 +1,6 @@
 //! The stored corpus: runs in families, and what is printed of each.
 
+mod answers;
 mod buffers;
 mod bytes;
 mod changes;
@@ -17,6 +18,7 @@ mod pairs;
 mod random;
 mod ranges;
 mod repeats;
+mod replies;
 mod run;
 mod sight;
 mod spans;
@@ -60,8 +62,8 @@ fn jobs() -> Vec<(&'static str, Vec<Job>)> {
     ]
 }
 
-/// All families: the worked jobs in both modes, each of the jobs above once, then what is about runs, then SPAN.
-/// A new family goes behind all others, so that the stored runs before it stay the same.
+/// All families: the worked jobs in both modes, each of the jobs above once, then what is about runs, then SPAN,
+/// then REPLY. A new family goes behind all others, so that the stored runs before it stay the same.
 pub fn families() -> Vec<Family> {
     let mut runs = Runs::new();
     let mut list = vec![Family { name: "worked", runs: runs.pairs(&worked::jobs()) }];
@@ -86,6 +88,7 @@ pub fn families() -> Vec<Family> {
     list.push(Family { name: "handlers", runs: runs.pairs(&handlers::jobs()) });
     list.push(Family { name: "work", runs: work::runs(&mut runs) });
     list.extend(with_spans(&mut runs));
+    list.extend(with_replies(&mut runs));
     list
 }
 
@@ -97,6 +100,18 @@ fn with_spans(runs: &mut Runs) -> [Family; 4] {
         Family { name: "spans", runs: runs.pairs(&spans::jobs()) },
         Family { name: "ranges", runs: runs.pairs(&ranges::jobs()) },
         Family { name: "span pairs", runs: runs.pairs(&pairs::with_spans(12)) },
+    ]
+}
+
+/// What is about REPLY, which no job before has: some jobs once, in either mode, then pairs.
+fn with_replies(runs: &mut Runs) -> [Family; 5] {
+    let once = [replies::cuts(), replies::limits(), random::damaged_by_reply(2)].concat();
+    [
+        Family { name: "replies once", runs: once.iter().map(|job| runs.any(job)).collect() },
+        Family { name: "replies", runs: runs.pairs(&replies::jobs()) },
+        Family { name: "reply buffers", runs: replies::beside_buffers(runs) },
+        Family { name: "answers", runs: runs.pairs(&answers::jobs()) },
+        Family { name: "reply pairs", runs: runs.pairs(&pairs::with_replies(12)) },
     ]
 }
 

@@ -36,8 +36,8 @@ fn full_turns() -> Vec<u8> {
     [TURN, 2].repeat(MAX_TURNS)
 }
 
-/// 2 before 4 and 5: bytes that are no command of 01, of a lower group or behind a full body. One of them, SPAN
-/// now, is cut: 3.
+/// 2 before 4 and 5: bytes that are no command of 01, of a lower group or behind a full body. Two of them, REPLY
+/// and SPAN now, are cut: 3.
 fn unknown() -> Vec<Job> {
     let past_turn = [0x00, 0x0F, 0x12, 0x21, 0x34, 0x4C, 0x51].map(|byte| vec![TURN, 0, byte]);
     let past_body = [0x4C, 0x4F].map(|byte| [full_body(), vec![byte]].concat());

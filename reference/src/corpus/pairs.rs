@@ -1,4 +1,5 @@
-//! The generator's valid jobs with runs of 10 to 60 turns, for both modes, without SPAN and with it.
+//! The generator's valid jobs with runs of 10 to 60 turns, for both modes: of 01's commands alone, with SPAN, with
+//! REPLY.
 
 use super::Job;
 use crate::generate::{draw_case, Kind, Random};
@@ -7,16 +8,30 @@ use crate::{decode, Entry, Mode, Program, Runner, Step};
 
 const SEED: u64 = 0x0A1B_0C2D;
 
-/// So many jobs without SPAN whose unmonitored run completes 10 to 60 turns.
+/// So many jobs of 01's commands alone whose unmonitored run completes 10 to 60 turns.
 pub fn jobs(count: usize) -> Vec<Job> {
-    let random = |index| Random::for_case(SEED, index).without_spans();
+    let random = |index| Random::for_case(SEED, index).of_01();
     drawn(random).take(count).collect()
 }
 
 /// So many jobs with a call whose node and function have a SPAN.
 pub fn with_spans(count: usize) -> Vec<Job> {
-    let jobs = drawn(|index| Random::for_case(!SEED, index));
+    let jobs = drawn(|index| Random::for_case(!SEED, index).without_replies());
     jobs.filter(|job| job.len() < 400 && has_call_by_span(job)).take(count).collect()
+}
+
+/// So many jobs with a call that gets another answer than FUN's.
+pub fn with_replies(count: usize) -> Vec<Job> {
+    let jobs = drawn(|index| Random::for_case(SEED + 1, index));
+    jobs.filter(|job| job.len() < 400 && has_call_by_reply(job)).take(count).collect()
+}
+
+/// Whether a call of the unmonitored run gets another answer than FUN's.
+fn has_call_by_reply(job: &[u8]) -> bool {
+    let program = decode(job).expect("a valid job");
+    let is_other =
+        |call: &Entry| program.answer(call.number, call.value) != program.functions[usize::from(call.number)];
+    entries(&program).iter().any(|entry| entry.kind == kind::CALL && is_other(entry))
 }
 
 /// Whether a call of the unmonitored run is of the node and function of a SPAN.

@@ -10,21 +10,26 @@ pub fn jobs() -> Vec<Job> {
     [groups(), names(), repeats(), upside_down(), first_goes()].concat()
 }
 
-/// Cut at each of its operand bytes: behind declarations, behind a higher group, undeclared as far as it goes.
+/// A SPAN that is cut.
 pub fn cuts() -> Vec<Job> {
-    let whole = span(0, 0, 3, 9);
-    let undeclared = span(9, 9, 9, 3);
+    cut(&span(0, 0, 3, 9), &span(9, 9, 9, 3))
+}
+
+/// A command cut at each of its operand bytes: behind declarations, behind a higher group; an undeclared one as far
+/// as it goes.
+pub fn cut(whole: &[u8], undeclared: &[u8]) -> Vec<Job> {
+    let last = whole.len() - 1;
     let mut jobs = Vec::new();
-    for length in 1..whole.len() {
+    for length in 1..=last {
         jobs.push(behind(&small(), &whole[..length]));
     }
-    jobs.push(behind(&small(), &[&[TURN, 0], &whole[..10]].concat()));
-    jobs.push(behind(&small(), &undeclared[..10]));
+    jobs.push(behind(&small(), &[&[TURN, 0], &whole[..last]].concat()));
+    jobs.push(behind(&small(), &undeclared[..last]));
     jobs
 }
 
 /// Behind small declarations.
-fn small_and(tails: &[&[&[u8]]]) -> Vec<Job> {
+pub fn small_and(tails: &[&[&[u8]]]) -> Vec<Job> {
     tails.iter().map(|tail| behind(&small(), &tail.concat())).collect()
 }
 

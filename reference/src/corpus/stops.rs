@@ -4,7 +4,7 @@ use super::Job;
 use crate::table::{self, *};
 
 /// Nodes 0 and 1 in flow 0, node 2 in flow 1; variables 0 of node 0, 1 of flow 0, 2 global; two functions.
-const DECLARATIONS: [u8; 36] = [
+pub const DECLARATIONS: [u8; 36] = [
     FLOW, NODE, NODE, FLOW, NODE, VAR, 0, 0, 1, 0, 0, 0, VAR, 1, 0, 2, 0, 0, 0, VAR, 2, 0, 3, 0, 0, 0, FUN,
     8, 0, 0, 0, FUN, 0, 1, 0, 0,
 ];

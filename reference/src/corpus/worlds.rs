@@ -2,7 +2,7 @@
 
 use super::Job;
 use crate::generate::plan::Plan;
-use crate::table::{self, Operand, BODY, MAX_FLOWS, MAX_FUNCTIONS, MAX_NODES, MAX_VARIABLES, SPAN};
+use crate::table::{self, Operand, BODY, MAX_FLOWS, MAX_FUNCTIONS, MAX_NODES, MAX_VARIABLES, REPLY, SPAN};
 
 /// Flows of so many nodes each, variables by scope and owner, and so many functions.
 pub fn world(nodes: &[usize], variables: &[(u8, u8)], functions: usize) -> Plan {
@@ -72,6 +72,11 @@ pub fn operands(plan: &Plan, byte: u8) -> Vec<u32> {
 /// A command that passes every test behind the plan's declarations.
 pub fn command(plan: &Plan, byte: u8) -> Vec<u8> {
     table::write(byte, &operands(plan, byte))
+}
+
+/// The answer of a function to an argument.
+pub fn reply(function: u32, argument: u32, answer: u32) -> Vec<u8> {
+    table::write(REPLY, &[function, argument, answer])
 }
 
 /// SPAN of a node and function, from `low` to `high`.

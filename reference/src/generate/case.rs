@@ -1,7 +1,7 @@
 //! Cases: a job, a mode and buffer lengths.
 
 use super::buffers::{self, Lengths};
-use super::count::{self, COUNTS};
+use super::count;
 use super::damage::{damage, Damaged};
 use super::noise;
 use super::plan::Plan;
@@ -84,10 +84,11 @@ fn valid_plan(random: &mut Random, max_bytes: usize) -> Plan {
 /// A job that reaches a largest count exactly.
 fn full_plan(random: &mut Random) -> Option<Plan> {
     let mut plan = valid::medium(random);
-    match random.below(COUNTS.len() + 1) {
+    let counts = count::drawn_with(random);
+    match random.below(counts.len() + 1) {
         0 => count::pad(&mut plan, random, MAX_JOB_BYTES)?,
         which => {
-            count::fill(&mut plan, random, COUNTS[which - 1])?;
+            count::fill(&mut plan, random, counts[which - 1])?;
         }
     }
     Some(plan)

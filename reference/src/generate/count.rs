@@ -14,9 +14,10 @@ pub enum Count {
     /// ARG and SPAN together.
     Args,
     Turns,
+    Replies,
 }
 
-pub const COUNTS: [Count; 7] = [
+pub const COUNTS: [Count; 8] = [
     Count::Flows,
     Count::Nodes,
     Count::Variables,
@@ -24,7 +25,13 @@ pub const COUNTS: [Count; 7] = [
     Count::BodyCommands,
     Count::Args,
     Count::Turns,
+    Count::Replies,
 ];
+
+/// Those that are drawn with a generator of numbers.
+pub fn drawn_with(random: &Random) -> Vec<Count> {
+    COUNTS.into_iter().filter(|&count| random.draws_replies || count != Count::Replies).collect()
+}
 
 /// Where a command of the counted kind goes: group and index, one behind the last of them.
 pub struct Spot {
@@ -50,6 +57,7 @@ pub fn fill(plan: &mut Plan, random: &mut Random, count: Count) -> Option<Spot> 
         Count::BodyCommands => return fill_body(plan, random),
         Count::Args => fill_args(plan, random)?,
         Count::Turns => fill_turns(plan, random)?,
+        Count::Replies => fill_replies(plan, random)?,
     }
     let group = usize::from(group(byte_of(count)));
     Some(Spot { group, index: plan.groups[group].len() })
@@ -73,6 +81,7 @@ fn byte_of(count: Count) -> u8 {
         Count::BodyCommands => SET,
         Count::Args => ARG,
         Count::Turns => TURN,
+        Count::Replies => REPLY,
     }
 }
 
@@ -114,6 +123,25 @@ fn fill_args(plan: &mut Plan, random: &mut Random) -> Option<()> {
         let permission = permission(value);
         value = value.wrapping_add(random.below(2) as u32);
         plan.groups[usize::from(group(ARG))].push(permission);
+    }
+    Some(())
+}
+
+/// Replies behind all functions: distinct arguments, many of them one above another.
+fn fill_replies(plan: &mut Plan, random: &mut Random) -> Option<()> {
+    if plan.functions == 0 {
+        return None;
+    }
+    let mut calls = plan.replies();
+    let mut argument = random.value();
+    while calls.len() < MAX_REPLIES {
+        let function = random.below(plan.functions) as u8;
+        while calls.contains(&(function, argument)) {
+            argument = argument.wrapping_add(1);
+        }
+        calls.push((function, argument));
+        plan.push(REPLY, &[function.into(), argument, random.value()]);
+        argument = argument.wrapping_add(random.below(2) as u32);
     }
     Some(())
 }

@@ -11,6 +11,7 @@ mod permit;
 pub mod plan;
 mod random;
 mod reason;
+mod reply;
 mod schedule;
 mod shape;
 mod size;

@@ -1,6 +1,7 @@
 //! A job in the making: its commands by group, and what they declare.
 
-use crate::table::{self, group, ARG, BODY, FLOW, FUN, NODE, SPAN, TURN, VAR};
+use crate::command::{self, Command};
+use crate::table::{self, group, ARG, BODY, FLOW, FUN, NODE, REPLY, SPAN, TURN, VAR};
 
 pub const GROUPS: usize = 7;
 /// The group of handler commands.
@@ -51,6 +52,16 @@ impl Plan {
         self.push(FUN, &[answer]);
         self.functions += 1;
         self.functions as u8 - 1
+    }
+
+    /// The replies so far: function and argument of each.
+    pub fn replies(&self) -> Vec<(u8, u32)> {
+        let commands = self.groups[usize::from(group(REPLY))].iter();
+        let read = |command: &Vec<u8>| match command::read(command, 0) {
+            Ok((Command::Reply(reply), ..)) => Some(reply.call()),
+            _ => None,
+        };
+        commands.filter_map(read).collect()
     }
 
     pub fn add_turn(&mut self, node: u8) {

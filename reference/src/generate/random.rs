@@ -1,17 +1,19 @@
 //! A small generator of numbers (splitmix64), which also knows the commands that are drawn with it.
 
-use crate::table::{commands_of_01, Row, COMMANDS};
+use crate::table::{Row, COMMANDS, REPLY, SPAN};
 
 #[derive(Clone, Debug)]
 pub struct Random {
     state: u64,
     /// Whether SPAN is drawn.
     pub draws_spans: bool,
+    /// Whether REPLY is drawn.
+    pub draws_replies: bool,
 }
 
 impl Random {
     pub fn new(seed: u64) -> Random {
-        Random { state: seed, draws_spans: true }
+        Random { state: seed, draws_spans: true, draws_replies: true }
     }
 
     /// A generator of its own for the case `index` of a seed.
@@ -20,18 +22,24 @@ impl Random {
         Random::new(number ^ index.wrapping_mul(0xD1B5_4A32_D192_ED03))
     }
 
-    /// The same numbers for jobs of 01's commands alone: without SPAN, and with its byte as any other that is no
-    /// command.
-    pub fn without_spans(self) -> Random {
-        Random { draws_spans: false, ..self }
+    /// The same numbers for jobs without REPLY, and with its byte as any other that is no command.
+    pub fn without_replies(self) -> Random {
+        Random { draws_replies: false, ..self }
+    }
+
+    /// The same for jobs of 01's commands alone: without REPLY and SPAN.
+    pub fn of_01(self) -> Random {
+        Random { draws_spans: false, ..self.without_replies() }
     }
 
     /// The commands that are drawn.
     pub fn commands(&self) -> Vec<Row> {
-        if self.draws_spans {
-            return COMMANDS.to_vec();
-        }
-        commands_of_01().copied().collect()
+        let is_drawn = |row: &&Row| match row.byte {
+            SPAN => self.draws_spans,
+            REPLY => self.draws_replies,
+            _ => true,
+        };
+        COMMANDS.iter().filter(is_drawn).copied().collect()
     }
 
     pub fn next_u64(&mut self) -> u64 {

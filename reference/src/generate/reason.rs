@@ -25,7 +25,8 @@ pub enum Reason {
     // 5
     OverCount(Count),
     OverCountUndeclared(Count),
-    OverCountRepeated,
+    /// ARG and SPAN, or replies.
+    OverCountRepeated(Count),
     // 6
     NodeBeforeFlow,
     HandlerBeforeBody(u8),
@@ -34,6 +35,7 @@ pub enum Reason {
     UndeclaredOwnerFlow,
     ScopeAboveTwo,
     GlobalOwner,
+    ReplyBeforeFunction,
     // 7
     WireAcrossFlows,
     HandlerUnseenNodeVariable(u8),
@@ -43,6 +45,7 @@ pub enum Reason {
     PermissionUnseenNotShared(u8),
     // 8
     Repeated(u8),
+    ReplyWithOtherAnswer,
     SecondBody,
     SecondStartSameNode,
     SecondStartOtherNode,
@@ -69,20 +72,22 @@ impl Reason {
         list.extend([LowerGroup, LowerGroupOverCount, LowerGroupUndeclared]);
         list.extend(COUNTS.map(OverCount));
         list.extend(with_operands().filter(|&count| count != Count::Functions).map(OverCountUndeclared));
-        list.extend([OverCountRepeated, NodeBeforeFlow]);
+        list.extend([Count::Args, Count::Replies].map(OverCountRepeated));
+        list.push(NodeBeforeFlow);
         list.extend(
             COMMANDS.iter().filter(|row| is_handler(row.byte)).map(|row| HandlerBeforeBody(row.byte)),
         );
         list.extend(undeclared());
-        list.extend([UndeclaredOwnerNode, UndeclaredOwnerFlow, ScopeAboveTwo, GlobalOwner, WireAcrossFlows]);
+        list.extend([UndeclaredOwnerNode, UndeclaredOwnerFlow, ScopeAboveTwo, GlobalOwner]);
+        list.extend([ReplyBeforeFunction, WireAcrossFlows]);
         for byte in [GET, PUT, PLUS] {
             list.extend([HandlerUnseenNodeVariable(byte), HandlerUnseenFlowVariable(byte)]);
         }
         for byte in [READ, WRITE] {
             list.extend([PermissionUnseen(byte), PermissionNotShared(byte), PermissionUnseenNotShared(byte)]);
         }
-        list.extend([WIRE, ANY, ARG, READ, WRITE, SPAN].map(Repeated));
-        list.extend([SecondBody, SecondStartSameNode, SecondStartOtherNode]);
+        list.extend([WIRE, ANY, ARG, READ, WRITE, SPAN, REPLY].map(Repeated));
+        list.extend([ReplyWithOtherAnswer, SecondBody, SecondStartSameNode, SecondStartOtherNode]);
         for byte in [JUMP, JUMPZ] {
             list.extend([JumpOnePastEnd(byte), JumpFarPastEnd(byte)]);
         }
@@ -95,12 +100,24 @@ impl Reason {
     pub fn drawn_with(random: &Random) -> Vec<Reason> {
         let mut list = Reason::all();
         list.retain(|reason| random.draws_spans || !reason.needs_span());
+        list.retain(|reason| random.draws_replies || !reason.needs_reply());
         list
     }
 
     /// Whether the damage is a SPAN.
     pub fn needs_span(self) -> bool {
         matches!(self, Repeated(SPAN) | Undeclared(SPAN, _)) || self.number() == 15
+    }
+
+    /// Whether the damage is a REPLY.
+    pub fn needs_reply(self) -> bool {
+        match self {
+            CutOverCount(count) | OverCount(count) => count == Count::Replies,
+            OverCountUndeclared(count) | OverCountRepeated(count) => count == Count::Replies,
+            Repeated(byte) | Undeclared(byte, _) => byte == REPLY,
+            ReplyBeforeFunction | ReplyWithOtherAnswer => true,
+            _ => false,
+        }
     }
 }
 
@@ -116,12 +133,14 @@ impl Reason {
             UnknownByte | UnknownLastByte => 2,
             CutOperands | CutInLowerGroup | CutOverCount(_) => 3,
             LowerGroup | LowerGroupOverCount | LowerGroupUndeclared => 4,
-            OverCount(_) | OverCountUndeclared(_) | OverCountRepeated => 5,
+            OverCount(_) | OverCountUndeclared(_) | OverCountRepeated(_) => 5,
             NodeBeforeFlow | HandlerBeforeBody(_) | Undeclared(..) => 6,
             UndeclaredOwnerNode | UndeclaredOwnerFlow | ScopeAboveTwo | GlobalOwner => 6,
+            ReplyBeforeFunction => 6,
             WireAcrossFlows | HandlerUnseenNodeVariable(_) | HandlerUnseenFlowVariable(_) => 7,
             PermissionUnseen(_) | PermissionNotShared(_) | PermissionUnseenNotShared(_) => 7,
-            Repeated(_) | SecondBody | SecondStartSameNode | SecondStartOtherNode => 8,
+            Repeated(_) | ReplyWithOtherAnswer => 8,
+            SecondBody | SecondStartSameNode | SecondStartOtherNode => 8,
             JumpOnePastEnd(_) | JumpFarPastEnd(_) | TwoBadJumps => 9,
             BadJumpBeforeOtherRefusal => 6,
             LowAboveHigh { .. } => 15,

@@ -3,7 +3,7 @@
 use super::plan::Plan;
 use super::random::Random;
 use super::size::{self, Size};
-use super::{declare, handler, permit, schedule, shape, wire};
+use super::{declare, handler, permit, reply, schedule, shape, wire};
 use crate::decode::decode;
 use crate::table::{group, START, TURN};
 
@@ -33,6 +33,7 @@ fn build(random: &mut Random, size: &Size, max_bytes: usize) -> Option<Plan> {
     wire::wire(&mut plan, random, size.wires);
     handler::handlers(&mut plan, random, size.handler);
     starts(&mut plan, random);
+    reply::replies(&mut plan, random);
     let program = decode(&plan.bytes()).expect("the generator's jobs are valid");
     let limit = if random.chance(50) { size.turns } else { random.between(1, size.turns) };
     let schedule = schedule::schedule(&program, random, limit);

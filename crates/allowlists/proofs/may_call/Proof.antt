@@ -1,6 +1,8 @@
 -- `allowlists::may_call` meets its contract.
-use mathlib.Core.Path.{sym, _∙_}
+use mathlib.Core.Path.{sym, ap, _∙_}
 use borrow.Author.Needs.{needs}
+use Rattle.model.specs.Declared.{isThere}
+use Rattle.items.proofs.Searching.{found-there}
 use Rattle.allowlists.proofs.may_call.Statement.{statement}
 use Rattle.allowlists.proofs.may_call.Tie as tie
 
@@ -10,11 +12,19 @@ may-call-any-requires c κs = search needs
 returns : tie.Need-returns
 returns c = rw (sym (c .before .may-call-any .ensures) ∙ c .if1 .taken)
 
-has-range-requires : tie.Need-has-range-requires
-has-range-requires c κs = search needs
+last-range-requires : tie.Need-last-range-requires
+last-range-requires c κs = search needs
+
+cast-last : tie.Need-cast-last
+cast-last c = search needs
+
+find-requires : tie.Need-find-requires
+find-requires c κs = search needs
 
 returns-2 : tie.Need-returns-2
-returns-2 c = rw (sym (c .before .before .may-call-any .ensures) ∙ c .before .if1 .left) (c .has-range .ensures)
+returns-2 c =
+    rw (sym (c .before .before .before .may-call-any .ensures) ∙ c .before .before .if1 .left)
+    (rw (c .before .last-range .ensures) at (found-there _ (c .find .result) ∙ ap isThere (c .find .ensures)))
 
 pub may-call-spec : {M : Type 1} → statement M
-may-call-spec = tie.close (tie.spec may-call-any-requires returns has-range-requires returns-2)
+may-call-spec = tie.close (tie.spec may-call-any-requires returns last-range-requires cast-last find-requires returns-2)

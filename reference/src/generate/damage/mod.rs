@@ -5,6 +5,7 @@ mod jumps;
 mod names;
 mod order;
 mod repeats;
+mod replies;
 mod sight;
 mod spans;
 
@@ -47,7 +48,14 @@ pub fn damage(reason: Reason, plan: &mut Plan, random: &mut Random) -> Option<Da
         LowerGroupUndeclared => order::lower_group_undeclared(plan, random),
         OverCount(count) => order::over_count(plan, random, count),
         OverCountUndeclared(count) => order::over_count_undeclared(plan, random, count),
-        OverCountRepeated => order::over_count_repeated(plan, random),
+        OverCountRepeated(count) => order::over_count_repeated(plan, random, count),
+        _ => damage_content(reason, plan, random),
+    }
+}
+
+/// The same for the reasons behind the largest counts: what operands name, what is repeated, jumps and ranges.
+fn damage_content(reason: Reason, plan: &mut Plan, random: &mut Random) -> Option<Damaged> {
+    match reason {
         NodeBeforeFlow => Some(names::node_before_flow(plan)),
         HandlerBeforeBody(byte) => Some(names::handler_before_body(plan, random, byte)),
         Undeclared(byte, operand) => names::undeclared(plan, random, byte, operand),
@@ -55,6 +63,7 @@ pub fn damage(reason: Reason, plan: &mut Plan, random: &mut Random) -> Option<Da
         UndeclaredOwnerFlow => Some(names::variable(plan, random, names::Fault::OwnerFlow)),
         ScopeAboveTwo => Some(names::variable(plan, random, names::Fault::Scope)),
         GlobalOwner => Some(names::variable(plan, random, names::Fault::GlobalOwner)),
+        ReplyBeforeFunction => replies::before_function(plan, random),
         WireAcrossFlows => sight::wire_across_flows(plan, random),
         HandlerUnseenNodeVariable(byte) => sight::handler_unseen(plan, random, byte, 0),
         HandlerUnseenFlowVariable(byte) => sight::handler_unseen(plan, random, byte, 1),
@@ -62,6 +71,7 @@ pub fn damage(reason: Reason, plan: &mut Plan, random: &mut Random) -> Option<Da
         PermissionNotShared(byte) => sight::permission_not_shared(plan, random, byte),
         PermissionUnseenNotShared(byte) => sight::permission_unseen(plan, random, byte, 0),
         Repeated(byte) => repeats::repeated(plan, random, byte),
+        ReplyWithOtherAnswer => replies::other_answer(plan, random),
         SecondBody => repeats::repeated(plan, random, table::BODY),
         SecondStartSameNode => repeats::second_start(plan, random, true),
         SecondStartOtherNode => repeats::second_start(plan, random, false),
@@ -70,6 +80,7 @@ pub fn damage(reason: Reason, plan: &mut Plan, random: &mut Random) -> Option<Da
         TwoBadJumps => jumps::two_bad_jumps(plan, random),
         BadJumpBeforeOtherRefusal => jumps::before_other_refusal(plan, random),
         LowAboveHigh { alone } => spans::low_above_high(plan, random, alone),
+        _ => unreachable!("{reason:?} comes before these"),
     }
 }
 

@@ -67,16 +67,20 @@ pub fn over_count_undeclared(plan: &mut Plan, random: &mut Random, count: Count)
         }
         Count::Args => table::write(ARG, &[node, 0, random.value()]),
         Count::Turns => table::write(TURN, &[node]),
+        Count::Replies => {
+            table::write(REPLY, &[beyond(random, plan.functions), random.value(), random.value()])
+        }
         _ => return None,
     };
     let place = insert(plan, spot.group, spot.index, command);
     Some(Damaged::new(plan, 5, place))
 }
 
-/// The 257th ARG or SPAN is a repeated one.
-pub fn over_count_repeated(plan: &mut Plan, random: &mut Random) -> Option<Damaged> {
-    let spot = fill(plan, random, Count::Args)?;
-    let command = plan.groups[spot.group][random.pick(&plan.arguments())].clone();
+/// The 257th ARG or SPAN or the 129th REPLY is a repeated one.
+pub fn over_count_repeated(plan: &mut Plan, random: &mut Random, count: Count) -> Option<Damaged> {
+    let spot = fill(plan, random, count)?;
+    let indices = if count == Count::Replies { plan.indices(REPLY) } else { plan.arguments() };
+    let command = plan.groups[spot.group][random.pick(&indices)].clone();
     let place = insert(plan, spot.group, spot.index, command);
     Some(Damaged::new(plan, 5, place))
 }
