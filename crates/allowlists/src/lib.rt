@@ -7,6 +7,7 @@ use command::numbers::VarNum;
 use declared::last_range;
 use items::Question;
 use items::find;
+use items::is_found;
 use tables::cells;
 use tables::cells::marked;
 
@@ -35,12 +36,11 @@ pub fn may_call_any(tables: &[u32], n: NodeNum, f: FunNum) -> bool
 pub fn is_listed(tables: &[u32], byte: u8, n: NodeNum, f: FunNum, low: u32, high: u32) -> bool
     ensures { λ r. ⌜ r ≡ listedIn (now (tables .entry)) byte (n .0) (f .0) low high ⌝ }
 {
-    let at = find(
+    is_found(find(
         tables,
         last_range(tables, n, f) as usize,
         Question::Is(byte as u32, low, high),
-    );
-    at != 0
+    ))
 }
 
 // Whether a node may call a function with this argument.
@@ -51,6 +51,5 @@ pub fn may_call(tables: &[u32], n: NodeNum, f: FunNum, argument: u32) -> bool
         return true;
     }
     let last = last_range(tables, n, f) as usize;
-    let at = find(tables, last, Question::Holds(argument));
-    at != 0
+    is_found(find(tables, last, Question::Holds(argument)))
 }

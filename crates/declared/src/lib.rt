@@ -2,17 +2,18 @@
 // node or a function are, each under its own kind of number.
 ghost use mathlib.Core.Path.{_≡_};
 ghost use Rattle.model.specs.Declared.{isThere, isSeen};
-ghost use Rattle.tables.specs.Items.{firstItem, isTo};
 ghost use Rattle.tables.specs.Tables.{countIn, groupIn, openIn, flowIn, startIn, sharedIn, seesIn, lengthIn, bodyIn, startedAt};
-ghost use Rattle.tables.specs.Tables.{firstsIn, wiredIn, rangeHeadIn, replyHeadIn, repliesIn, replyIn, answerIn};
-ghost use Rattle.items.specs.Asking.{foundIn};
+ghost use Rattle.tables.specs.Tables.{firstsIn, wiredIn, lastRangeIn, lastReplyIn, replyIn, answerIn};
+ghost use Rattle.items.specs.Asking.{foundBy};
 ghost use Rattle.declared.specs.Asked.{messagesOf};
 use command::numbers::FlowNum;
 use command::numbers::FunNum;
 use command::numbers::NodeNum;
 use command::numbers::VarNum;
+use items::Found;
 use items::Question;
 use items::find;
+use items::is_found;
 use tables::cells;
 use tables::cells::entry;
 use tables::cells::flagged;
@@ -56,18 +57,18 @@ pub fn start_of(tables: &[u32], x: VarNum) -> u32
 
 // The last reply of a function: its number among the items plus 1, or 0 if there is none.
 pub fn last_reply(tables: &[u32], f: FunNum) -> u32
-    ensures { λ r. ⌜ r ≡ replyHeadIn (now (tables .entry)) (f .0) ⌝ }
+    ensures { λ r. ⌜ r ≡ lastReplyIn (now (tables .entry)) (f .0) ⌝ }
 {
-    entry(tables, cells::REPLY_HEAD, f.0 as usize)
+    entry(tables, cells::LAST_REPLY, f.0 as usize)
 }
 
-// The reply of a function to an argument: its number among the items plus 1, or 0. A function without replies costs no search.
-fn reply_to(tables: &[u32], f: FunNum, argument: u32) -> usize
-    ensures { λ r. ⌜ foundIn (now (tables .entry)) r ≡ firstItem (isTo argument) (repliesIn (now (tables .entry)) (f .0)) ⌝ }
+// The reply of a function to an argument, if there is one. A function without replies costs no search.
+fn reply_to(tables: &[u32], f: FunNum, argument: u32) -> Found
+    ensures { λ r. ⌜ foundBy r ≡ replyIn (now (tables .entry)) (f .0) argument ⌝ }
 {
     let last = last_reply(tables, f) as usize;
     if last == 0 {
-        return 0;
+        return Found::Nothing;
     }
     find(tables, last, Question::To(argument))
 }
@@ -76,19 +77,17 @@ fn reply_to(tables: &[u32], f: FunNum, argument: u32) -> usize
 pub fn has_reply(tables: &[u32], f: FunNum, argument: u32) -> bool
     ensures { λ r. ⌜ r ≡ isThere (replyIn (now (tables .entry)) (f .0) argument) ⌝ }
 {
-    let at = reply_to(tables, f, argument);
-    at != 0
+    is_found(reply_to(tables, f, argument))
 }
 
 // The answer of a function to an argument: that of its reply, and without one FUN's.
 pub fn answer_of(tables: &[u32], f: FunNum, argument: u32) -> u32
     ensures { λ r. ⌜ r ≡ answerIn (now (tables .entry)) (f .0) argument ⌝ }
 {
-    let at = reply_to(tables, f, argument);
-    if at == 0 {
-        return entry(tables, cells::ANSWER, f.0 as usize);
+    match reply_to(tables, f, argument) {
+        Found::Second(answer) => answer,
+        Found::Nothing => entry(tables, cells::ANSWER, f.0 as usize),
     }
-    entry(tables, cells::ITEM_SECOND, at - 1)
 }
 
 // Whether a variable is shared.
@@ -170,12 +169,12 @@ pub fn is_wired(tables: &[u32], n: NodeNum, port: u32, target: NodeNum) -> bool
 
 // The last range of a node and a function: its number among the items plus 1, or 0 if there is none.
 pub fn last_range(tables: &[u32], n: NodeNum, f: FunNum) -> u32
-    ensures { λ r. ⌜ r ≡ rangeHeadIn (now (tables .entry)) (n .0) (f .0) ⌝ }
+    ensures { λ r. ⌜ r ≡ lastRangeIn (now (tables .entry)) (n .0) (f .0) ⌝ }
 {
     if f.0 < 32 {
         return half(
             tables,
-            cells::RANGE_HEAD,
+            cells::LAST_RANGE,
             (n.0 as usize) * 32 + (f.0 as usize),
         );
     }

@@ -2,9 +2,10 @@
 ghost use mathlib.Core.Path.{_≡_};
 ghost use mathlib.Core.Bool.{cond};
 ghost use lib.Dec.{ltb};
-ghost use Rattle.tables.specs.Items.{item, firstItem};
+ghost use Rattle.model.specs.Declared.{isThere};
+ghost use Rattle.tables.specs.Items.{item, foundItem, secondOf};
 ghost use Rattle.tables.specs.Tables.{itemCountIn, chainIn};
-ghost use Rattle.items.specs.Asking.{asked, foundIn};
+ghost use Rattle.items.specs.Asking.{asked, foundBy};
 use tables::cells;
 use tables::cells::entry;
 
@@ -23,8 +24,8 @@ pub enum Question {
     To(u32),
 }
 
-// Whether the answer for an item is yes.
-fn answers(q: Question, byte: u32, first: u32, second: u32) -> bool
+// Whether an item fits a question.
+fn fits(q: Question, byte: u32, first: u32, second: u32) -> bool
     ensures { λ r. ⌜ r ≡ asked q (item byte first second) ⌝ }
 {
     match q {
@@ -44,9 +45,25 @@ fn go_back(at: usize, before: usize) -> usize
     0
 }
 
-// The first item for which the answer is yes, from the last one of a chain back: its number plus 1, or 0. No others are looked at.
-pub fn find(tables: &[u32], last: usize, q: Question) -> usize
-    ensures { λ r. ⌜ foundIn (now (tables .entry)) r ≡ firstItem (asked q) (chainIn (now (tables .entry)) last last) ⌝ }
+// What a search finds: an item, of which its second number is told, or nothing.
+pub enum Found {
+    Second(u32),
+    Nothing,
+}
+
+// Whether an item was found.
+pub fn is_found(found: Found) -> bool
+    ensures { λ r. ⌜ r ≡ isThere (foundBy found) ⌝ }
+{
+    match found {
+        Found::Second(_) => true,
+        Found::Nothing => false,
+    }
+}
+
+// The first item that fits a question, from the last one of a chain back, which is given by its number plus 1, or 0 if there is none.
+pub fn find(tables: &[u32], last: usize, q: Question) -> Found
+    ensures { λ r. ⌜ foundBy r ≡ secondOf (foundItem (asked q) (chainIn (now (tables .entry)) last last)) ⌝ }
 {
     let mut at = last;
     while 0 < at {
@@ -54,10 +71,10 @@ pub fn find(tables: &[u32], last: usize, q: Question) -> usize
         let link = entry(tables, cells::ITEM_LINK, i);
         let first = entry(tables, cells::ITEM_FIRST, i);
         let second = entry(tables, cells::ITEM_SECOND, i);
-        if answers(q, link / 65536, first, second) {
-            return at;
+        if fits(q, link / 65536, first, second) {
+            return Found::Second(second);
         }
         at = go_back(at, (link % 65536) as usize);
     }
-    0
+    Found::Nothing
 }

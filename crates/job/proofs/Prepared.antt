@@ -52,7 +52,7 @@ module _ (job t w : List ℕ) (past : List Command) (s : Stands t past) (size : 
         scope = s .scope;
         owner = s .owner;
         startValue = s .startValue;
-        answer = λ f argument. rw (s .replies f argument, s .answer f);
+        answer = λ f argument. rw (s .replies f argument, s .funAnswer f);
         wired = s .wires;
         mayCall = λ n f argument. rw (s .anys n f, s .calls n f argument);
         mayRead = s .reads;

@@ -47,7 +47,7 @@ module _ (past : List Command) (c : Command) (l : Limit) (e : largestOf (c .byte
   limited =
       record {
         below = λ h. exceeded ∙ lt-leb (l .most) (countAmong (l .bytes) past) h;
-        reached = λ h g. rw (g, exceeded, le-leb (l .most) (countAmong (l .bytes) past) (omega arith));
+        reached = λ h g. rw (g, exceeded, le-leb (l .most) (countAmong (l .bytes) past) h);
       }
 
 pub largest-counts : LargestCountsHold

@@ -9,6 +9,7 @@ use borrow.Author.Tests.{eqb-true, eq-eqb}
 use Rattle.model.specs.Table.{REPLY, operandsIn, operandsOf}
 use Rattle.model.specs.Command.{Command, ternary, is}
 use Rattle.model.specs.Declared.{isSame, occurs, isReply, replyOf, isThere}
+use Rattle.model.specs.Program.{programOf}
 use Rattle.model.specs.Refusal.{repeated}
 use Rattle.model.specs.Replies.{RecordedHolds}
 use Rattle.model.specs.Valid.{Valid, Plain}
@@ -90,6 +91,7 @@ module _ (f v : ℕ) where
       by-same false p q ih = by-reply (isReply f v c) refl (ih q)
 
 pub recorded : RecordedHolds
+unfolding programOf
 recorded job place past reads f argument =
     record {
       given = λ answer there. rw (some-recorded f argument answer past (reads-valid reads) there);

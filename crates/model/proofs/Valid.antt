@@ -9,8 +9,7 @@ use lib.Dec.{leb, eqb}
 use borrow.Author.Tests.{leb-false, ltb-false, eqb-true}
 use Rattle.model.specs.Table.{FLOW, NODE, VAR, FUN, REPLY, ARG, SPAN, TURN, OperandKind, scope, owner, start, answer, node, port}
 use Rattle.model.specs.Table.{target, function, argument, value, low, high, variable, jump, absent, limit, isAmong, largestIn}
-use Rattle.model.specs.Table.{largestOf, maxFlows}
-use Rattle.model.specs.Table.{maxNodes, maxVariables, maxFunctions, maxReplies, maxRanges, maxTurns}
+use Rattle.model.specs.Table.{largestOf, maxFlows, maxNodes, maxVariables, maxFunctions, maxReplies, maxRanges, maxTurns}
 use Rattle.model.specs.Command.{Command, is}
 use Rattle.model.specs.Declared.{countOf, countAmong, isHandler, openBody, belongs, bodyLength}
 use Rattle.model.specs.Refusal.{groupFalls, isReached, exceedsCount, countsOf, noOwner, namesNothing, undeclared, outOfReach}

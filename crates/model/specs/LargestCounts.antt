@@ -1,5 +1,6 @@
--- Test 5 ("Largest counts"; S-1, S-5): what its sentences say of every job, where a row of `Readings` would show one case.
-use Prim.Native.Nat.{_<_}
+-- Test 5 ("Largest counts"; S-1, S-5): what the largest counts over the whole job say of every job, where a row of `Readings` would show
+-- one case. The commands of a body have a count of their own.
+use Prim.Native.Nat.{_≤_, _<_}
 use mathlib.Core.Path.{_≡_}
 use mathlib.Core.Bool.{true, false}
 use mathlib.Core.List.{List, [], _∷_}
@@ -9,11 +10,11 @@ use Rattle.model.specs.Command.{Command}
 use Rattle.model.specs.Declared.{countAmong}
 use Rattle.model.specs.Refusal.{groupFalls, exceedsCount, violation}
 
--- a command that counts to this largest count: while fewer came before, it does not exceed it; after as many, it is refused by 5 if it
--- passes test 4, whatever else is wrong with it
+-- a command that counts to this largest count: while fewer came before, it does not exceed it; after as many, or more, it is refused by 5,
+-- if it passes test 4, whatever else is wrong with it
 pub record Limited (l : Limit) (past : List Command) (c : Command) : Type 0 where
   pub below : countAmong (l .bytes) past < l .most → exceedsCount past c ≡ false
-  pub reached : countAmong (l .bytes) past ≡ l .most → groupFalls past c ≡ false → violation past c ≡ 5
+  pub reached : l .most ≤ countAmong (l .bytes) past → groupFalls past c ≡ false → violation past c ≡ 5
 
 -- the claim: every largest count over the whole job, after any commands
 abbrev pub LargestCountsHold : Type 0

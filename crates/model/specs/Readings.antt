@@ -178,11 +178,11 @@ turnRows =
     (nodePart 17 3 3 0 ++ nodePart 255 0 0 16 ++ times 16 (four 0)))
     ∷ []
 
--- one node that calls a function with its first message, given what is declared and permitted besides the node and function 0, which has
--- FUN's answer 9, and the 4 bytes of that message
+-- one node that calls function f with its first message, given by its 4 bytes; function 0 has FUN's answer 9; the list is what is declared
+-- and permitted besides
 unfoldable pub callingOf : ℕ → List ℕ → List ℕ → List ℕ
-callingOf f declarations message =
-    nodes 1 ++ 0x11 ∷ four 9 ++ declarations ++ 0x40 ∷ 0x00 ∷ 0x42 ∷ 0x4A ∷ f ∷ 0x50 ∷ 0x00 ∷ message ++ turns 3 0
+callingOf f others message =
+    nodes 1 ++ 0x11 ∷ four 9 ++ others ++ 0x40 ∷ 0x00 ∷ 0x42 ∷ 0x4A ∷ f ∷ 0x50 ∷ 0x00 ∷ message ++ turns 3 0
 
 -- likewise, of function 0
 unfoldable pub calling : List ℕ → List ℕ → List ℕ
@@ -251,7 +251,7 @@ spanRows =
     ∷ monitoredRow (nodes 1 ++ 0x11 ∷ four 9 ++ span 11 10 ++ (0x40 ∷ 0x00 ∷ 0x48 ∷ 0x05 ∷ [])) (refused (refuse 15 7))
     ∷ []
 
--- a REPLY of a function to an argument, with its answer
+-- a REPLY of a function to an argument, with its answer, all below 256
 unfoldable pub reply : ℕ → ℕ → ℕ → List ℕ
 reply f v answer = 0x12 ∷ f ∷ four v ++ four answer
 
@@ -277,10 +277,10 @@ replyRows =
     ∷ monitoredRow
     (nodes 1 ++ 0x11 ∷ four 9 ++ replies ++ 0x40 ∷ 0x00 ∷ 0x42 ∷ 0x4A ∷ 0x00 ∷ 0x4A ∷ 0x00 ∷ 0x50 ∷ 0x00 ∷ four 5 ++ turns 4 0)
     (ends 0 4 noEntry (traced 0 1 0 5 ++ traced 0 0 0 0 ++ traced 0 5 0 5 ++ traced 0 5 0 7) (nodePart 3 6 5 0))
-    -- accepted: a reply with FUN's answer, and replies before a variable and before another function
+    -- accepted: a reply with FUN's answer, and one before a variable and another function
     ∷ monitoredRow (calling (reply 0 5 9 ++ any 0) (four 5)) (called 5)
     ∷ monitoredRow (nodes 1 ++ 0x11 ∷ four 9 ++ reply 0 5 7 ++ global 3 ++ 0x11 ∷ four 8) (ends 0 0 noEntry [] (idleNode ++ four 3))
-    -- the same argument and answer of two functions, each with its own; and of another function alone
+    -- the same argument of two functions, each with its own answer; and a reply of another function alone
     ∷ monitoredRow (calling (0x11 ∷ four 8 ++ reply 0 5 7 ++ reply 1 5 6 ++ any 0) (four 5)) (answered 0 5 7)
     ∷ monitoredRow (callingOf 1 (0x11 ∷ four 8 ++ reply 0 5 7 ++ reply 1 5 6 ++ any 1) (four 5)) (answered 1 5 6)
     ∷ monitoredRow (calling (0x11 ∷ four 8 ++ reply 1 5 6 ++ any 0) (four 5)) (called 5)

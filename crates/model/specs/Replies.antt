@@ -5,14 +5,16 @@ use mathlib.Core.Bool.{true, false}
 use mathlib.Core.List.{List}
 use Rattle.model.specs.Table.{REPLY}
 use Rattle.model.specs.Command.{Command, ternary}
-use Rattle.model.specs.Declared.{occurs, funAnswerOf, answerOf}
+use Rattle.model.specs.Declared.{occurs, funAnswerOf}
+use Rattle.model.specs.Program.{programOf}
 use Rattle.model.specs.Conclusion.{Reads}
 
--- the answer of a function to an argument: if some REPLY has both, its answer, wherever it stands among the commands; else FUN's
+-- the answer of a call, as the turn asks for it: if some REPLY has its function and argument, the answer there, wherever it stands among
+-- the commands; else FUN's
 pub record Recorded (past : List Command) (f argument : ℕ) : Type 0 where
-  pub given : (answer : ℕ) → occurs REPLY (ternary f argument answer) past ≡ true → answerOf past f argument ≡ answer
+  pub given : (answer : ℕ) → occurs REPLY (ternary f argument answer) past ≡ true → programOf past .answer f argument ≡ answer
   pub otherwise :
-      ((answer : ℕ) → occurs REPLY (ternary f argument answer) past ≡ false) → answerOf past f argument ≡ funAnswerOf past f
+      ((answer : ℕ) → occurs REPLY (ternary f argument answer) past ≡ false) → programOf past .answer f argument ≡ funAnswerOf past f
 
 -- the claim: the commands of every job, as far as they are accepted
 abbrev pub RecordedHolds : Type 0

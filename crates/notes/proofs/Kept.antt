@@ -14,9 +14,9 @@ use Rattle.model.specs.Declared.{isThere}
 use Rattle.model.proofs.Logic.{not-both, or-first, or-second, and-left, and-right}
 use Rattle.tables.specs.Bits.{halfOf, withHalf}
 use Rattle.tables.specs.Cells.{entryIn, halfIn, halvesWith}
-use Rattle.tables.specs.Items.{Item, isRange, rangeOf, exchangeOf, isItem, itemOf, firstItem}
-use Rattle.tables.specs.Tables.{itemFirstCells, itemSecondCells, linkCells, rangeHeadCells, itemCountIn, link, itemIn, beforeIn, headPlace}
-use Rattle.tables.specs.Tables.{rangeHeadIn, replyHeadIn, chainIn, rangesIn, repliesIn}
+use Rattle.tables.specs.Items.{Item, isRange, rangeOf, replyItemOf, isItem, itemOf, foundItem}
+use Rattle.tables.specs.Tables.{itemFirstCells, itemSecondCells, linkCells, lastRangeCells, itemCountIn, link, itemIn, beforeIn, rangePlace}
+use Rattle.tables.specs.Tables.{lastRangeIn, lastReplyIn, chainIn, rangesIn, repliesIn}
 use Rattle.tables.specs.Writes.{beforeOf}
 use Rattle.tables.proofs.Chains.{chain-below, chain-first, chain-kept}
 use Rattle.notes.proofs.Cases.{column, same-place}
@@ -60,16 +60,16 @@ pub record ItemWritten (t u : List ℕ) (c : Command) : Type 0 where
       (entryIn t itemSecondCells i)
   pub linked : (i : ℕ) → entryIn u linkCells i ≡ cond (isItem c && (eqb (itemCountIn t) i && ltb i 384))
       (link (itemOf c .byte) (beforeOf t c)) (entryIn t linkCells i)
-  pub head : (i : ℕ) → entryIn u rangeHeadCells i ≡ cond
-      (isRange c && (eqb (headPlace (c .operands .first) (c .operands .second) / 2) i && ltb i 512))
-      (halvesWith t rangeHeadCells (headPlace (c .operands .first) (c .operands .second)) (itemCountIn t + 1)) (entryIn t rangeHeadCells i)
-  pub replyHead : (f : ℕ) → replyHeadIn u f ≡ cond (is REPLY c && (eqb (c .operands .first) f && ltb f 32)) (itemCountIn t + 1)
-      (replyHeadIn t f)
+  pub lastRange : (i : ℕ) → entryIn u lastRangeCells i ≡ cond
+      (isRange c && (eqb (rangePlace (c .operands .first) (c .operands .second) / 2) i && ltb i 512))
+      (halvesWith t lastRangeCells (rangePlace (c .operands .first) (c .operands .second)) (itemCountIn t + 1)) (entryIn t lastRangeCells i)
+  pub lastReply : (f : ℕ) → lastReplyIn u f ≡ cond (is REPLY c && (eqb (c .operands .first) f && ltb f 32)) (itemCountIn t + 1)
+      (lastReplyIn t f)
   pub room : isItem c ≡ true → itemCountIn t < 384
   pub inside : isRange c ≡ true → (c .operands .first < 32) × (c .operands .second < 32)
   pub function : is REPLY c ≡ true → c .operands .first < 32
-  pub heads : (n f : ℕ) → rangeHeadIn t n f ≤ itemCountIn t
-  pub replyHeads : (f : ℕ) → replyHeadIn t f ≤ itemCountIn t
+  pub lastRanges : (n f : ℕ) → lastRangeIn t n f ≤ itemCountIn t
+  pub lastReplies : (f : ℕ) → lastReplyIn t f ≤ itemCountIn t
 
 -- the command is a reply of the function
 abbrev pub repliesFor : Command → ℕ → Bool
@@ -85,9 +85,9 @@ reply-apart c e = by-byte (is REPLY c) refl
 
 module _ (t u : List ℕ) (c : Command) (w : ItemWritten t u c) where
   -- the last range of a node and a function
-  pub head-next : (n f : ℕ) → rangeHeadIn u n f ≡ cond (isOf c n f) (itemCountIn t + 1) (rangeHeadIn t n f)
+  pub last-range-next : (n f : ℕ) → lastRangeIn u n f ≡ cond (isOf c n f) (itemCountIn t + 1) (lastRangeIn t n f)
   unfolding halfIn
-  head-next n f = by-function (ltb f 32) refl
+  last-range-next n f = by-function (ltb f 32) refl
     where
       beside : 32 ≤ f → (b : Bool) → isRange c ≡ b
           → 0 ≡ cond (b && (eqb (c .operands .first) n && eqb (c .operands .second) f)) (itemCountIn t + 1) 0
@@ -97,32 +97,34 @@ module _ (t u : List ℕ) (c : Command) (w : ItemWritten t u c) where
           rw (ne-eqb (c .operands .second) f (λ z. omega (arith, i .1)), and-false (eqb (c .operands .first) n))
 
       within : f < 32 → (b : Bool) → isRange c ≡ b
-          → cond (b && eqb (headPlace (c .operands .first) (c .operands .second)) (headPlace n f)) (itemCountIn t + 1)
-          (halfOf (entryIn t rangeHeadCells (headPlace n f / 2)) (headPlace n f))
+          → cond (b && eqb (rangePlace (c .operands .first) (c .operands .second)) (rangePlace n f)) (itemCountIn t + 1)
+          (halfOf (entryIn t lastRangeCells (rangePlace n f / 2)) (rangePlace n f))
           ≡ cond (b && (eqb (c .operands .first) n && eqb (c .operands .second) f)) (itemCountIn t + 1)
-          (halfOf (entryIn t rangeHeadCells (headPlace n f / 2)) (headPlace n f))
+          (halfOf (entryIn t lastRangeCells (rangePlace n f / 2)) (rangePlace n f))
       within l false e = refl
       within l true e =
           let i = w .inside e in
-          rw (same-place (headPlace (c .operands .first) (c .operands .second)) (headPlace n f) (c .operands .first) (c .operands .second) n f
+          rw (same-place (rangePlace (c .operands .first) (c .operands .second)) (rangePlace n f) (c .operands .first)
+          (c .operands .second) n f
           (λ z. (omega (arith, i .1), omega (arith, i .1))) (λ p q. omega arith))
 
       by-function : (b : Bool) → ltb f 32 ≡ b
-          → cond b (halfOf (entryIn u rangeHeadCells (headPlace n f / 2)) (headPlace n f)) 0
-          ≡ cond (isOf c n f) (itemCountIn t + 1) (cond b (halfOf (entryIn t rangeHeadCells (headPlace n f / 2)) (headPlace n f)) 0)
+          → cond b (halfOf (entryIn u lastRangeCells (rangePlace n f / 2)) (rangePlace n f)) 0
+          ≡ cond (isOf c n f) (itemCountIn t + 1) (cond b (halfOf (entryIn t lastRangeCells (rangePlace n f / 2)) (rangePlace n f)) 0)
       by-function true e =
-          rw (w .head (headPlace n f / 2))
-          (halving (entryIn t rangeHeadCells) (headPlace (c .operands .first) (c .operands .second)) (headPlace n f) 512 (itemCountIn t + 1)
+          rw (w .lastRange (rangePlace n f / 2))
+          (halving (entryIn t lastRangeCells) (rangePlace (c .operands .first) (c .operands .second)) (rangePlace n f) 512
+          (itemCountIn t + 1)
           (isRange c) (λ p. let i = w .inside p in omega (arith, i .0, i .1))
           (λ p. omega (arith, w .room (or-second (is REPLY c) (isRange c) p)))
           ∙ within (ltb-true f 32 e) (isRange c) refl)
       by-function false e = beside (ltb-false f 32 e) (isRange c) refl
 
   -- the last reply of a function
-  pub reply-head-next : (f : ℕ) → replyHeadIn u f ≡ cond (repliesFor c f) (itemCountIn t + 1) (replyHeadIn t f)
-  reply-head-next f =
-      w .replyHead f
-      ∙ column (is REPLY c) (c .operands .first) f 32 (itemCountIn t + 1) (replyHeadIn t f) (itemCountIn t + 1) (replyHeadIn t f)
+  pub last-reply-next : (f : ℕ) → lastReplyIn u f ≡ cond (repliesFor c f) (itemCountIn t + 1) (lastReplyIn t f)
+  last-reply-next f =
+      w .lastReply f
+      ∙ column (is REPLY c) (c .operands .first) f 32 (itemCountIn t + 1) (lastReplyIn t f) (itemCountIn t + 1) (lastReplyIn t f)
       (w .function) (λ p q. refl) refl
 
   -- the items so far keep their cells
@@ -159,9 +161,9 @@ module _ (t u : List ℕ) (c : Command) (w : ItemWritten t u c) where
       rw (chain-first u (itemCountIn t + 1) (omega arith), last, added .0, added .1, is .1, is .2, rest)
 
   pub ranges-next : (n f : ℕ) → rangesIn u n f ≡ cond (isOf c n f) (rangeOf c ∷ rangesIn t n f) (rangesIn t n f)
-  ranges-next n f = rw (head-next n f) (chain-next (isOf c n f) (rangeOf c) (rangeHeadIn t n f) (w .heads n f) here)
+  ranges-next n f = rw (last-range-next n f) (chain-next (isOf c n f) (rangeOf c) (lastRangeIn t n f) (w .lastRanges n f) here)
     where
-      here : isOf c n f ≡ true → (isItem c ≡ true) × (beforeOf t c ≡ rangeHeadIn t n f) × (itemOf c ≡ rangeOf c)
+      here : isOf c n f ≡ true → (isItem c ≡ true) × (beforeOf t c ≡ lastRangeIn t n f) × (itemOf c ≡ rangeOf c)
       here e =
           let ranged = and-left (isRange c) _ e in
           let named = and-right (isRange c) _ e in
@@ -169,27 +171,27 @@ module _ (t u : List ℕ) (c : Command) (w : ItemWritten t u c) where
           let second : c .operands .second ≡ f = eqb-true (c .operands .second) f (and-right (eqb (c .operands .first) n) _ named) in
           (or-second (is REPLY c) (isRange c) ranged, rw (reply-apart c ranged, first, second), rw (reply-apart c ranged))
 
-  pub replies-next : (f : ℕ) → repliesIn u f ≡ cond (repliesFor c f) (exchangeOf c ∷ repliesIn t f) (repliesIn t f)
-  replies-next f = rw (reply-head-next f) (chain-next (repliesFor c f) (exchangeOf c) (replyHeadIn t f) (w .replyHeads f) here)
+  pub replies-next : (f : ℕ) → repliesIn u f ≡ cond (repliesFor c f) (replyItemOf c ∷ repliesIn t f) (repliesIn t f)
+  replies-next f = rw (last-reply-next f) (chain-next (repliesFor c f) (replyItemOf c) (lastReplyIn t f) (w .lastReplies f) here)
     where
-      here : repliesFor c f ≡ true → (isItem c ≡ true) × (beforeOf t c ≡ replyHeadIn t f) × (itemOf c ≡ exchangeOf c)
+      here : repliesFor c f ≡ true → (isItem c ≡ true) × (beforeOf t c ≡ lastReplyIn t f) × (itemOf c ≡ replyItemOf c)
       here e =
           let replying = and-left (is REPLY c) _ e in
           let first : c .operands .first ≡ f = eqb-true (c .operands .first) f (and-right (is REPLY c) _ e) in
           (or-first (is REPLY c) (isRange c) replying, rw (replying, first), rw replying)
 
 -- the first item that passes a test, with one more
-pub first-next : (test : Item → Bool) (here : Bool) (x : Item) (items : List Item)
-    → firstItem test (cond here (x ∷ items) items) ≡ cond (here && test x) (some x) (firstItem test items)
-unfolding firstItem
-first-next test true x items = refl
-first-next test false x items = refl
+pub found-next : (test : Item → Bool) (here : Bool) (x : Item) (items : List Item)
+    → foundItem test (cond here (x ∷ items) items) ≡ cond (here && test x) (some x) (foundItem test items)
+unfolding foundItem
+found-next test true x items = refl
+found-next test false x items = refl
 
 -- whether there is one
 pub some-next : (test : Item → Bool) (here : Bool) (x : Item) (items : List Item)
-    → isThere (firstItem test (cond here (x ∷ items) items)) ≡ ((here && test x) || isThere (firstItem test items))
-some-next test here x items = rw (first-next test here x items) (by-test (here && test x))
+    → isThere (foundItem test (cond here (x ∷ items) items)) ≡ ((here && test x) || isThere (foundItem test items))
+some-next test here x items = rw (found-next test here x items) (by-test (here && test x))
   where
-    by-test : (b : Bool) → isThere (cond b (some x) (firstItem test items)) ≡ (b || isThere (firstItem test items))
+    by-test : (b : Bool) → isThere (cond b (some x) (foundItem test items)) ≡ (b || isThere (foundItem test items))
     by-test true = refl
     by-test false = refl

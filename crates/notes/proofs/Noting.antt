@@ -11,8 +11,8 @@ use lib.ListN.{length, length-append}
 use borrow.Author.Tests.{ltb-false, lt-ltb, le-ltb, eqb-true}
 use Rattle.model.specs.Table.{FLOW, NODE, VAR, FUN, REPLY, WIRE, ANY, ARG, READ, WRITE, SPAN, BODY, START, operandsIn, operandsOf, groupOf}
 use Rattle.model.specs.Command.{Command, is, quaternary, ternary, binary}
-use Rattle.model.specs.Declared.{isReply, replyOf, isThere}
-use Rattle.model.specs.Declared.{only, countOf, occurs, inSpan, declared, flowOf, isHandler, openBody, bodyLength, startsOf, startedIn}
+use Rattle.model.specs.Declared.{isReply, replyOf, isThere, only, countOf, occurs, inSpan, declared, flowOf, isHandler, openBody}
+use Rattle.model.specs.Declared.{bodyLength, startsOf, startedIn}
 use Rattle.model.specs.Refusal.{groupFalls}
 use Rattle.model.specs.Valid.{Valid, Named}
 use Rattle.model.proofs.Growth.{count-same, count-grows, count-below, occurs-next, open-next, body-next, starts-next}
@@ -26,18 +26,19 @@ use Rattle.tables.specs.declared.cells.Section.{Section}
 use Rattle.tables.specs.Bits.{bitOf}
 use Rattle.tables.specs.Cells.{cellCount, entryIn, putIn, flagIn, isMarkPlace, markCell, marksWith, markIn, halvesWith}
 use Rattle.tables.specs.Tables.{countCells, progressCells, flowCells, scopeCells, ownerCells, startCells, answerCells, lengthCells}
-use Rattle.tables.specs.Tables.{bodyCells, startedCells, firstCells, messageCells, linkCells, rangeHeadCells, replyHeadCells}
+use Rattle.tables.specs.Tables.{bodyCells, startedCells, firstCells, messageCells, linkCells, lastRangeCells, lastReplyCells}
 use Rattle.tables.specs.Tables.{readCells, writeCells, anyCells, wireCells, countIn, groupIn, openIn, flowIn, lengthIn, wiredIn}
-use Rattle.tables.specs.Tables.{itemFirstCells, itemSecondCells, itemCountIn, headPlace, rangeHeadIn, rangesIn, listedIn, inRangeIn}
-use Rattle.tables.specs.Tables.{replyHeadIn, repliesIn, replyIn}
-use Rattle.tables.specs.Items.{Item, item, isRange, rangeOf, exchangeOf, isItem, firstItem, holds, isThis, isTo, answerFound}
+use Rattle.tables.specs.Tables.{itemFirstCells, itemSecondCells, itemCountIn, rangePlace, lastRangeIn, rangesIn, listedIn, inRangeIn}
+use Rattle.tables.specs.Tables.{lastReplyIn, repliesIn, replyIn}
+use Rattle.tables.specs.Items.{Item, item, isRange, rangeOf, replyItemOf, isItem, foundItem, holds, isThis, isTo, secondOf}
 use Rattle.tables.specs.Stands.{Stands}
 use Rattle.notes.specs.Notes.{Notes}
 use Rattle.tables.specs.Writes.{oneMore, made, written, commandWrites, noteWrites, tablesOf}
 use Rattle.notes.proofs.Sections.{sorted, left, length-written, entry-written}
 use Rattle.command.proofs.Known.{byte-low}
 use Rattle.notes.proofs.Cases.{column, flag, marking, wire}
-use Rattle.notes.proofs.Kept.{ItemWritten, repliesFor, head-next, reply-head-next, ranges-next, replies-next, first-next, some-next}
+use Rattle.notes.proofs.Kept.{ItemWritten, repliesFor, last-range-next, last-reply-next, ranges-next, replies-next, found-next}
+use Rattle.notes.proofs.Kept.{some-next}
 use Rattle.notes.proofs.Same.{same-three, same-two, same-one, by-range, isOf, argument-same, span-same, call-same}
 
 -- one more, where that is counted
@@ -174,12 +175,12 @@ module _ (t : List ℕ) (past : List Command) (c : Command) (s : Stands t past) 
         ∙ declared-column (λ c before. c .operands .third) VAR (countIn t VAR) 64 (c .operands .third) (entryIn t startCells x) x
         (s .counts VAR (omega arith)) variable-room refl (s .startValue x)
 
-  answer-next : (f : ℕ) → entryIn after answerCells f ≡ declared (λ c before. c .operands .first) FUN (c ∷ past) f
-  answer-next f =
+  fun-answer-next : (f : ℕ) → entryIn after answerCells f ≡ declared (λ c before. c .operands .first) FUN (c ∷ past) f
+  fun-answer-next f =
       in-section answerCells (omega arith) refl f
       ∙ declared-column (λ c before. c .operands .first) FUN (countIn t FUN) 32 (c .operands .first) (entryIn t answerCells f) f
       (s .counts FUN (omega arith))
-      (λ e. omega (arith, room FUN 32 (limits (c ∷ past) v .functions) e)) refl (s .answer f)
+      (λ e. omega (arith, room FUN 32 (limits (c ∷ past) v .functions) e)) refl (s .funAnswer f)
 
   lengths-next : (n : ℕ) → lengthIn after n ≡ bodyLength (c ∷ past) n
   lengths-next n =
@@ -346,55 +347,55 @@ module _ (t : List ℕ) (past : List Command) (c : Command) (s : Stands t past) 
         first = in-section itemFirstCells (omega arith) refl;
         second = in-section itemSecondCells (omega arith) refl;
         linked = in-section linkCells (omega arith) refl;
-        head = λ i. in-section rangeHeadCells (omega arith) refl i ∙ headed i (isRange c) refl;
-        replyHead = λ f. in-section replyHeadCells (omega arith) refl f ∙ replied f (is REPLY c) refl;
+        lastRange = λ i. in-section lastRangeCells (omega arith) refl i ∙ last-range i (isRange c) refl;
+        lastReply = λ f. in-section lastReplyCells (omega arith) refl f ∙ last-reply f (is REPLY c) refl;
         room = item-room;
         inside = range-range;
         function = reply-range;
-        heads = s .heads;
-        replyHeads = s .replyHeads;
+        lastRanges = s .lastRanges;
+        lastReplies = s .lastReplies;
       }
     where
-      headed : (i : ℕ) (b : Bool) → isRange c ≡ b
-          → cond (b && (eqb (headPlace (c .operands .first) (c .operands .second) / 2) i && ltb i 512))
-          (halvesWith t rangeHeadCells (headPlace (c .operands .first) (c .operands .second)) (oneMore (itemCountIn t)))
-          (entryIn t rangeHeadCells i)
-          ≡ cond (b && (eqb (headPlace (c .operands .first) (c .operands .second) / 2) i && ltb i 512))
-          (halvesWith t rangeHeadCells (headPlace (c .operands .first) (c .operands .second)) (itemCountIn t + 1))
-          (entryIn t rangeHeadCells i)
-      headed i true e = rw (item-more (or-second (is REPLY c) (isRange c) e))
-      headed i false e = refl
+      last-range : (i : ℕ) (b : Bool) → isRange c ≡ b
+          → cond (b && (eqb (rangePlace (c .operands .first) (c .operands .second) / 2) i && ltb i 512))
+          (halvesWith t lastRangeCells (rangePlace (c .operands .first) (c .operands .second)) (oneMore (itemCountIn t)))
+          (entryIn t lastRangeCells i)
+          ≡ cond (b && (eqb (rangePlace (c .operands .first) (c .operands .second) / 2) i && ltb i 512))
+          (halvesWith t lastRangeCells (rangePlace (c .operands .first) (c .operands .second)) (itemCountIn t + 1))
+          (entryIn t lastRangeCells i)
+      last-range i true e = rw (item-more (or-second (is REPLY c) (isRange c) e))
+      last-range i false e = refl
 
-      replied : (f : ℕ) (b : Bool) → is REPLY c ≡ b
-          → cond (b && (eqb (c .operands .first) f && ltb f 32)) (oneMore (itemCountIn t)) (replyHeadIn t f)
-          ≡ cond (b && (eqb (c .operands .first) f && ltb f 32)) (itemCountIn t + 1) (replyHeadIn t f)
-      replied f true e = rw (item-more (or-first (is REPLY c) (isRange c) e))
-      replied f false e = refl
+      last-reply : (f : ℕ) (b : Bool) → is REPLY c ≡ b
+          → cond (b && (eqb (c .operands .first) f && ltb f 32)) (oneMore (itemCountIn t)) (lastReplyIn t f)
+          ≡ cond (b && (eqb (c .operands .first) f && ltb f 32)) (itemCountIn t + 1) (lastReplyIn t f)
+      last-reply f true e = rw (item-more (or-first (is REPLY c) (isRange c) e))
+      last-reply f false e = refl
 
   -- the last item of a chain is one of those counted
-  head-counted : (b here : Bool) (h : ℕ) → (here ≡ true → b ≡ true) → h ≤ itemCountIn t
+  last-counted : (b here : Bool) (h : ℕ) → (here ≡ true → b ≡ true) → h ≤ itemCountIn t
       → cond here (itemCountIn t + 1) h ≤ cond b (itemCountIn t + 1) (itemCountIn t)
-  head-counted true true h e l = omega arith
-  head-counted true false h e l = omega arith
-  head-counted false true h e l = true-false (sym (e refl))
-  head-counted false false h e l = l
+  last-counted true true h e l = omega arith
+  last-counted true false h e l = omega arith
+  last-counted false true h e l = true-false (sym (e refl))
+  last-counted false false h e l = l
 
-  heads-next : (n f : ℕ) → rangeHeadIn after n f ≤ itemCountIn after
-  heads-next n f =
-      rw (head-next t after c written-item n f, item-count-next, items-next)
-      (head-counted (isItem c) (isOf c n f) (rangeHeadIn t n f) (λ e. or-second (is REPLY c) (isRange c) (and-left (isRange c) _ e))
-      (s .heads n f))
+  last-ranges-next : (n f : ℕ) → lastRangeIn after n f ≤ itemCountIn after
+  last-ranges-next n f =
+      rw (last-range-next t after c written-item n f, item-count-next, items-next)
+      (last-counted (isItem c) (isOf c n f) (lastRangeIn t n f) (λ e. or-second (is REPLY c) (isRange c) (and-left (isRange c) _ e))
+      (s .lastRanges n f))
 
-  reply-heads-next : (f : ℕ) → replyHeadIn after f ≤ itemCountIn after
-  reply-heads-next f =
-      rw (reply-head-next t after c written-item f, item-count-next, items-next)
-      (head-counted (isItem c) (repliesFor c f) (replyHeadIn t f) (λ e. or-first (is REPLY c) (isRange c) (and-left (is REPLY c) _ e))
-      (s .replyHeads f))
+  last-replies-next : (f : ℕ) → lastReplyIn after f ≤ itemCountIn after
+  last-replies-next f =
+      rw (last-reply-next t after c written-item f, item-count-next, items-next)
+      (last-counted (isItem c) (repliesFor c f) (lastReplyIn t f) (λ e. or-first (is REPLY c) (isRange c) (and-left (is REPLY c) _ e))
+      (s .lastReplies f))
 
   -- a test of the ranges of a node and a function
   some-range : (test : Item → Bool) (n f : ℕ)
-      → isThere (firstItem test (rangesIn after n f))
-      ≡ ((isOf c n f && test (rangeOf c)) || isThere (firstItem test (rangesIn t n f)))
+      → isThere (foundItem test (rangesIn after n f))
+      ≡ ((isOf c n f && test (rangeOf c)) || isThere (foundItem test (rangesIn t n f)))
   some-range test n f = rw (ranges-next t after c written-item n f) (some-next test (isOf c n f) (rangeOf c) (rangesIn t n f))
 
   arguments-next : (n f w : ℕ) → listedIn after ARG n f w w ≡ occurs ARG (ternary n f w) (c ∷ past)
@@ -417,15 +418,15 @@ module _ (t : List ℕ) (past : List Command) (c : Command) (s : Stands t past) 
   replies-after f w =
       rw (
         replies-next t after c written-item f,
-        first-next (isTo w) (repliesFor c f) (exchangeOf c) (repliesIn t f),
+        found-next (isTo w) (repliesFor c f) (replyItemOf c) (repliesIn t f),
         reply-next c past f w,
         ← s .replies f w,
         and-assoc (is REPLY c) (eqb (c .operands .first) f) (eqb (c .operands .second) w),
       )
-      (found (isReply f w c) (firstItem (isTo w) (repliesIn t f)))
+      (found (isReply f w c) (foundItem (isTo w) (repliesIn t f)))
     where
       found : (b : Bool) (o : Option Item)
-          → answerFound (cond b (some (exchangeOf c)) o) ≡ cond b (some (c .operands .third)) (answerFound o)
+          → secondOf (cond b (some (replyItemOf c)) o) ≡ cond b (some (c .operands .third)) (secondOf o)
       found true o = refl
       found false o = refl
 
@@ -442,7 +443,7 @@ module _ (t : List ℕ) (past : List Command) (c : Command) (s : Stands t past) 
         scope = scope-next;
         owner = owner-next;
         startValue = start-next;
-        answer = answer-next;
+        funAnswer = fun-answer-next;
         lengths = lengths-next;
         bodies = bodies-next;
         started = started-after;
@@ -452,11 +453,11 @@ module _ (t : List ℕ) (past : List Command) (c : Command) (s : Stands t past) 
         writes = writes-next;
         anys = anys-next;
         itemCount = item-count-next;
-        heads = heads-next;
+        lastRanges = last-ranges-next;
         arguments = arguments-next;
         spans = spans-next;
         calls = calls-next;
-        replyHeads = reply-heads-next;
+        lastReplies = last-replies-next;
         replies = replies-after;
         cells = ap (λ (u : List ℕ). written u (noteWrites u c)) (s .cells);
       }

@@ -7,8 +7,8 @@ ghost use Rattle.model.specs.Table.{FLOW, NODE, VAR, FUN, REPLY};
 ghost use Rattle.command.specs.Rows.{isHandlerByte};
 ghost use Rattle.tables.specs.Cells.{putIn};
 ghost use Rattle.tables.specs.Tables.{countIn, openIn, flowIn, lengthIn, flowCells, scopeCells, ownerCells, startCells, answerCells};
-ghost use Rattle.tables.specs.Tables.{lengthCells, progressCells, bodyCells};
-ghost use Rattle.tables.specs.Tables.{startedCells, firstCells, messageCells, itemCountIn, rangeHeadIn, replyHeadIn};
+ghost use Rattle.tables.specs.Tables.{lengthCells, progressCells, bodyCells, startedCells, firstCells, messageCells, itemCountIn};
+ghost use Rattle.tables.specs.Tables.{lastRangeIn, lastReplyIn};
 ghost use Rattle.tables.specs.Items.{item};
 ghost use Rattle.tables.specs.Writes.{oneMore, written, rangeWrite, replyWrite, itemWrites};
 use crate::one_less;
@@ -65,23 +65,23 @@ fn note_item(tables: &mut [u32], number: u32, before: u32, byte: u8, first: u32,
 // One more range: the last of its node and function, with its lowest and highest argument.
 pub(crate) fn note_range(tables: &mut [u32], byte: u8, n: NodeNum, f: FunNum, low: u32, high: u32)
     ensures { λ _. ⌜ now (tables .exit) ≡ written (now (tables .entry)) (rangeWrite (now (tables .entry)) true (n .0) (f .0)
-        ∷ itemWrites true (itemCountIn (now (tables .entry))) (rangeHeadIn (now (tables .entry)) (n .0) (f .0)) (item byte low high)) ⌝ }
+        ∷ itemWrites true (itemCountIn (now (tables .entry))) (lastRangeIn (now (tables .entry)) (n .0) (f .0)) (item byte low high)) ⌝ }
 {
     let number = items::count(tables);
     let before = last_range(tables, n, f);
     let place = (n.0 as usize) * 32 + (f.0 as usize);
-    put_half(tables, cells::RANGE_HEAD, place, one_more(number));
+    put_half(tables, cells::LAST_RANGE, place, one_more(number));
     note_item(tables, number, before, byte, low, high);
 }
 
 // One more reply: the last of its function, with argument and answer.
 pub(crate) fn note_reply(tables: &mut [u32], f: FunNum, argument: u32, answer: u32)
     ensures { λ _. ⌜ now (tables .exit) ≡ written (now (tables .entry)) (replyWrite (now (tables .entry)) true (f .0)
-        ∷ itemWrites true (itemCountIn (now (tables .entry))) (replyHeadIn (now (tables .entry)) (f .0)) (item REPLY argument answer)) ⌝ }
+        ∷ itemWrites true (itemCountIn (now (tables .entry))) (lastReplyIn (now (tables .entry)) (f .0)) (item REPLY argument answer)) ⌝ }
 {
     let number = items::count(tables);
     let before = last_reply(tables, f);
-    put(tables, cells::REPLY_HEAD, f.0 as usize, one_more(number));
+    put(tables, cells::LAST_REPLY, f.0 as usize, one_more(number));
     note_item(tables, number, before, bytes::REPLY, argument, answer);
 }
 

@@ -13,11 +13,10 @@ use Rattle.model.specs.Declared.{countOf, isThere, occurs, inSpan, declared, re
 use Rattle.model.specs.Refusal.{groupFalls}
 use Rattle.tables.specs.declared.cells.Section.{Section}
 use Rattle.tables.specs.Cells.{cellCount, entryIn, flagIn, isMarkPlace, markCell, markIn, halfIn, blank}
-use Rattle.tables.specs.Tables.{countCells, progressCells, replyHeadCells, firstCells, wireCells, rangeHeadCells, headPlace}
-use Rattle.tables.specs.Tables.{rangeHeadIn, chainIn}
-use Rattle.tables.specs.Tables.{rangesIn, replyIn}
+use Rattle.tables.specs.Tables.{countCells, progressCells, lastReplyCells, firstCells, wireCells, lastRangeCells, rangePlace}
+use Rattle.tables.specs.Tables.{lastRangeIn, chainIn, rangesIn, replyIn}
 use Rattle.tables.specs.Bits.{halfOf}
-use Rattle.tables.specs.Items.{Item, item, firstItem, holds, isThis}
+use Rattle.tables.specs.Items.{Item, item, foundItem, holds, isThis}
 use Rattle.tables.specs.Writes.{tablesOf}
 use Rattle.tables.specs.Stands.{Stands}
 use Rattle.tables.proofs.Setting.{bit-zero}
@@ -43,26 +42,26 @@ unfolding markIn
 mark-blank s r x h = rw (entry-blank s (markCell r x) h, bit-zero (x % 32)) (and-false (isMarkPlace r x))
 
 -- no node has a range for a function
-head-blank : (n f : ℕ) → rangeHeadIn blank n f ≡ 0
+last-blank : (n f : ℕ) → lastRangeIn blank n f ≡ 0
 unfolding halfIn halfOf
-head-blank n f = by-function (ltb f 32)
+last-blank n f = by-function (ltb f 32)
   where
     by-half : (b : Bool) → _≡_ {A = ℕ} (cond b 0 0) 0
     by-half true = refl
     by-half false = refl
 
-    by-function : (b : Bool) → cond b (halfIn blank rangeHeadCells (headPlace n f)) 0 ≡ 0
-    by-function true = rw (entry-blank rangeHeadCells (headPlace n f / 2) (omega arith)) (by-half (eqb (headPlace n f % 2) 0))
+    by-function : (b : Bool) → cond b (halfIn blank lastRangeCells (rangePlace n f)) 0 ≡ 0
+    by-function true = rw (entry-blank lastRangeCells (rangePlace n f / 2) (omega arith)) (by-half (eqb (rangePlace n f % 2) 0))
     by-function false = refl
 
-some-blank : (test : Item → Bool) (n f : ℕ) → isThere (firstItem test (rangesIn blank n f)) ≡ false
-unfolding chainIn firstItem
-some-blank test n f = rw (head-blank n f)
+some-blank : (test : Item → Bool) (n f : ℕ) → isThere (foundItem test (rangesIn blank n f)) ≡ false
+unfolding chainIn foundItem
+some-blank test n f = rw (last-blank n f)
 
 -- no function has a reply
 reply-blank : (f v : ℕ) → replyIn blank f v ≡ none
-unfolding chainIn firstItem
-reply-blank f v = rw (entry-blank replyHeadCells f (omega arith))
+unfolding chainIn foundItem
+reply-blank f v = rw (entry-blank lastReplyCells f (omega arith))
 
 pub stands-blank : Stands blank []
 unfolding groupFalls countOf occurs declared replyOf openBody bodyLength startsOf startedIn inSpan blank tablesOf
@@ -76,7 +75,7 @@ stands-blank =
       scope = λ x. entry-blank _ x (omega arith);
       owner = λ x. entry-blank _ x (omega arith);
       startValue = λ x. entry-blank _ x (omega arith);
-      answer = λ f. entry-blank _ f (omega arith);
+      funAnswer = λ f. entry-blank _ f (omega arith);
       lengths = λ n. entry-blank _ n (omega arith);
       bodies = λ n. flag-blank _ n (omega arith);
       started = λ f. flag-blank _ f (omega arith);
@@ -86,11 +85,11 @@ stands-blank =
       writes = λ n x. mark-blank _ n x (omega arith);
       anys = λ n f. mark-blank _ n f (omega arith);
       itemCount = entry-blank progressCells 2 (omega arith);
-      heads = λ n f. rw (head-blank n f) zero-le;
+      lastRanges = λ n f. rw (last-blank n f) zero-le;
       arguments = λ n f v. some-blank (isThis (item ARG v v)) n f;
       spans = λ n f low high. some-blank (isThis (item SPAN low high)) n f;
       calls = λ n f v. some-blank (holds v) n f;
-      replyHeads = λ f. rw (entry-blank replyHeadCells f (omega arith)) zero-le;
+      lastReplies = λ f. rw (entry-blank lastReplyCells f (omega arith)) zero-le;
       replies = reply-blank;
       cells = refl;
     }

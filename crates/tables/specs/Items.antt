@@ -30,9 +30,9 @@ highOf c = cond (is SPAN c) (c .operands .fourth) (c .operands .third)
 abbrev pub rangeOf : Command → Item
 rangeOf c = item (c .byte) (c .operands .third) (highOf c)
 
--- the argument and the answer of a REPLY
-abbrev pub exchangeOf : Command → Item
-exchangeOf c = item (c .byte) (c .operands .second) (c .operands .third)
+-- the item of a REPLY: its argument and its answer
+abbrev pub replyItemOf : Command → Item
+replyItemOf c = item (c .byte) (c .operands .second) (c .operands .third)
 
 -- the command is kept as an item
 abbrev pub isItem : Command → Bool
@@ -40,12 +40,12 @@ isItem c = is REPLY c || isRange c
 
 -- its item
 abbrev pub itemOf : Command → Item
-itemOf c = cond (is REPLY c) (exchangeOf c) (rangeOf c)
+itemOf c = cond (is REPLY c) (replyItemOf c) (rangeOf c)
 
 -- the first item that passes a test, if there is one
-unfoldable pub firstItem : (Item → Bool) → List Item → Option Item
-firstItem test [] = none
-firstItem test (i ∷ items) = cond (test i) (some i) (firstItem test items)
+unfoldable pub foundItem : (Item → Bool) → List Item → Option Item
+foundItem test [] = none
+foundItem test (i ∷ items) = cond (test i) (some i) (foundItem test items)
 
 -- the range holds the argument, whatever its command
 abbrev pub holds : ℕ → Item → Bool
@@ -59,7 +59,7 @@ isThis x i = eqb (i .byte) (x .byte) && (eqb (i .first) (x .first) && eqb (i .se
 abbrev pub isTo : ℕ → Item → Bool
 isTo v i = eqb (i .first) v
 
--- the answer of the reply that was found
-abbrev pub answerFound : Option Item → Option ℕ
-answerFound none = none
-answerFound (some i) = some (i .second)
+-- the second number of the item that was found: the answer of a reply
+abbrev pub secondOf : Option Item → Option ℕ
+secondOf none = none
+secondOf (some i) = some (i .second)

@@ -1,5 +1,6 @@
 -- The tables stand for the commands read so far: each name in `Tables` has the value that the model gives it, also where nothing is
--- declared; `heads` and `replyHeads` bound the numbers of items; and no cell holds anything else than what is written for these commands.
+-- declared; `lastRanges` and `lastReplies` bound the numbers of items; and no cell holds anything else than what is written for these
+-- commands.
 use Prim.Native.Nat.{ℕ, _+_, _≤_, _<_}
 use mathlib.Core.Path.{_≡_}
 use mathlib.Core.Bool.{_||_}
@@ -13,8 +14,8 @@ use Rattle.model.specs.Declared.{startsOf, startedIn}
 use Rattle.model.specs.Refusal.{groupFalls}
 use Rattle.tables.specs.Cells.{cellCount}
 use Rattle.tables.specs.Tables.{countIn, groupIn, openIn, flowIn, scopeIn, ownerIn, startIn, funAnswerIn, lengthIn, bodyIn, startedAt}
-use Rattle.tables.specs.Tables.{firstsIn, wiredIn, readIn, writeIn, anyIn, itemCountIn, rangeHeadIn, listedIn, inRangeIn}
-use Rattle.tables.specs.Tables.{replyHeadIn, replyIn}
+use Rattle.tables.specs.Tables.{firstsIn, wiredIn, readIn, writeIn, anyIn, itemCountIn, lastRangeIn, listedIn, inRangeIn}
+use Rattle.tables.specs.Tables.{lastReplyIn, replyIn}
 use Rattle.tables.specs.Writes.{tablesOf}
 
 pub record Stands (t : List ℕ) (past : List Command) : Type 0 where
@@ -26,7 +27,7 @@ pub record Stands (t : List ℕ) (past : List Command) : Type 0 where
   pub scope : (x : ℕ) → scopeIn t x ≡ scopeOf past x
   pub owner : (x : ℕ) → ownerIn t x ≡ ownerOf past x
   pub startValue : (x : ℕ) → startIn t x ≡ startOf past x
-  pub answer : (f : ℕ) → funAnswerIn t f ≡ funAnswerOf past f
+  pub funAnswer : (f : ℕ) → funAnswerIn t f ≡ funAnswerOf past f
   pub lengths : (n : ℕ) → lengthIn t n ≡ bodyLength past n
   pub bodies : (n : ℕ) → bodyIn t n ≡ occurs BODY (binary n 0) past
   pub started : (f : ℕ) → startedAt t f ≡ startedIn past f
@@ -36,10 +37,10 @@ pub record Stands (t : List ℕ) (past : List Command) : Type 0 where
   pub writes : (n x : ℕ) → writeIn t n x ≡ occurs WRITE (binary n x) past
   pub anys : (n f : ℕ) → anyIn t n f ≡ occurs ANY (binary n f) past
   pub itemCount : itemCountIn t ≡ countOf REPLY past + (countOf ARG past + countOf SPAN past)
-  pub heads : (n f : ℕ) → rangeHeadIn t n f ≤ itemCountIn t
+  pub lastRanges : (n f : ℕ) → lastRangeIn t n f ≤ itemCountIn t
   pub arguments : (n f v : ℕ) → listedIn t ARG n f v v ≡ occurs ARG (ternary n f v) past
   pub spans : (n f low high : ℕ) → listedIn t SPAN n f low high ≡ occurs SPAN (quaternary n f low high) past
   pub calls : (n f v : ℕ) → inRangeIn t n f v ≡ (occurs ARG (ternary n f v) past || inSpan n f v past)
-  pub replyHeads : (f : ℕ) → replyHeadIn t f ≤ itemCountIn t
+  pub lastReplies : (f : ℕ) → lastReplyIn t f ≤ itemCountIn t
   pub replies : (f v : ℕ) → replyIn t f v ≡ replyOf past f v
   pub cells : t ≡ tablesOf past

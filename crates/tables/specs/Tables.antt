@@ -7,7 +7,7 @@ use lib.Dec.{ltb, eqb}
 use Rattle.model.specs.Declared.{only, isThere, isShared, isSeen}
 use Rattle.tables.specs.declared.cells.Section.{Section}
 use Rattle.tables.specs.Cells.{section, entryIn, flagIn, markIn, halfIn}
-use Rattle.tables.specs.Items.{Item, item, firstItem, holds, isThis, isTo, answerFound}
+use Rattle.tables.specs.Items.{Item, item, foundItem, holds, isThis, isTo, secondOf}
 
 -- the sections, in the code's order
 abbrev pub countCells : Section
@@ -31,8 +31,8 @@ startCells = section 320 64
 abbrev pub answerCells : Section
 answerCells = section 384 32
 
-abbrev pub replyHeadCells : Section
-replyHeadCells = section 416 32
+abbrev pub lastReplyCells : Section
+lastReplyCells = section 416 32
 
 abbrev pub lengthCells : Section
 lengthCells = section 448 32
@@ -70,8 +70,8 @@ anyCells = section 1888 64
 abbrev pub wireCells : Section
 wireCells = section 1952 256
 
-abbrev pub rangeHeadCells : Section
-rangeHeadCells = section 2208 512
+abbrev pub lastRangeCells : Section
+lastRangeCells = section 2208 512
 
 -- how many commands have this byte
 abbrev pub countIn : List ℕ → ℕ → ℕ
@@ -164,40 +164,40 @@ chainIn t zero at = []
 chainIn t (suc k) at = cond (eqb at (suc k)) (itemIn t k ∷ chainIn t k (beforeIn t k)) (chainIn t k at)
 
 -- the half of a node and a function, 32 functions a node
-abbrev pub headPlace : ℕ → ℕ → ℕ
-headPlace n f = n * 32 + f
+abbrev pub rangePlace : ℕ → ℕ → ℕ
+rangePlace n f = n * 32 + f
 
 -- the last range of a node and a function: its number among the items plus 1, or 0 if there is none
-abbrev pub rangeHeadIn : List ℕ → ℕ → ℕ → ℕ
-rangeHeadIn t n f = cond (ltb f 32) (halfIn t rangeHeadCells (headPlace n f)) 0
+abbrev pub lastRangeIn : List ℕ → ℕ → ℕ → ℕ
+lastRangeIn t n f = cond (ltb f 32) (halfIn t lastRangeCells (rangePlace n f)) 0
 
 -- the ranges of a node and a function, the latest first
 abbrev pub rangesIn : List ℕ → ℕ → ℕ → List Item
-rangesIn t n f = chainIn t (rangeHeadIn t n f) (rangeHeadIn t n f)
+rangesIn t n f = chainIn t (lastRangeIn t n f) (lastRangeIn t n f)
 
 -- there is a command with this byte, node, function, low and high
 abbrev pub listedIn : List ℕ → ℕ → ℕ → ℕ → ℕ → ℕ → Bool
-listedIn t b n f low high = isThere (firstItem (isThis (item b low high)) (rangesIn t n f))
+listedIn t b n f low high = isThere (foundItem (isThis (item b low high)) (rangesIn t n f))
 
 -- a range permits the call with this argument
 abbrev pub inRangeIn : List ℕ → ℕ → ℕ → ℕ → Bool
-inRangeIn t n f v = isThere (firstItem (holds v) (rangesIn t n f))
+inRangeIn t n f v = isThere (foundItem (holds v) (rangesIn t n f))
 
 -- the call with this argument is permitted
 abbrev pub callIn : List ℕ → ℕ → ℕ → ℕ → Bool
 callIn t n f v = anyIn t n f || inRangeIn t n f v
 
 -- the last reply of a function: its number among the items plus 1, or 0 if there is none
-abbrev pub replyHeadIn : List ℕ → ℕ → ℕ
-replyHeadIn t f = entryIn t replyHeadCells f
+abbrev pub lastReplyIn : List ℕ → ℕ → ℕ
+lastReplyIn t f = entryIn t lastReplyCells f
 
 -- the replies of a function, the latest first
 abbrev pub repliesIn : List ℕ → ℕ → List Item
-repliesIn t f = chainIn t (replyHeadIn t f) (replyHeadIn t f)
+repliesIn t f = chainIn t (lastReplyIn t f) (lastReplyIn t f)
 
 -- the answer of a function in its reply to an argument, if there is one
 abbrev pub replyIn : List ℕ → ℕ → ℕ → Option ℕ
-replyIn t f v = answerFound (firstItem (isTo v) (repliesIn t f))
+replyIn t f v = secondOf (foundItem (isTo v) (repliesIn t f))
 
 -- the answer of a function to an argument: that reply's, and without one FUN's
 abbrev pub answerIn : List ℕ → ℕ → ℕ → ℕ

@@ -10,11 +10,9 @@ use Rattle.tables.specs.declared.cells.Section.{Section}
 use Rattle.tables.specs.Cells.{putIn, isMarkPlace, markCell, marksWith, halvesWith, blank}
 use Rattle.tables.specs.Items.{Item, isRange, isItem, itemOf}
 use Rattle.tables.specs.Tables.{countIn, openIn, flowIn, lengthIn, flowCells, scopeCells, ownerCells, startCells, answerCells}
-use Rattle.tables.specs.Tables.{lengthCells}
-use Rattle.tables.specs.Tables.{countCells, progressCells, bodyCells, startedCells, firstCells, messageCells, replyHeadCells}
-use Rattle.tables.specs.Tables.{itemFirstCells, itemSecondCells, linkCells, readCells, writeCells, anyCells, wireCells}
-use Rattle.tables.specs.Tables.{rangeHeadCells}
-use Rattle.tables.specs.Tables.{itemCountIn, link, rangeHeadIn, headPlace, replyHeadIn}
+use Rattle.tables.specs.Tables.{lengthCells, countCells, progressCells, bodyCells, startedCells, firstCells, messageCells}
+use Rattle.tables.specs.Tables.{lastReplyCells, itemFirstCells, itemSecondCells, linkCells, readCells, writeCells, anyCells}
+use Rattle.tables.specs.Tables.{wireCells, lastRangeCells, itemCountIn, link, lastRangeIn, rangePlace, lastReplyIn}
 
 -- one more, for a number below 65,536; others stay
 unfoldable pub oneMore : ℕ → ℕ
@@ -54,14 +52,14 @@ handlerWrite t c = write (isHandler c) lengthCells (openIn t) (oneMore (lengthIn
 
 -- one more range of a node and a function, and one more reply of a function: it is the last one of its chain
 abbrev pub rangeWrite : List ℕ → Bool → ℕ → ℕ → Write
-rangeWrite t on n f = halfWrite t on rangeHeadCells (headPlace n f) (oneMore (itemCountIn t))
+rangeWrite t on n f = halfWrite t on lastRangeCells (rangePlace n f) (oneMore (itemCountIn t))
 
 abbrev pub replyWrite : List ℕ → Bool → ℕ → Write
-replyWrite t on f = write on replyHeadCells f (oneMore (itemCountIn t))
+replyWrite t on f = write on lastReplyCells f (oneMore (itemCountIn t))
 
 -- the item before it in its chain
 abbrev pub beforeOf : List ℕ → Command → ℕ
-beforeOf t c = cond (is REPLY c) (replyHeadIn t (c .operands .first)) (rangeHeadIn t (c .operands .first) (c .operands .second))
+beforeOf t c = cond (is REPLY c) (lastReplyIn t (c .operands .first)) (lastRangeIn t (c .operands .first) (c .operands .second))
 
 -- one more item: its number, the item before it in its chain, and what it is
 abbrev pub itemWrites : Bool → ℕ → ℕ → Item → List Write

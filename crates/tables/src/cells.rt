@@ -28,7 +28,7 @@ pub const INITIAL: Section = Section(320, 64);
 // By function: FUN's answer, and its last reply.
 pub const ANSWER: Section = Section(384, 32);
 
-pub const REPLY_HEAD: Section = Section(416, 32);
+pub const LAST_REPLY: Section = Section(416, 32);
 // By node: how many commands its handler has, and 1 if it has a BODY.
 pub const LENGTH: Section = Section(448, 32);
 
@@ -54,7 +54,7 @@ pub const CALLS: Section = Section(1888, 64);
 // 64 bits a port, 4 ports a node, by target: 1 if there is a WIRE.
 pub const WIRES: Section = Section(1952, 256);
 // Half a cell a function, 32 functions a node: its last range.
-pub const RANGE_HEAD: Section = Section(2208, 512);
+pub const LAST_RANGE: Section = Section(2208, 512);
 
 // Cell i of a section.
 pub fn entry(tables: &[u32], s: Section, i: usize) -> u32

@@ -1,7 +1,6 @@
 -- `allowlists::is_listed` meets its contract.
-use mathlib.Core.Path.{ap, _∙_}
+use mathlib.Core.Path.{_∙_}
 use borrow.Author.Needs.{needs}
-use Rattle.model.specs.Declared.{isThere}
 use Rattle.items.proofs.Searching.{found-there}
 use Rattle.allowlists.proofs.is_listed.Statement.{statement}
 use Rattle.allowlists.proofs.is_listed.Tie as tie
@@ -15,8 +14,12 @@ cast-find c = search needs
 find-requires : tie.Need-find-requires
 find-requires c κs = search needs
 
+is-found-requires : tie.Need-is-found-requires
+is-found-requires c κs = search needs
+
 returns : tie.Need-returns
-returns c = rw (c .before .last-range .ensures) at (found-there _ (c .find .result) ∙ ap isThere (c .find .ensures))
+returns c = rw (c .before .before .last-range .ensures) at
+    (c .is-found .ensures ∙ found-there _ _ _ (c .before .find .result) (c .before .find .ensures))
 
 pub is-listed-spec : {M : Type 1} → statement M
-is-listed-spec = tie.close (tie.spec last-range-requires cast-find find-requires returns)
+is-listed-spec = tie.close (tie.spec last-range-requires cast-find find-requires is-found-requires returns)

@@ -1,7 +1,8 @@
 -- `declared::reply_to` meets its contract.
-use mathlib.Core.Path.{sym, _∙_}
+use mathlib.Core.Path.{sym, ap, _∙_}
+use Rattle.tables.specs.Items.{secondOf}
+use Rattle.items.proofs.Searching.{found-none}
 use borrow.Author.Needs.{needs}
-use Rattle.items.proofs.Searching.{first-none}
 use Rattle.declared.proofs.reply_to.Statement.{statement}
 use Rattle.declared.proofs.reply_to.Tie as tie
 
@@ -12,7 +13,7 @@ cast-last : tie.Need-cast-last
 cast-last c = search needs
 
 returns : tie.Need-returns
-returns c = first-none _ _ _ (sym (c .before .last-reply .ensures) ∙ c .if1 .taken)
+returns c = sym (ap secondOf (found-none _ _ _ (sym (c .before .last-reply .ensures) ∙ c .if1 .taken)))
 
 find-requires : tie.Need-find-requires
 find-requires c κs = search needs

@@ -1,7 +1,7 @@
--- `items::answers` meets its contract.
+-- `items::fits` meets its contract.
 use borrow.Author.Needs.{needs}
-use Rattle.items.proofs.answers.Statement.{statement}
-use Rattle.items.proofs.answers.Tie as tie
+use Rattle.items.proofs.fits.Statement.{statement}
+use Rattle.items.proofs.fits.Tie as tie
 
 enum-known-q : tie.Need-enum-known-q
 enum-known-q c = search needs
@@ -21,5 +21,5 @@ returns-2 c = rw (c .before .q2 .given .1)
 returns-3 : tie.Need-returns-3
 returns-3 c = rw (c .before .q3 .given .1)
 
-pub answers-spec : {M : Type 1} → statement M
-answers-spec = tie.close (tie.spec enum-known-q enum-known-q-2 enum-known-q-3 returns returns-2 returns-3)
+pub fits-spec : {M : Type 1} → statement M
+fits-spec = tie.close (tie.spec enum-known-q enum-known-q-2 enum-known-q-3 returns returns-2 returns-3)
