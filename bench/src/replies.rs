@@ -59,7 +59,7 @@ impl Form {
 const FUNCTIONS: u32 = MAX_FUNCTIONS as u32;
 const REPLIES: u32 = MAX_REPLIES as u32;
 
-/// Functions that each node of the job with spread replies calls, and their replies each.
+/// Functions that each node of the job with spread replies calls.
 const CALLED: u32 = 4;
 const NODES: u32 = FUNCTIONS / CALLED;
 

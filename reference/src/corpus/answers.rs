@@ -19,8 +19,8 @@ fn call(argument: u32, replies: &[&[u8]]) -> Job {
     access_job(&[&replies.concat()[..], &[ANY, 0, 0]].concat(), [CALL, 0], argument)
 }
 
-/// The argument 7 and one reply: to it, with several answers; to an argument that is close or differs in one bit of
-/// each byte; to it of the other function.
+/// The argument 7 and one reply: to it, with several answers; to an argument that is close or differs in one of the
+/// higher bits; to it of the other function.
 fn single() -> Vec<Job> {
     let answers = [5, 0, MAX, 7, 8, 0x0102_0304].map(|answer| call(7, &[&reply(0, 7, answer)]));
     let close = [6, 8, 7 << 8, 7 << 24].map(|argument| call(7, &[&reply(0, argument, 5)]));
