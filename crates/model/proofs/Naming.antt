@@ -20,10 +20,10 @@ use Rattle.model.proofs.Valid.{passes, named}
 
 -- a command that is the same as another has its byte and operands
 module _ (b : ℕ) (x : Operands) (c : Command) (e : isSame b x c ≡ true) where
-  same-byte : c .byte ≡ b
+  pub same-byte : c .byte ≡ b
   same-byte = eqb-true (c .byte) b (and-left (is b c) _ e)
 
-  same-operands : c .operands ≡ x
+  pub same-operands : c .operands ≡ x
   same-operands =
       let t = and-right (is b c) _ e in
       let u = and-right (eqb (c .operands .first) (x .first)) _ t in

@@ -1,13 +1,13 @@
 -- A call whose argument has a REPLY gets that answer, every other call FUN's.
 use Prim.Native.Nat.{ℕ}
-use mathlib.Core.Path.{_≡_, refl, sym}
+use mathlib.Core.Path.{_≡_, refl, sym, ap}
 use mathlib.Core.Bool.{Bool, true, false, cond, _||_}
 use mathlib.Core.List.{List, [], _∷_}
 use mathlib.Core.Option.{none, some}
 use lib.Dec.{eqb}
 use borrow.Author.Tests.{eqb-true, eq-eqb}
 use Rattle.model.specs.Table.{REPLY, operandsIn, operandsOf}
-use Rattle.model.specs.Command.{Command, ternary, is}
+use Rattle.model.specs.Command.{Operands, Command, ternary, is}
 use Rattle.model.specs.Declared.{isSame, occurs, isReply, replyOf, isThere}
 use Rattle.model.specs.Program.{programOf}
 use Rattle.model.specs.Refusal.{repeated}
@@ -15,9 +15,10 @@ use Rattle.model.specs.Replies.{RecordedHolds}
 use Rattle.model.specs.Valid.{Valid, Plain}
 use Rattle.model.proofs.Logic.{true-false, not-both, and-rest, and-left, and-right, or-left, or-right, none-of}
 use Rattle.model.proofs.Valid.{passes, reads-valid}
+use Rattle.model.proofs.Naming.{same-byte, same-operands}
 
 module _ (f v : ℕ) where
-  -- a REPLY of the function to the argument, with its answer, is the command with these operands; and that command is such a REPLY
+  -- a REPLY of the function to the argument is the command with these operands and its answer
   reply-same : (c : Command) → Plain c → isReply f v c ≡ true → isSame REPLY (ternary f v (c .operands .third)) c ≡ true
   unfolding operandsOf operandsIn
   reply-same c plain e =
@@ -37,12 +38,9 @@ module _ (f v : ℕ) where
   same-reply : (answer : ℕ) (c : Command) → isSame REPLY (ternary f v answer) c ≡ true
       → (isReply f v c ≡ true) × (c .operands .third ≡ answer)
   same-reply answer c e =
-      let p = and-left (is REPLY c) _ e in
-      let q = and-right (is REPLY c) _ e in
-      let r = and-right (eqb (c .operands .first) f) _ q in
-      let s = and-right (eqb (c .operands .second) v) _ r in (
-        rw (p, and-left (eqb (c .operands .first) f) _ q, and-left (eqb (c .operands .second) v) _ r),
-        eqb-true (c .operands .third) answer (and-left (eqb (c .operands .third) answer) _ s),
+      let same = same-operands REPLY (ternary f v answer) c e in (
+        rw (same-byte REPLY (ternary f v answer) c e, same, eq-eqb f f refl, eq-eqb v v refl),
+        ap (λ (x : Operands). x .third) same,
       )
 
   -- no such REPLY

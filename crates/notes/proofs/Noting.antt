@@ -46,6 +46,11 @@ more : (n : ℕ) → n < 65536 → oneMore n ≡ n + 1
 unfolding oneMore
 more n h = rw (lt-ltb n 65536 h)
 
+-- where a write is made it may have either of two equal values, and where it is not made neither shows
+where-on : (left : Bool → ℕ → ℕ) (on : Bool) (x y : ℕ) → (on ≡ true → x ≡ y) → left false x ≡ left false y → left on x ≡ left on y
+where-on left true x y e z = ap (left true) (e refl)
+where-on left false x y e z = z
+
 -- the flow of a node is one of those counted
 flow-counted : (past : List Command) (n : ℕ) → flowOf past n ≤ countOf FLOW past - 1
 unfolding declared
@@ -335,11 +340,7 @@ module _ (t : List ℕ) (past : List Command) (c : Command) (s : Stands t past) 
   item-count-next =
       in-section progressCells (omega arith) refl 2
       ∙ this-first (is BODY c) (isItem c) (c .operands .first) (oneMore (itemCountIn t)) (itemCountIn t)
-      ∙ counted (isItem c) refl ∙ sym items-next
-    where
-      counted : (b : Bool) → isItem c ≡ b → cond b (oneMore (itemCountIn t)) (itemCountIn t) ≡ cond b (itemCountIn t + 1) (itemCountIn t)
-      counted true e = item-more e
-      counted false e = refl
+      ∙ where-on (λ b z. cond b z (itemCountIn t)) (isItem c) _ _ item-more refl ∙ sym items-next
 
   written-item : ItemWritten t after c
   written-item =
@@ -347,30 +348,20 @@ module _ (t : List ℕ) (past : List Command) (c : Command) (s : Stands t past) 
         first = in-section itemFirstCells (omega arith) refl;
         second = in-section itemSecondCells (omega arith) refl;
         linked = in-section linkCells (omega arith) refl;
-        lastRange = λ i. in-section lastRangeCells (omega arith) refl i ∙ last-range i (isRange c) refl;
-        lastReply = λ f. in-section lastReplyCells (omega arith) refl f ∙ last-reply f (is REPLY c) refl;
+        lastRange = λ i. in-section lastRangeCells (omega arith) refl i
+            ∙ where-on (λ b z. cond (b && (eqb (rangePlace (c .operands .first) (c .operands .second) / 2) i && ltb i 512))
+            (halvesWith t lastRangeCells (rangePlace (c .operands .first) (c .operands .second)) z) (entryIn t lastRangeCells i))
+            (isRange c)
+            _ _ (λ e. item-more (or-second (is REPLY c) (isRange c) e)) refl;
+        lastReply = λ f. in-section lastReplyCells (omega arith) refl f
+            ∙ where-on (λ b z. cond (b && (eqb (c .operands .first) f && ltb f 32)) z (lastReplyIn t f)) (is REPLY c)
+            _ _ (λ e. item-more (or-first (is REPLY c) (isRange c) e)) refl;
         room = item-room;
         inside = range-range;
         function = reply-range;
         lastRanges = s .lastRanges;
         lastReplies = s .lastReplies;
       }
-    where
-      last-range : (i : ℕ) (b : Bool) → isRange c ≡ b
-          → cond (b && (eqb (rangePlace (c .operands .first) (c .operands .second) / 2) i && ltb i 512))
-          (halvesWith t lastRangeCells (rangePlace (c .operands .first) (c .operands .second)) (oneMore (itemCountIn t)))
-          (entryIn t lastRangeCells i)
-          ≡ cond (b && (eqb (rangePlace (c .operands .first) (c .operands .second) / 2) i && ltb i 512))
-          (halvesWith t lastRangeCells (rangePlace (c .operands .first) (c .operands .second)) (itemCountIn t + 1))
-          (entryIn t lastRangeCells i)
-      last-range i true e = rw (item-more (or-second (is REPLY c) (isRange c) e))
-      last-range i false e = refl
-
-      last-reply : (f : ℕ) (b : Bool) → is REPLY c ≡ b
-          → cond (b && (eqb (c .operands .first) f && ltb f 32)) (oneMore (itemCountIn t)) (lastReplyIn t f)
-          ≡ cond (b && (eqb (c .operands .first) f && ltb f 32)) (itemCountIn t + 1) (lastReplyIn t f)
-      last-reply f true e = rw (item-more (or-first (is REPLY c) (isRange c) e))
-      last-reply f false e = refl
 
   -- the last item of a chain is one of those counted
   last-counted : (b here : Bool) (h : ℕ) → (here ≡ true → b ≡ true) → h ≤ itemCountIn t

@@ -1,4 +1,5 @@
 // Noting one more command: what it declares, by its kind, then its count and its group.
+mod chains;
 mod commands;
 
 ghost use mathlib.Core.Path.{_≡_};
@@ -6,6 +7,8 @@ ghost use Prim.Native.Nat.{_-_};
 ghost use Rattle.command.specs.Reading.{commandOf};
 ghost use Rattle.notes.specs.Notes.{Notes};
 ghost use Rattle.tables.specs.Writes.{commandWrites, oneMore, written};
+use chains::note_range;
+use chains::note_reply;
 use command::bytes;
 use command::numbers::FunNum;
 use command::numbers::NodeNum;
@@ -14,8 +17,6 @@ use commands::note_body;
 use commands::note_function;
 use commands::note_handler;
 use commands::note_node;
-use commands::note_range;
-use commands::note_reply;
 use commands::note_start;
 use commands::note_variable;
 use declared::count_of;

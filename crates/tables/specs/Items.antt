@@ -3,7 +3,7 @@
 use Prim.Native.Nat.{ℕ}
 use mathlib.Core.Bool.{Bool, cond, _&&_, _||_}
 use mathlib.Core.List.{List, [], _∷_}
-use mathlib.Core.Option.{Option, none, some}
+use mathlib.Core.Option.{Option, none, some, Option·map}
 use lib.Dec.{leb, eqb}
 use Rattle.model.specs.Table.{REPLY, SPAN, isRangeByte}
 use Rattle.model.specs.Command.{Command, is}
@@ -61,5 +61,4 @@ isTo v i = eqb (i .first) v
 
 -- the second number of the item that was found: the answer of a reply
 abbrev pub secondOf : Option Item → Option ℕ
-secondOf none = none
-secondOf (some i) = some (i .second)
+secondOf = Option·map (λ (i : Item). i .second)

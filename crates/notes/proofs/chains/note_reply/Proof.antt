@@ -1,9 +1,9 @@
--- `notes::commands::note_reply` meets its contract.
+-- `notes::chains::note_reply` meets its contract.
 use mathlib.Core.Path.{_∙_}
 use Rattle.tables.specs.Writes.{made}
 use borrow.Author.Needs.{needs}
-use Rattle.notes.proofs.commands.note_reply.Statement.{statement}
-use Rattle.notes.proofs.commands.note_reply.Tie as tie
+use Rattle.notes.proofs.chains.note_reply.Statement.{statement}
+use Rattle.notes.proofs.chains.note_reply.Tie as tie
 
 count-requires : tie.Need-count-requires
 count-requires c κs = search needs

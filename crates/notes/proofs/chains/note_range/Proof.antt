@@ -1,10 +1,10 @@
--- `notes::commands::note_range` meets its contract.
+-- `notes::chains::note_range` meets its contract.
 use mathlib.Core.Path.{_∙_}
 use Rattle.tables.specs.Cells.{putHalf}
 use Rattle.tables.specs.Writes.{made}
 use borrow.Author.Needs.{needs}
-use Rattle.notes.proofs.commands.note_range.Statement.{statement}
-use Rattle.notes.proofs.commands.note_range.Tie as tie
+use Rattle.notes.proofs.chains.note_range.Statement.{statement}
+use Rattle.notes.proofs.chains.note_range.Tie as tie
 
 count-requires : tie.Need-count-requires
 count-requires c κs = search needs

@@ -1,9 +1,9 @@
--- `notes::commands::note_item` meets its contract.
+-- `notes::chains::note_item` meets its contract.
 use mathlib.Core.Path.{_∙_}
 use Rattle.tables.specs.Writes.{made}
 use borrow.Author.Needs.{needs}
-use Rattle.notes.proofs.commands.note_item.Statement.{statement}
-use Rattle.notes.proofs.commands.note_item.Tie as tie
+use Rattle.notes.proofs.chains.note_item.Statement.{statement}
+use Rattle.notes.proofs.chains.note_item.Tie as tie
 
 mul-link : tie.Need-mul-link
 mul-link c = search needs
