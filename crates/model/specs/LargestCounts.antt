@@ -20,9 +20,10 @@ pub record Limited (l : Limit) (past : List Command) (c : Command) : Type 0 wher
 abbrev pub LargestCountsHold : Type 0
 LargestCountsHold = (past : List Command) (c : Command) (l : Limit) → largestOf (c .byte) ≡ some l → Limited l past c
 
--- so 128 of REPLY (S-1), and 256 of ARG and SPAN together (S-5), however both are mixed
+-- so "at most 128 in a job", of REPLY (S-1)
 abbrev pub ReplyLimitHolds : Type 0
 ReplyLimitHolds = (past : List Command) (c : Command) → c .byte ≡ REPLY → Limited (limit (REPLY ∷ []) 128) past c
 
+-- and so "SPAN and ARG share the count of 256", however both are mixed (S-5)
 abbrev pub RangeLimitHolds : Type 0
 RangeLimitHolds = (past : List Command) (c : Command) → isRangeByte (c .byte) ≡ true → Limited (limit (ARG ∷ SPAN ∷ []) 256) past c

@@ -20,7 +20,7 @@ pub record Program : Type 0 where
   pub scope : ℕ → ℕ
   pub owner : ℕ → ℕ
   pub startValue : ℕ → ℕ
-  -- the answer, by REPLY or FUN: by function and argument
+  -- the answer, REPLY's or FUN's: by function and argument
   pub answer : ℕ → ℕ → ℕ
   -- a port is wired to a target: by node, port and target
   pub wired : ℕ → ℕ → ℕ → Bool

@@ -41,7 +41,8 @@ module _ (t : List ℕ) (c : Code) where
 
   -- where its byte is known, it is computed which writes are made
   pub known-arm : (b : ℕ) (u : List ℕ) → c .byte ≡ b
-      → u ≡ written t (commandWrites t (record { place = c .place; byte = b; operands = quaternary (c .first) (c .second) (c .third) (c .fourth) }))
+      → u ≡ written t
+      (commandWrites t (record { place = c .place; byte = b; operands = quaternary (c .first) (c .second) (c .third) (c .fourth) }))
       → u ≡ noted
   known-arm b u e h = rw e h
 

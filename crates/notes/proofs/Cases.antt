@@ -20,6 +20,18 @@ column true j i k x old y older h p q = by-cell (eqb j i) refl
     by-cell true e = let g : j ≡ i = eqb-true j i e in let m = h refl in rw (lt-ltb i k (omega arith)) (p refl g)
     by-cell false e = q
 
+-- a write to this cell after one to another, and before one to another
+pub this-last : (b d : Bool) (x y z : ℕ) → cond (b && true) x (cond (d && false) y z) ≡ cond b x z
+this-last true d x y z = refl
+this-last false true x y z = refl
+this-last false false x y z = refl
+
+pub this-first : (b d : Bool) (x y z : ℕ) → cond (b && false) x (cond (d && true) y z) ≡ cond d y z
+this-first true true x y z = refl
+this-first true false x y z = refl
+this-first false true x y z = refl
+this-first false false x y z = refl
+
 -- a flag: the cell, or what was flagged
 pub flag : (on : Bool) (j i k old : ℕ) (older : Bool) → (on ≡ true → j < k) → not (eqb old 0) ≡ older
     → not (eqb (cond (on && (eqb j i && ltb i k)) 1 old) 0) ≡ ((on && eqb j i) || older)

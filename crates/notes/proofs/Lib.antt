@@ -3,5 +3,9 @@ pub mod Sections
 pub mod Cases
 pub mod Same
 pub mod Kept
+pub mod After
+pub mod Declaring
+pub mod Marking
+pub mod Itemizing
 pub mod Noting
 pub mod Forgetting

@@ -69,8 +69,7 @@ returns : tie.Need-returns
 unfolding made
 returns c =
     let p = c .before .before .before .before in
-    let a = p .before .before .before .before .args in
-    known-arm (now (a .tables)) (a .c) _ _ (p .match .keys1) (c .before .before .note-node .ensures)
+    known-arm _ (p .before .before .before .before .args .c) _ _ (p .match .keys1) (c .before .before .note-node .ensures)
 
 same-length-2 : tie.Need-same-length-2
 same-length-2 c = search needs
@@ -79,8 +78,7 @@ returns-2 : tie.Need-returns-2
 unfolding made
 returns-2 c =
     let p = c .before .before .before .before in
-    let a = p .before .before .before .before .args in
-    known-arm (now (a .tables)) (a .c) _ _ (p .match .keys2) (c .before .before .note-variable .ensures)
+    known-arm _ (p .before .before .before .before .args .c) _ _ (p .match .keys2) (c .before .before .note-variable .ensures)
 
 same-length-3 : tie.Need-same-length-3
 same-length-3 c = search needs
@@ -89,8 +87,7 @@ returns-3 : tie.Need-returns-3
 unfolding made
 returns-3 c =
     let p = c .before .before .before .before in
-    let a = p .before .before .before .before .args in
-    known-arm (now (a .tables)) (a .c) _ _ (p .match .keys3) (c .before .before .note-function .ensures)
+    known-arm _ (p .before .before .before .before .args .c) _ _ (p .match .keys3) (c .before .before .note-function .ensures)
 
 same-length-4 : tie.Need-same-length-4
 same-length-4 c = search needs
@@ -99,8 +96,7 @@ returns-4 : tie.Need-returns-4
 unfolding made
 returns-4 c =
     let p = c .before .before .before .before in
-    let a = p .before .before .before .before .args in
-    known-arm (now (a .tables)) (a .c) _ _ (p .match .keys4) (c .before .before .note-reply .ensures)
+    known-arm _ (p .before .before .before .before .args .c) _ _ (p .match .keys4) (c .before .before .note-reply .ensures)
 
 same-length-5 : tie.Need-same-length-5
 same-length-5 c = search needs
@@ -109,8 +105,7 @@ returns-5 : tie.Need-returns-5
 unfolding made markAt
 returns-5 c =
     let p = c .before .before .before .before .before in
-    let a = p .before .before .before .before .args in
-    known-arm (now (a .tables)) (a .c) _ _ (p .match .keys5) (c .before .before .mark .ensures)
+    known-arm _ (p .before .before .before .before .args .c) _ _ (p .match .keys5) (c .before .before .mark .ensures)
 
 same-length-6 : tie.Need-same-length-6
 same-length-6 c = search needs
@@ -119,8 +114,7 @@ returns-6 : tie.Need-returns-6
 unfolding made markAt
 returns-6 c =
     let p = c .before .before .before .before in
-    let a = p .before .before .before .before .args in
-    known-arm (now (a .tables)) (a .c) _ _ (p .match .keys6) (c .before .before .mark2 .ensures)
+    known-arm _ (p .before .before .before .before .args .c) _ _ (p .match .keys6) (c .before .before .mark2 .ensures)
 
 same-length-7 : tie.Need-same-length-7
 same-length-7 c = search needs
@@ -129,8 +123,7 @@ returns-7 : tie.Need-returns-7
 unfolding made putHalf
 returns-7 c =
     let p = c .before .before .before .before in
-    let a = p .before .before .before .before .args in
-    known-arm (now (a .tables)) (a .c) _ _ (p .match .keys7) (rw (p .match .keys7) at (c .before .before .note-range .ensures))
+    known-arm _ (p .before .before .before .before .args .c) _ _ (p .match .keys7) (rw (p .match .keys7) at (c .before .before .note-range .ensures))
 
 same-length-8 : tie.Need-same-length-8
 same-length-8 c = search needs
@@ -139,8 +132,7 @@ returns-8 : tie.Need-returns-8
 unfolding made markAt
 returns-8 c =
     let p = c .before .before .before .before in
-    let a = p .before .before .before .before .args in
-    known-arm (now (a .tables)) (a .c) _ _ (p .match .keys8) (c .before .before .mark3 .ensures)
+    known-arm _ (p .before .before .before .before .args .c) _ _ (p .match .keys8) (c .before .before .mark3 .ensures)
 
 same-length-9 : tie.Need-same-length-9
 same-length-9 c = search needs
@@ -149,8 +141,7 @@ returns-9 : tie.Need-returns-9
 unfolding made markAt
 returns-9 c =
     let p = c .before .before .before .before in
-    let a = p .before .before .before .before .args in
-    known-arm (now (a .tables)) (a .c) _ _ (p .match .keys9) (c .before .before .mark4 .ensures)
+    known-arm _ (p .before .before .before .before .args .c) _ _ (p .match .keys9) (c .before .before .mark4 .ensures)
 
 same-length-10 : tie.Need-same-length-10
 same-length-10 c = search needs
@@ -159,8 +150,7 @@ returns-10 : tie.Need-returns-10
 unfolding made putHalf
 returns-10 c =
     let p = c .before .before .before .before in
-    let a = p .before .before .before .before .args in
-    known-arm (now (a .tables)) (a .c) _ _ (p .match .keys10) (rw (p .match .keys10) at (c .before .before .note-range2 .ensures))
+    known-arm _ (p .before .before .before .before .args .c) _ _ (p .match .keys10) (rw (p .match .keys10) at (c .before .before .note-range2 .ensures))
 
 same-length-11 : tie.Need-same-length-11
 same-length-11 c = search needs
@@ -169,8 +159,7 @@ returns-11 : tie.Need-returns-11
 unfolding made
 returns-11 c =
     let p = c .before .before .before .before in
-    let a = p .before .before .before .before .args in
-    known-arm (now (a .tables)) (a .c) _ _ (p .match .keys11) (c .before .before .note-body .ensures)
+    known-arm _ (p .before .before .before .before .args .c) _ _ (p .match .keys11) (c .before .before .note-body .ensures)
 
 same-length-12 : tie.Need-same-length-12
 same-length-12 c = search needs
@@ -179,8 +168,7 @@ returns-12 : tie.Need-returns-12
 unfolding made
 returns-12 c =
     let p = c .before .before .before .before in
-    let a = p .before .before .before .before .args in
-    known-arm (now (a .tables)) (a .c) _ _ (p .match .keys12) (c .before .before .note-start .ensures)
+    known-arm _ (p .before .before .before .before .args .c) _ _ (p .match .keys12) (c .before .before .note-start .ensures)
 
 same-length-13 : tie.Need-same-length-13
 same-length-13 c = search needs
