@@ -1,8 +1,8 @@
 /* Running a job, monitored or not: the C functions of the static library librun.a.
  *
- * Document 01, with requests S-1, S-5 and S-9 of document 02, says what a job is, what a run does and when a job is refused.
+ * Document 01, with requests S-1, S-5, S-7 and S-9 of document 02, says what a job is, what a run does and when a job is refused.
  * "Monitored" is 01's "watched", "unmonitored" its "bare", "snapshot" its "end picture". Both functions are proved to do what the
- * definitions of 01, S-1, S-5 and S-9 say, for any bytes and any lengths. */
+ * definitions of 01, S-1, S-5, S-7 and S-9 say, for any bytes and any lengths. */
 #ifndef LEQSUMIR_H
 #define LEQSUMIR_H
 
@@ -35,7 +35,7 @@ extern "C" {
 
 /* The numbers of the answer. All eight are always written. */
 enum {
-    LEQSUMIR_REFUSAL = 0, /* 0: the job ran; 1 to 12 or 15: why it was refused, in the numbers of 01 and, for 15, of S-5 */
+    LEQSUMIR_REFUSAL = 0, /* 0: the job ran; 1 to 12, 15 or 19: why it was refused, in the numbers of 01, of S-5 (15) and of S-7 (19) */
     LEQSUMIR_PLACE = 1,   /* of a refusal: the offset of the offending command; the job's length for 10 to 12 */
     LEQSUMIR_STOP = 2,    /* of a run: one of the stops below */
     LEQSUMIR_TURNS = 3,   /* of a run: the completed turns, which are the entries of the trace */

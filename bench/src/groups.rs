@@ -2,7 +2,7 @@
 
 use std::{fs, io};
 
-use flow_reference::Mode;
+use flow_reference::{decode, Mode};
 
 use crate::largest;
 use crate::runs::{cases, Case, MODES};
@@ -23,7 +23,7 @@ impl Group {
     }
 }
 
-/// The example jobs, those of the cases, which the tables are about, and the largest.
+/// The accepted example jobs, those of the cases, which the tables are about, and the largest.
 pub fn all() -> io::Result<[Group; 3]> {
     Ok([
         Group { name: "examples", jobs: examples()? },
@@ -32,9 +32,10 @@ pub fn all() -> io::Result<[Group; 3]> {
     ])
 }
 
-/// The example jobs, read from their files.
+/// The example jobs that are accepted, read from their files.
 fn examples() -> io::Result<Vec<Vec<u8>>> {
     let files = fs::read_dir(EXAMPLES)?.collect::<io::Result<Vec<_>>>()?;
     let paths = files.into_iter().map(|file| file.path());
-    paths.filter(|path| path.extension().is_some_and(|end| end == "job")).map(fs::read).collect()
+    let jobs = paths.filter(|path| path.extension().is_some_and(|end| end == "job")).map(fs::read);
+    Ok(jobs.collect::<io::Result<Vec<_>>>()?.into_iter().filter(|job| decode(job).is_ok()).collect())
 }

@@ -1,7 +1,8 @@
 //! The large job: 3,362 commands and no turns, for what it takes to decode a job and load its handlers.
 //!
 //! One flow with as many nodes, variables, functions and handler commands as a job can have, a wire from
-//! every port, and lists of 32 commands for each node. The handlers have every handler command; none is run.
+//! every port, and lists of 32 commands for each node. The handlers have every handler command and use every
+//! permission; none is run.
 
 use flow_reference::table::{self, *};
 
@@ -36,17 +37,26 @@ fn wires(node: u32) -> Vec<u8> {
     (0..PORTS).flat_map(|port| table::write(WIRE, &[node, port, (node + port) % NODES])).collect()
 }
 
-/// A node's lists: four functions with all arguments, a fifth with two, 13 variables to read and to write.
-fn permissions(node: u32) -> Vec<u8> {
-    let function = |step| (node + step) % FUNCTIONS;
-    let any = (0..4).flat_map(|step| table::write(ANY, &[node, function(step)]));
-    let args = (0..2).flat_map(|argument| table::write(ARG, &[node, function(4), argument]));
-    any.chain(args).chain(variables(READ, node)).chain(variables(WRITE, node)).collect()
+/// Variables that a node may read and write.
+const ACCESSED: u32 = 13;
+
+/// A variable of a node's lists, by its number there.
+fn variable(node: u32, step: u32) -> u32 {
+    (node * 2 + step) % VARIABLES
 }
 
-/// The 13 variables of a node's list, by the command that lists one.
-fn variables(byte: u8, node: u32) -> Vec<u8> {
-    (0..13).flat_map(|step| table::write(byte, &[node, (node * 2 + step) % VARIABLES])).collect()
+/// A function of a node's lists, by its number there.
+fn function(node: u32, step: u32) -> u32 {
+    (node + step) % FUNCTIONS
+}
+
+/// A node's lists: four functions with all arguments, a fifth with two, 13 variables to read and to write.
+fn permissions(node: u32) -> Vec<u8> {
+    let any = (0..4).flat_map(|step| table::write(ANY, &[node, function(node, step)]));
+    let args = (0..2).flat_map(|argument| table::write(ARG, &[node, function(node, 4), argument]));
+    let variables =
+        |byte| (0..ACCESSED).flat_map(move |step| table::write(byte, &[node, variable(node, step)]));
+    any.chain(args).chain(variables(READ)).chain(variables(WRITE)).collect()
 }
 
 /// A node's handler.
@@ -55,20 +65,37 @@ fn handler(node: u32) -> Vec<u8> {
     table::write(BODY, &[node]).into_iter().chain(commands).collect()
 }
 
-/// The command at a position of a node's handler: the 11 kinds in turn.
+/// The command at a position of a node's handler: one that needs no permission, then one that does, by turns.
 fn handler_command(node: u32, position: u32) -> Vec<u8> {
-    let variable = (node + position) % VARIABLES;
-    match position % 11 {
-        0 => table::write(TAKE, &[]),
+    match position % 2 {
+        0 => plain_command(position),
+        _ => access(node, position / 2),
+    }
+}
+
+/// The seven kinds of commands that need no permission, in turn.
+fn plain_command(position: u32) -> Vec<u8> {
+    let turn = position / 2;
+    match turn % 7 {
+        0 => table::write(ADD, &[position * 77]),
         1 => table::write(SET, &[position * 1000]),
-        2 => table::write(GET, &[variable]),
-        3 => table::write(PUT, &[variable]),
-        4 => table::write(ADD, &[position * 77]),
-        5 => table::write(PLUS, &[variable]),
-        6 => table::write(JUMPZ, &[position]),
-        7 => table::write(JUMP, &[position + 1]),
-        8 => table::write(SEND, &[position % PORTS]),
-        9 => table::write(CALL, &[position % FUNCTIONS]),
+        2 => table::write(JUMPZ, &[position + 1]),
+        3 => table::write(JUMP, &[position + 1]),
+        4 => table::write(TAKE, &[]),
+        5 => table::write(SEND, &[turn % PORTS]),
         _ => table::write(SKIP, &[]),
+    }
+}
+
+/// The accesses of a node: writes and reads of its variables by turns, then a call of each of its functions. There are
+/// 31 of them; an ADD fills the last turn.
+fn access(node: u32, turn: u32) -> Vec<u8> {
+    let accessed = variable(node, turn / 2);
+    match turn {
+        0..=25 if turn % 2 == 0 => table::write(PUT, &[accessed]),
+        0..=25 if turn % 4 == 1 => table::write(GET, &[accessed]),
+        0..=25 => table::write(PLUS, &[accessed]),
+        26..=30 => table::write(CALL, &[function(node, turn - 26)]),
+        _ => table::write(ADD, &[turn]),
     }
 }

@@ -26,7 +26,7 @@ fn fingerprint(job: &[u8]) -> u64 {
 fn its_bytes_are_fixed() {
     let job = large::job();
     assert_eq!(job.len(), 9_447);
-    assert_eq!(fingerprint(&job), 0x976a_886c_0ce2_e7de);
+    assert_eq!(fingerprint(&job), 0xb46d_820c_bd0b_2f1e);
 }
 
 #[test]
@@ -64,6 +64,7 @@ fn every_handler_has_64_commands_of_all_kinds() {
     }
 }
 
+/// So that every permission is used.
 #[test]
 fn the_reference_accepts_it() {
     let Program { flows, nodes, variables, functions, turns, .. } =

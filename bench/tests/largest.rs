@@ -2,14 +2,14 @@
 
 use flow_bench::runs::{Bench, Engine};
 use flow_bench::{large, largest};
-use flow_reference::outcome::stop;
+use flow_reference::outcome::{kind, stop};
 use flow_reference::{decode, Mode};
 
-/// Stop and completed turns of its run by the second implementation.
-fn end(mode: Mode) -> (u64, u64) {
-    let [refusal, _, stop, turns, ..] = Bench::of(Engine::Reference, mode, largest::job(), 0).run();
+/// Stop, completed turns and the attempted entry's kind of its run by the second implementation.
+fn end(mode: Mode) -> [u64; 3] {
+    let [refusal, _, stop, turns, _, kind, ..] = Bench::of(Engine::Reference, mode, largest::job(), 0).run();
     assert_eq!(refusal, 0);
-    (stop, turns)
+    [stop, turns, kind]
 }
 
 #[test]
@@ -22,10 +22,10 @@ fn it_is_the_large_job_with_turns() {
 
 #[test]
 fn all_its_turns_complete_without_the_lists() {
-    assert_eq!(end(Mode::Unmonitored), (stop::TURNS_OUT.into(), 3_468));
+    assert_eq!(end(Mode::Unmonitored), [stop::TURNS_OUT.into(), 3_468, 0]);
 }
 
 #[test]
-fn monitored_it_stops_at_the_first_call() {
-    assert_eq!(end(Mode::Monitored), (stop::FORBIDDEN.into(), 10));
+fn monitored_it_stops_at_a_call_with_another_argument() {
+    assert_eq!(end(Mode::Monitored), [stop::FORBIDDEN.into(), 207, kind::CALL.into()]);
 }

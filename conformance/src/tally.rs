@@ -1,13 +1,15 @@
 //! Counts over many runs.
 
+use std::collections::BTreeSet;
 use std::fmt;
 
-/// Runs by refusal (0: none) and by stop, and those that differ.
+/// Runs by refusal (0: none) and by stop, the places of 19, and runs that differ.
 #[derive(Default)]
 pub struct Tally {
     runs: u64,
     turns: u64,
-    refusals: [u64; 16],
+    refusals: [u64; 20],
+    idle_places: BTreeSet<u64>,
     stops: [u64; 4],
     pub differences: u64,
 }
@@ -15,12 +17,14 @@ pub struct Tally {
 impl Tally {
     /// Counts a run with this answer.
     pub fn note(&mut self, answer: &[u64; 8], differs: bool) {
-        let [refusal, _, stop, turns, ..] = *answer;
+        let [refusal, place, stop, turns, ..] = *answer;
         self.runs += 1;
         self.turns += turns;
         self.refusals[refusal as usize] += 1;
-        if refusal == 0 {
-            self.stops[stop as usize] += 1;
+        match refusal {
+            0 => self.stops[stop as usize] += 1,
+            19 => drop(self.idle_places.insert(place)),
+            _ => {}
         }
         self.differences += u64::from(differs);
     }
@@ -34,10 +38,13 @@ fn list(counts: &[u64], first: usize) -> String {
 
 impl fmt::Display for Tally {
     fn fmt(&self, f: &mut fmt::Formatter) -> fmt::Result {
-        let Tally { runs, turns, refusals, stops, differences } = self;
-        // There is no 13 or 14.
-        let refusals = list(&refusals[1..=12], 1) + &list(&refusals[15..], 15);
-        let stops = list(stops, 0);
-        write!(f, "{runs} runs, {turns} turns, refusals{refusals}, stops{stops}, {differences} differences")
+        let Tally { runs, turns, refusals, idle_places, stops, differences } = self;
+        // There is no 13, 14, 16, 17 or 18.
+        let refusals = [list(&refusals[1..=12], 1), list(&refusals[15..=15], 15), list(&refusals[19..], 19)];
+        let (refusals, places, stops) = (refusals.concat(), idle_places.len(), list(stops, 0));
+        write!(
+            f,
+            "{runs} runs, {turns} turns, refusals{refusals} at {places} places, stops{stops}, {differences} differences"
+        )
     }
 }

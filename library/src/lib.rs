@@ -1,6 +1,6 @@
 //! Running a job, monitored or not, from Rust: the functions of the proved static library librun.a.
 //!
-//! Document 01, with requests S-1, S-5 and S-9 of document 02, says what a job is, what a run does and when a
+//! Document 01, with requests S-1, S-5, S-7 and S-9 of document 02, says what a job is, what a run does and when a
 //! job is refused; `include/leqsumir.h` says what the functions promise. The lengths below are enough for
 //! every job.
 
@@ -50,7 +50,7 @@ extern "C" {
 /// Runs a job and stops before the first turn whose entry its lists do not permit.
 ///
 /// The slices may have any length and hold anything before; one that is too short is a refusal, and
-/// a refusal changes none of them. The answer: refusal (0: the job ran; 1 to 12 or 15) and its place; stop
+/// a refusal changes none of them. The answer: refusal (0: the job ran; 1 to 12, 15 or 19) and its place; stop
 /// and completed turns; node, kind, number and value of the attempted entry.
 #[inline]
 pub fn run_monitored(job: &[u8], trace: &mut [u8], snapshot: &mut [u8], work: &mut [u8]) -> [u64; 8] {

@@ -1,6 +1,7 @@
 //! The program so far, while a job is read front to back.
 
 use crate::command::{Command, HandlerCommand};
+use crate::idle::Lists;
 use crate::program::{arg_key, Instruction, Node, Program, Reference, Scope, Variable};
 
 /// A jump, tested once all bodies are complete.
@@ -21,12 +22,14 @@ pub(crate) struct Builder {
     pub bodies: u32,
     /// Flows that have a START.
     pub started: u8,
+    pub lists: Lists,
     jumps: Vec<Jump>,
 }
 
 impl Builder {
     /// Takes in a command that passed every test.
     pub fn apply(&mut self, command: Command, place: usize) {
+        self.lists.note(command, self.body, place);
         let p = &mut self.program;
         match command {
             Command::Flow => p.flows += 1,

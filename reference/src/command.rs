@@ -22,6 +22,14 @@ pub enum Command {
     Turn { node: u8 },
 }
 
+impl Command {
+    /// Whether it permits something: ANY, ARG, READ, WRITE or SPAN.
+    pub fn is_permission(&self) -> bool {
+        use Command::*;
+        matches!(self, Any { .. } | Arg { .. } | Read { .. } | Write { .. } | Span(_))
+    }
+}
+
 #[derive(Clone, Copy, Debug, PartialEq, Eq)]
 pub enum HandlerCommand {
     Set(u32),

@@ -1,4 +1,4 @@
-//! Second implementation of the flow runner, written from the papers alone: 01, and S-1, S-5 and S-9 of 02.
+//! Second implementation of the flow runner, written from the papers alone: 01, and S-1, S-5, S-7 and S-9 of 02.
 //!
 //! `run` takes a job and three buffers; `Runner` steps through a decoded job turn by turn.
 
@@ -11,6 +11,7 @@ pub mod dirt;
 pub mod engine;
 pub mod generate;
 pub mod hex;
+mod idle;
 pub mod outcome;
 pub mod output;
 pub mod print;

@@ -25,15 +25,6 @@ fn verdicts(runs: &[Run]) -> Vec<Result<Program, Refusal>> {
     runs.iter().map(|run| decode(&run.job)).collect()
 }
 
-/// `accepted` or refusal and place, of the jobs of a family.
-fn verdicts_of(name: &str) -> Vec<String> {
-    let line = |verdict| match verdict {
-        Ok(_) => String::from("accepted"),
-        Err(Refusal { number, place }) => format!("refused {number} {place}"),
-    };
-    verdicts(&runs_of(name)).into_iter().map(line).collect()
-}
-
 /// The bytes at the places of each refusal.
 fn bytes_at_places(runs: &[Run]) -> BTreeMap<u8, BTreeSet<u8>> {
     let mut bytes: BTreeMap<u8, BTreeSet<u8>> = BTreeMap::new();
@@ -53,8 +44,8 @@ fn commands(holds: impl Fn(&Row) -> bool) -> BTreeSet<u8> {
 #[test]
 fn sizes() {
     let runs = all_runs();
-    assert_eq!(runs.len(), 7_105);
-    assert!(records(&runs).len() < 1_600_000);
+    assert_eq!(runs.len(), 7_705);
+    assert!(records(&runs).len() < 1_700_000);
     assert!(all_texts().len() < 2_000_000);
     assert!(runs.iter().all(|run| run.job.len() <= 16_400));
     let [trace, snapshot, work] = [0, 1, 2].map(|buffer| runs.iter().map(|run| run.lengths[buffer]).max());
@@ -83,6 +74,7 @@ fn every_command_of_each_refusal() {
     assert_eq!(bytes[&8], BTreeSet::from([REPLY, WIRE, ANY, ARG, READ, WRITE, SPAN, BODY, START]));
     assert_eq!(bytes[&9], BTreeSet::from([JUMP, JUMPZ]));
     assert_eq!(bytes[&15], BTreeSet::from([SPAN]));
+    assert_eq!(bytes[&19], BTreeSet::from([ANY, ARG, READ, WRITE, SPAN]));
 }
 
 #[test]
@@ -105,25 +97,6 @@ fn largest_counts_reached() {
     assert!(jobs().any(|job| job.len() == 16_385));
 }
 
-/// The largest places that refusals have in the longest jobs.
-#[test]
-fn ends_of_the_longest_jobs() {
-    let expected = [
-        "accepted",
-        "refused 1 0",
-        "refused 1 0",
-        "refused 1 0",
-        "refused 1 0",
-        "refused 5 8",
-        "refused 2 16383",
-        "refused 3 16383",
-        "refused 4 16383",
-        "refused 5 16382",
-        "refused 6 16382",
-    ];
-    assert_eq!(verdicts_of("lengths"), expected);
-}
-
 /// K1, K2 (K3 is its other mode), K4 to K11, then turns and nodes: each in both modes.
 #[test]
 fn worked_jobs() {
@@ -142,67 +115,6 @@ fn worked_jobs() {
     let counts = ["end 2 0 0 0 0 0", "refused 5 8194", "end 0 0 0 0 0 0", "refused 5 33"];
     assert_eq!(monitored, [&ran[..], &refused, &counts].concat());
     assert_eq!(end(&runs[3]), "end 0 9 0 0 0 0", "K3");
-}
-
-#[test]
-fn the_lowest_of_several_tests() {
-    for number in 2..=6 {
-        let mut lines = verdicts_of(&format!("{number} before others"));
-        if number == 2 {
-            // No commands of 01: a REPLY and a SPAN without operands now.
-            assert_eq!([lines.remove(4), lines.remove(2)], ["refused 3 52"; 2]);
-        }
-        let start = format!("refused {number} ");
-        assert!(lines.iter().all(|line| line.starts_with(&start)), "{number}: {lines:?}");
-    }
-}
-
-/// Early refusals by late ones; the early jump too far gives way to every late refusal.
-#[test]
-fn the_first_of_several_commands() {
-    let numbers: Vec<char> =
-        verdicts_of("first goes").iter().filter_map(|line| line.chars().nth(8)).collect();
-    let expected: Vec<String> =
-        ["2", "4", "5", "6", "7", "8"].map(|number| number.repeat(8)).into_iter().collect();
-    assert_eq!(numbers.into_iter().collect::<String>(), expected.concat() + "23456789");
-}
-
-/// The refusals of the jobs of a family, one after another; 0 for accepted ones.
-fn numbers_of(name: &str) -> Vec<u8> {
-    verdicts(&runs_of(name)).iter().map(|verdict| verdict.as_ref().map_or_else(|r| r.number, |_| 0)).collect()
-}
-
-/// Jobs about SPAN. Once: cut, with the most of ARG and SPAN, damaged. In both modes: groups, names, repeats, low and
-/// high, first goes.
-#[test]
-fn refusals_at_spans() {
-    let limits = [0, 5, 5, 5, 5, 5, 3, 8, 15, 5];
-    let damaged = [6, 6, 6, 6, 8, 8, 15, 15, 15, 15];
-    assert_eq!(numbers_of("spans once"), [&[3; 12][..], &limits, &damaged].concat());
-    let groups = [4, 4, 4, 4, 4, 4, 0];
-    let names = [0, 6, 6, 0, 6, 6, 6, 6, 6, 6, 6];
-    let repeats = [8, 8, 8, 8, 0, 0, 0, 0, 0, 0, 0, 0, 8];
-    let low_and_high = [0, 15].repeat(7);
-    let first_goes = [15, 15, 15, 15, 15, 15, 15, 15, 15, 7, 6, 8];
-    let jobs = [&groups[..], &names, &repeats, &low_and_high, &first_goes].concat();
-    assert_eq!(numbers_of("spans"), jobs.iter().flat_map(|&number| [number; 2]).collect::<Vec<u8>>());
-}
-
-/// Jobs about REPLY. Once: cut, with the most of them, beside other counts, damaged. In both modes: groups, between
-/// others, names, repeats, close by, first goes.
-#[test]
-fn refusals_at_replies() {
-    let limits = [0, 5, 5, 5, 5, 3, 4, 8, 6, 0, 5, 0, 5];
-    let beside = [0, 5, 5, 5, 0, 5];
-    let damaged = [3, 3, 5, 5, 5, 5, 5, 5, 6, 6, 6, 6, 8, 8, 8, 8];
-    assert_eq!(numbers_of("replies once"), [&[3; 11][..], &limits, &beside, &damaged].concat());
-    let groups = [4, 4, 4, 4, 4, 4, 4, 4, 4, 4, 0];
-    let between = [6, 0, 6, 6, 6, 0, 0, 0];
-    let names = [0, 6, 6, 0, 6, 6];
-    let [repeats, close_by] = [&[8; 11][..], &[0; 8]];
-    let first_goes = [6, 8, 8, 8, 6, 8, 8, 9, 6, 6, 15];
-    let jobs = [&groups[..], &between, &names, repeats, close_by, &first_goes].concat();
-    assert_eq!(numbers_of("replies"), jobs.iter().flat_map(|&number| [number; 2]).collect::<Vec<u8>>());
 }
 
 /// The changes in the order of their numbers.

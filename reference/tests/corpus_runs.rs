@@ -62,7 +62,7 @@ fn refusals_and_places() {
             places.entry(number).or_default().insert(place);
         }
     }
-    assert_eq!(counts.len(), 26, "1 to 12 and 15 in both modes: {counts:?}");
+    assert_eq!(counts.len(), 28, "1 to 12, 15 and 19 in both modes: {counts:?}");
     let least = |number| match number {
         1 => 8,
         15 => 15,
@@ -71,7 +71,7 @@ fn refusals_and_places() {
     assert!(counts.iter().all(|(&(number, _), &count)| count >= least(number)), "{counts:?}");
     assert_eq!(places[&1], BTreeSet::from([0]));
     assert!(places.range(2..=12).all(|(_, places)| places.len() >= 35), "{places:?}");
-    assert!(places[&15].len() >= 5, "{places:?}");
+    assert!(places[&15].len() >= 5 && places[&19].len() >= 35, "{places:?}");
 }
 
 /// How often the runs stop so, by mode, stop and kind of the attempted entry.
@@ -118,18 +118,6 @@ fn calls_beside_ranges() {
     let signs: String =
         monitored_ends("ranges").iter().map(|&(stop, _)| if stop == 1 { '-' } else { '+' }).collect();
     assert_eq!(signs, expected.concat());
-}
-
-/// A refusal at a REPLY, by 5, 6 and 8, goes before short buffers, by which the last job is refused.
-#[test]
-fn replies_beside_short_buffers() {
-    let number = |run: &Run| match run_dirty(&run.job, run.mode, run.lengths, run.seed).outcome {
-        Outcome::Refused(refusal) => refusal.number,
-        Outcome::Ran(_) => 0,
-    };
-    let numbers: Vec<u8> = runs_of("reply buffers").iter().map(number).collect();
-    let expected = [[5; 4], [6; 4], [8; 4], [0, 10, 11, 12]].concat();
-    assert_eq!(numbers, expected.iter().flat_map(|&number| [number; 2]).collect::<Vec<u8>>());
 }
 
 /// What a run sends, in order.
@@ -218,6 +206,9 @@ fn modes_seeds_and_pairs() {
         ("reply buffers", 16),
         ("answers", 60),
         ("reply pairs", 12),
+        ("idle", 100),
+        ("idle buffers", 18),
+        ("used pairs", 24),
     ] {
         let runs = runs_of(family);
         assert!(runs.chunks(2).all(both), "{family}");

@@ -43,6 +43,7 @@ fn full_counts_are_accepted() {
         let mut filled = 0;
         while filled < 5 {
             let mut plan = valid::medium(&mut random);
+            plan.drop_idle();
             if fill(&mut plan, &mut random, count).is_some() {
                 assert_eq!(decode(&plan.bytes()).err(), None, "{count:?}");
                 filled += 1;
@@ -50,6 +51,7 @@ fn full_counts_are_accepted() {
         }
     }
     let mut plan = valid::medium(&mut random);
+    plan.drop_idle();
     pad(&mut plan, &mut random, 16_384).unwrap();
     assert_eq!(plan.bytes().len(), 16_384);
     assert_eq!(decode(&plan.bytes()).err(), None);
@@ -60,8 +62,8 @@ fn stops_and_refusals_of_mixed_cases() {
     let mut stops = BTreeMap::new();
     let mut refusals = BTreeMap::new();
     let mut reasons = BTreeSet::new();
-    for index in 0..5_000 {
-        let case = case(7, index, Kind::Mixed, usize::MAX);
+    for index in 0..7_000 {
+        let case = case(17, index, Kind::Mixed, usize::MAX);
         let outcome = run_dirty(&case.job, case.mode, case.lengths, 0).outcome;
         if let Some((reason, refusal)) = case.damage {
             assert_eq!(outcome, Outcome::Refused(refusal), "{reason:?}");
@@ -79,7 +81,7 @@ fn stops_and_refusals_of_mixed_cases() {
     let expected: BTreeSet<(bool, u8)> = monitored.into_iter().chain(unmonitored).collect();
     assert_eq!(stops.keys().copied().collect::<BTreeSet<_>>(), expected);
     assert!(stops.values().all(|&count| count >= 100), "{stops:?}");
-    assert!(refusals.keys().copied().eq((1..=12).chain([15])), "{refusals:?}");
+    assert!(refusals.keys().copied().eq((1..=12).chain([15, 19])), "{refusals:?}");
     assert!(refusals.values().all(|&count| count >= 30), "{refusals:?}");
     let missing: Vec<Reason> = Reason::all().into_iter().filter(|reason| !reasons.contains(reason)).collect();
     assert!(missing.is_empty(), "{missing:?}");
@@ -320,7 +322,7 @@ fn jobs_without_newer_commands() {
         common::commands(&job).iter().map(|command| command[0]).collect()
     };
     let random = |index| Random::for_case(14, index);
-    assert_eq!([random(0).of_01(), random(0).without_replies(), random(0)].map(|r| missing(&r)), [13, 8, 0]);
+    assert_eq!([random(0).of_01(), random(0).without_replies(), random(0)].map(|r| missing(&r)), [26, 21, 0]);
     let mut spans = 0;
     for index in 0..300 {
         let [of_01, without] =

@@ -47,7 +47,7 @@ fn args() {
         full.extend([0x31, 0, 0]);
         full.extend(value.to_le_bytes());
     }
-    let program = decode(&full).unwrap();
+    let program = decode(&[&full[..], &[0x40, 0, 0x4A, 0]].concat()).unwrap();
     assert_eq!(program.args.len(), 256);
     let place = full.len();
     full.extend([0x31, 0, 0, 0xFF, 0xFF, 0, 0]);

@@ -1,4 +1,4 @@
-//! Refusals 1 to 9 by hand: number and place. `spans.rs` and `replies.rs` have those at SPAN and REPLY.
+//! Refusals 1 to 9 by hand: number and place. `spans.rs` and `replies.rs` have those at SPAN and REPLY, `idle.rs` has 19.
 
 mod common;
 
@@ -127,13 +127,14 @@ fn number_6_operands() {
 fn number_7() {
     refused_after_base("20 00 00 02", 7, 0);
     refused_after_base("20 02 03 01", 7, 0);
-    for permission in ["32", "33"] {
+    for (permission, access) in [("32", "43"), ("33", "44")] {
         refused_after_base(&format!("{permission} 00 00"), 7, 0);
         refused_after_base(&format!("{permission} 01 00"), 7, 0);
         refused_after_base(&format!("{permission} 00 02"), 7, 0);
         refused_after_base(&format!("{permission} 02 01"), 7, 0);
-        accepted_after_base(&format!("{permission} 00 01 {permission} 01 01 {permission} 02 02"));
-        accepted_after_base(&format!("{permission} 00 03 {permission} 02 03"));
+        let bodies = format!("40 00 {access} 01 {access} 03 40 01 {access} 01 40 02 {access} 02 {access} 03");
+        accepted_after_base(&format!("{permission} 00 01 {permission} 01 01 {permission} 02 02 {bodies}"));
+        accepted_after_base(&format!("{permission} 00 03 {permission} 02 03 {bodies}"));
     }
     for access in ["43", "44", "46"] {
         refused_after_base(&format!("40 01 {access} 00"), 7, 2);
@@ -149,10 +150,11 @@ fn number_8() {
     accepted_after_base("20 00 00 01 20 00 01 01 20 00 00 00 20 01 00 01");
     refused_after_base("30 00 00 30 00 00", 8, 3);
     refused_after_base("31 00 00 05 00 00 00 30 00 00 31 00 00 05 00 00 00", 8, 10);
-    accepted_after_base("31 00 00 05 00 00 00 31 00 00 06 00 00 00 31 01 00 05 00 00 00 30 00 00");
+    let args = "31 00 00 05 00 00 00 31 00 00 06 00 00 00 31 01 00 05 00 00 00";
+    accepted_after_base(&format!("{args} 30 00 00 40 00 4A 00 40 01 4A 00"));
     refused_after_base("32 00 01 32 00 01", 8, 3);
     refused_after_base("33 00 01 32 00 01 33 00 01", 8, 6);
-    accepted_after_base("32 00 01 33 00 01");
+    accepted_after_base("32 00 01 33 00 01 40 00 43 01 44 01");
     refused_after_base("40 00 40 01 40 00", 8, 4);
     refused_after_base("50 00 01 00 00 00 50 00 02 00 00 00", 8, 6);
     refused_after_base("50 00 01 00 00 00 50 01 01 00 00 00", 8, 6);

@@ -2,10 +2,10 @@
 
 mod common;
 
-use common::{bytes, run_dirty, MODES};
+use common::{bytes, refusal, MODES};
 use flow_reference::print::print;
 use flow_reference::table::write;
-use flow_reference::{decode, Mode, Outcome, Refusal};
+use flow_reference::Mode;
 
 const MAX: u32 = u32::MAX;
 
@@ -20,23 +20,6 @@ fn reply(function: u32, argument: u32, answer: u32) -> Vec<u8> {
 /// These bytes behind the declarations.
 fn behind_base(rest: &[&[u8]]) -> Vec<u8> {
     [bytes(BASE), rest.concat()].concat()
-}
-
-/// What both runs say to the job, whatever their buffers: none if they accept it.
-fn refusal(job: &[u8]) -> Option<(u8, usize)> {
-    let refusal = decode(job).err();
-    for (mode, lengths) in MODES.into_iter().flat_map(|mode| [(mode, [28_672, 2_624, 4_096]), (mode, [0; 3])])
-    {
-        let outcome = run_dirty(job, mode, lengths, 0x5A).outcome;
-        match refusal {
-            Some(refusal) => assert_eq!(outcome, Outcome::Refused(refusal)),
-            None if lengths[1] == 0 => {
-                assert!(matches!(outcome, Outcome::Refused(Refusal { number: 10.., .. })))
-            }
-            None => assert!(matches!(outcome, Outcome::Ran(_))),
-        }
-    }
-    refusal.map(|Refusal { number, place }| (number, place))
 }
 
 fn refused(rest: &[&[u8]], number: u8, offset: usize) {
@@ -187,7 +170,7 @@ fn a_count_of_its_own() {
     let functions = bytes("11 03 00 00 00").repeat(30);
     let list: Vec<u8> = (0..256).flat_map(|number| write(0x31, &[1, 1, number])).collect();
     let full = [most(), variables, functions].concat();
-    accepted(&[&full, &list]);
+    accepted(&[&full, &list, &bytes("40 01 4A 01")]);
     refused(&[&full, &bytes("10 02 00 05 00 00 00")], 5, full.len());
     refused(&[&full, &bytes("11 03 00 00 00")], 5, full.len());
     refused(&[&full, &reply(31, 7, 5)], 5, full.len());

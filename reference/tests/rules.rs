@@ -91,10 +91,11 @@ fn plus_shows_the_variable_and_own_variables_show_nothing() {
 
 #[test]
 fn a_call_is_judged_by_function_and_argument() {
+    // The last two calls are not made; they use permissions that the first does not.
     let head = |permissions: &str| {
         format!(
             "01 02 02 11 08 00 00 00 11 09 00 00 00 {permissions}
-             40 00 42 4A 01 50 00 07 00 00 00 60 00 60 00 60 00"
+             40 00 42 4A 01 4A 00 40 01 4A 01 50 00 07 00 00 00 60 00 60 00 60 00"
         )
     };
     let permitted = "0 1 0 7\n0 0 0 0\n0 5 1 7\nend 0 3 0 0 0 0\nnode 0 2 9 7 0\nnode 1 255 0 0 0\n";

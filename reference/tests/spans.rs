@@ -2,11 +2,11 @@
 
 mod common;
 
-use common::{bytes, run_dirty, MODES};
+use common::{bytes, refusal, run_dirty, MODES};
 use flow_reference::print::print;
 use flow_reference::table::{write, ARG, SPAN};
 use flow_reference::Mode::{Monitored, Unmonitored};
-use flow_reference::{decode, Outcome, Refusal};
+use flow_reference::{Outcome, Refusal};
 
 const MAX: u32 = u32::MAX;
 
@@ -23,31 +23,22 @@ fn behind_base(rest: &[&[u8]]) -> Vec<u8> {
     [bytes(BASE), rest.concat()].concat()
 }
 
-/// What both runs say to the job: none if they accept it.
-fn refusal(job: &[u8]) -> Option<(u8, usize)> {
-    let [monitored, unmonitored] =
-        MODES.map(|mode| match run_dirty(job, mode, [28_672, 2_624, 4_096], 0x5A).outcome {
-            Outcome::Refused(Refusal { number, place }) => Some((number, place)),
-            Outcome::Ran(_) => None,
-        });
-    assert_eq!(monitored, unmonitored);
-    assert_eq!(decode(job).err(), monitored.map(|(number, place)| Refusal { number, place }));
-    monitored
-}
-
 fn refused(rest: &[&[u8]], number: u8, offset: usize) {
     assert_eq!(refusal(&behind_base(rest)), Some((number, LENGTH + offset)), "{rest:?}");
 }
 
+/// Accepted, if both nodes call both functions.
 fn accepted(rest: &[&[u8]]) {
-    assert_eq!(refusal(&behind_base(rest)), None, "{rest:?}");
+    let calls = bytes("40 00 4A 00 4A 01 40 01 4A 00 4A 01");
+    assert_eq!(refusal(&behind_base(&[&rest.concat(), &calls])), None, "{rest:?}");
 }
 
 /// Node 0 calls function 1 with the argument. Whether the monitored run lets it; else it stops there, and shows the
-/// argument. The unmonitored run makes the call.
+/// argument. The unmonitored run makes the call. Other calls, which use other permissions, are not made.
 fn permits(permissions: &[&[u8]], argument: u32) -> bool {
     let start = write(0x50, &[0, argument]);
-    let job = behind_base(&[&permissions.concat(), &bytes("40 00 42 4A 01"), &start, &[0x60, 0].repeat(3)]);
+    let handlers = bytes("40 00 42 4A 01 4A 00 40 01 4A 00 4A 01");
+    let job = behind_base(&[&permissions.concat(), &handlers, &start, &[0x60, 0].repeat(3)]);
     let made = format!(
         "0 1 0 {argument}\n0 0 0 0\n0 5 1 {argument}\nend 0 3 0 0 0 0\nnode 0 2 9 {argument} 0\nnode 1 255 0 0 0\n"
     );

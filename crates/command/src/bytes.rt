@@ -52,6 +52,9 @@ pub const START: u8 = 0x50;
 
 pub const TURN: u8 = 0x60;
 
+// The group of the permissions.
+pub const PERMISSION_GROUP: u8 = 3;
+
 // The group of BODY and the handler commands; no later group has a command of a handler.
 pub const HANDLER_GROUP: u8 = 4;
 

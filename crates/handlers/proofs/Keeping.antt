@@ -1,5 +1,5 @@
 -- Loading by a loop over the commands of an accepted job: what the loop keeps.
-use Prim.Native.Nat.{ℕ, suc, _+_, _≤_, _<_}
+use Prim.Native.Nat.{ℕ, _+_, _≤_, _<_}
 use mathlib.Core.Path.{_≡_, refl, sym, ap, _∙_}
 use mathlib.Core.Bool.{Bool, true, false, cond, _&&_}
 use mathlib.Core.List.{List, [], _∷_}
@@ -10,11 +10,10 @@ use borrow.Author.Tests.{eqb-true, eq-eqb, le-leb, lt-leb}
 use Rattle.model.specs.Table.{BODY, SET, SKIP, groupOf}
 use Rattle.model.specs.Command.{Command, is, whole, readCommand}
 use Rattle.model.specs.Declared.{isHandler, openBody, bodyLength}
-use Rattle.model.specs.Refusal.{Decoded, accepted, rejected, decodeFrom, decodeJob}
+use Rattle.model.specs.Refusal.{Decoded, accepted, rejected, decodeJob}
 use Rattle.model.specs.Valid.{Valid}
 use Rattle.model.proofs.Reading.{read-at}
-use Rattle.model.proofs.Decoding.{decode-end, fuel-left}
-use Rattle.model.proofs.Scanning.{accepted-from, Passing, passing, stays-from}
+use Rattle.model.proofs.Scanning.{Scanning, scanning-start, scanning-end, scanning-reads, scanning-passes, scanning-on, scanning-behind}
 use Rattle.model.proofs.Retracing.{read-accepted}
 use Rattle.model.proofs.Growth.{open-next, body-next}
 use Rattle.model.proofs.Naming.{body-fresh}
@@ -41,9 +40,7 @@ loaded-above w past c above = rw (le-leb SET (c .byte) (omega arith), lt-leb (c 
 -- the commands before a place are loaded: `w` are the bytes at the start, `u` those now
 pub record Keeping (job : List ℕ) (all : List Command) (w u : List ℕ) (place opened index : ℕ) : Type 0 where
   pub past : List Command
-  pub fuel : ℕ
-  pub enough : length job ≤ place + fuel
-  pub goesOn : decodeFrom fuel job place past ≡ accepted all
+  pub scanning : Scanning job all place past
   pub valid : Valid past
   pub open-node : opened ≡ openBody past
   pub position : index ≡ bodyLength past (openBody past)
@@ -54,9 +51,7 @@ unfolding openBody bodyLength loaded
 keeping-start job all w e =
     record {
       past = [];
-      fuel = length job;
-      enough = omega arith;
-      goesOn = accepted-from job all (read-accepted job all (job-accepted job all e .read));
+      scanning = scanning-start job all (read-accepted job all (job-accepted job all e .read));
       valid = tt;
       open-node = refl;
       position = refl;
@@ -65,10 +60,7 @@ keeping-start job all w e =
 
 module _ {job : List ℕ} {all : List Command} {w u : List ℕ} {place opened index : ℕ} (k : Keeping job all w u place opened index) where
   pub keeping-end : length job ≤ place → u ≡ loaded w all
-  keeping-end h =
-      let z = sym (decode-end (k .fuel) job place (k .past) h) ∙ k .goesOn in
-      let q : k .past ≡ all = cc in
-      k .same ∙ rw q
+  keeping-end h = k .same ∙ ap (loaded w) (scanning-end (k .scanning) h)
 
   -- the length stays
   pub keeping-length : length u ≡ length w
@@ -79,23 +71,13 @@ module _ {job : List ℕ} {all : List Command} {w u : List ℕ} {place opened in
   keeping-position = omega (arith, k .position, limits (k .past) (k .valid) .handlers (openBody (k .past)))
 
   module _ (h : place < length job) where
-    left : (f : ℕ) × Passing f job place (k .past) all × (k .fuel ≡ suc f)
-    left = let f = fuel-left job place (k .fuel) h (k .enough) in
-        (f .0, passing (f .0) job place (k .past) all h (rw (f .1) at (k .goesOn)), f .1)
-
     -- a whole command is read
     pub keeping-reads : {A : Type 0} (p : HeadParsed) → headOf p ≡ headIn (readCommand job place) → p ≡ heads.Refused → A
-    keeping-reads p same e = head-there job place p same (left .1 .command) (left .1 .next) (left .1 .isRead) e
+    keeping-reads p same e = let r = scanning-reads (k .scanning) h in head-there job place p same (r .0) (r .1) (r .2) e
 
     module _ (c : Command) (next : ℕ) (read : readCommand job place ≡ whole c next) where
-      again : left .1 .command ≡ c
-      again = let e = sym (left .1 .isRead) ∙ read in cc
-
-      behind : left .1 .next ≡ next
-      behind = let e = sym (left .1 .isRead) ∙ read in cc
-
       more : Valid (c ∷ k .past)
-      more = (k .valid, read-at job place c next read .plain, rw again at (left .1 .passes))
+      more = (k .valid, read-at job place c next read .plain, scanning-passes (k .scanning) h c next read)
 
       -- the position in the handler that is open after the command
       next-position :
@@ -133,13 +115,9 @@ module _ {job : List ℕ} {all : List Command} {w u : List ℕ} {place opened in
       unfolding loaded
       keeping-on byte first b a x o i e f g =
           let r = read-at job place c next read in
-          let m = left .2 in
-          let n = k .enough in
           record {
             past = c ∷ k .past;
-            fuel = left .0;
-            enough = omega (arith, r .later);
-            goesOn = rw (again, behind) at (left .1 .goesOn);
+            scanning = scanning-on (k .scanning) h c next read;
             valid = more;
             open-node = g ∙ rw (b, a, k .open-node, open-next c (k .past));
             position = f ∙ rw (b, k .position) next-position;
@@ -149,6 +127,4 @@ module _ {job : List ℕ} {all : List Command} {w u : List ℕ} {place opened in
       -- no handler command stands behind a command of a group above 4
       pub keeping-behind : 4 < groupOf (c .byte) → u ≡ loaded w all
       keeping-behind above =
-          k .same
-          ∙ sym (stays-from (loaded w) 4 (loaded-above w) job all (left .0) place (k .past) h (rw (left .2) at (k .goesOn)) c next read
-          above)
+          k .same ∙ sym (scanning-behind (k .scanning) h c next read (loaded w) 4 (loaded-above w) above)

@@ -16,11 +16,12 @@ use Rattle.command.specs.Reading.{commandOf, refusalOf, refusalAt}
 use Rattle.tables.specs.Cells.{blank}
 use Rattle.tables.specs.Stands.{Stands}
 use Rattle.tables.proofs.Blank.{stands-blank}
+use Rattle.uses.specs.Uses.{Uses}
 use Rattle.job.specs.declared.walk.Continuation.{Continuation}
 use Rattle.job.specs.declared.walk.Continuation.the-variants as s
 use Rattle.job.specs.declared.Verdict.the-variants as v
-use Rattle.job.specs.Decoding.{Onward, Continues, Verdicts}
-use Rattle.job.proofs.Judged.{accepts, refuses}
+use Rattle.job.specs.Decoding.{Onward, Continues, Walks}
+use Rattle.job.proofs.Judged.{walk-accepts, walk-refuses}
 
 module _ (job : List ℕ) (place : ℕ) (inside : place < length job) (past : List Command) where
   -- 2 and 3
@@ -46,12 +47,14 @@ module _ (job : List ℕ) (place : ℕ) (inside : place < length job) (past : Li
     pub step-valid : (k : ℕ) → k ≡ violation past (commandOf c) → k ≡ 0 → Valid past → Valid (commandOf c ∷ past)
     step-valid k v z valid = (valid, read-plain, sym v ∙ z)
 
-    pub step-on : (t : List ℕ) → Stands t (commandOf c ∷ past) → Valid (commandOf c ∷ past) → Onward job place past t next
-    step-on t stands valid =
+    pub step-on : (t u : List ℕ) → Stands t (commandOf c ∷ past) → Uses u (commandOf c ∷ past) → Valid (commandOf c ∷ past)
+        → Onward job place past t u next
+    step-on t u stands uses valid =
         let r = read-at job place (commandOf c) next read in
         record {
           command = commandOf c;
           stands = stands;
+          uses = uses;
           valid = valid;
           later = r .later;
           inside = r .inside;
@@ -59,27 +62,28 @@ module _ (job : List ℕ) (place : ℕ) (inside : place < length job) (past : Li
         }
 
 -- a step, by the code's answer
-pub steps-next : (job : List ℕ) (place : ℕ) (past : List Command) (t : List ℕ) (r : Continuation) (next : ℕ) → Continues job place past t r
-    → r ≡ s.Next next → Onward job place past t next
-steps-next job place past t r next h e = rw e at h
+module _ (job : List ℕ) (place : ℕ) (past : List Command) (t u : List ℕ) (r : Continuation) (continues : Continues job place past t u r)
+  where
+    pub steps-next : (next : ℕ) → r ≡ s.Next next → Onward job place past t u next
+    steps-next next e = rw e at continues
 
-pub steps-stop : (job : List ℕ) (place : ℕ) (past : List Command) (t : List ℕ) (r : Continuation) (q : Refusal)
-    → Continues job place past t r → r ≡ s.Refused q → (fuel : ℕ) → decodeFrom (suc fuel) job place past ≡ rejected (refusalOf q)
-steps-stop job place past t r q h e = rw e at h
+    pub steps-stop : (q : Refusal) → r ≡ s.Refused q → (fuel : ℕ) → decodeFrom (suc fuel) job place past ≡ rejected (refusalOf q)
+    steps-stop q e = rw e at continues
 
 -- what the loop keeps
-pub record Going (job t : List ℕ) (place : ℕ) : Type 0 where
+pub record Going (job t u : List ℕ) (place : ℕ) : Type 0 where
   pub past : List Command
   pub fuel : ℕ
   pub inside : place ≤ length job
   pub enough : length job ≤ place + fuel
   pub goesOn : decodeFrom fuel job place past ≡ decode job
   pub stands : Stands t past
+  pub uses : Uses u past
   pub valid : Valid past
   pub short : length past ≤ place
 
-pub going-start : (job t : List ℕ) → ¬ (length job ≡ 0) → length job ≤ 16384 → t ≡ blank → Going job t 0
-going-start job t n l e =
+pub going-start : (job t u : List ℕ) → ¬ (length job ≡ 0) → length job ≤ 16384 → t ≡ blank → Uses u [] → Going job t u 0
+going-start job t u n l e uses =
     let d = decoding-start job n l in
     record {
       past = [];
@@ -88,24 +92,25 @@ going-start job t n l e =
       enough = d .enough;
       goesOn = d .goesOn;
       stands = rw e stands-blank;
+      uses = uses;
       valid = tt;
       short = omega arith;
     }
 
-module _ (job t : List ℕ) (place : ℕ) (g : Going job t place) where
-  pub going-end : length job ≤ place → Verdicts (decode job) t v.Accepted
-  going-end h = accepts (decode job) t (g .past) (sym (g .goesOn) ∙ decode-end (g .fuel) job place (g .past) h) (g .stands)
+module _ (job t u : List ℕ) (place : ℕ) (g : Going job t u place) where
+  pub going-end : length job ≤ place → Walks (decode job) t u v.Accepted
+  going-end h = walk-accepts (decode job) t u (g .past) (sym (g .goesOn) ∙ decode-end (g .fuel) job place (g .past) h) (g .stands) (g .uses)
 
   module _ (h : place < length job) where
     left : (f : ℕ) × (decodeFrom (suc f) job place (g .past) ≡ decode job) × (g .fuel ≡ suc f)
     left = let f = fuel-left job place (g .fuel) h (g .enough) in (f .0, rw (f .1) at (g .goesOn), f .1)
 
-    pub going-stop : (u : List ℕ) (r : Refusal) → ((fuel : ℕ) → decodeFrom (suc fuel) job place (g .past) ≡ rejected (refusalOf r))
-        → Verdicts (decode job) u (v.Refused r)
-    going-stop u r e = refuses (decode job) u r (sym (left .1) ∙ e (left .0))
+    pub going-stop : (t₁ u₁ : List ℕ) (r : Refusal) → ((fuel : ℕ) → decodeFrom (suc fuel) job place (g .past) ≡ rejected (refusalOf r))
+        → Walks (decode job) t₁ u₁ (v.Refused r)
+    going-stop t₁ u₁ r e = walk-refuses (decode job) t₁ u₁ r (sym (left .1) ∙ e (left .0))
 
-    pub going-on : (u : List ℕ) (next : ℕ) → Onward job place (g .past) u next → Going job u next
-    going-on u next o =
+    pub going-on : (t₁ u₁ : List ℕ) (next : ℕ) → Onward job place (g .past) t₁ u₁ next → Going job t₁ u₁ next
+    going-on t₁ u₁ next o =
         let f = left .2 in
         let m = g .enough in
         let n = g .short in
@@ -116,6 +121,7 @@ module _ (job t : List ℕ) (place : ℕ) (g : Going job t place) where
           enough = omega (arith, o .later);
           goesOn = sym (o .same (left .0)) ∙ left .1;
           stands = o .stands;
+          uses = o .uses;
           valid = o .valid;
           short = omega (arith, o .later);
         }

@@ -1,6 +1,6 @@
-// The tests of a job: the walk over all commands, the jumps, the buffers; and the turns of an accepted job.
+// The tests of a job: the walk over all commands, the jumps and the unused permissions, the buffers; and the turns of an accepted job.
 pub mod buffers;
-mod jumps;
+mod later;
 pub mod schedule;
 mod walk;
 
@@ -10,7 +10,7 @@ ghost use Rattle.model.specs.Refusal.{decodeJob};
 ghost use Rattle.tables.specs.Cells.{cellCount};
 ghost use Rattle.job.specs.Decoding.{Verdicts, Decides};
 use command::refusal::Refusal;
-use jumps::check_jumps;
+use later::check_later;
 use tables::cells::CELLS;
 use tables::cells::clear;
 use walk::walk;
@@ -21,15 +21,16 @@ pub enum Verdict {
     Refused(Refusal),
 }
 
-// The tests 1 to 9 and 15: the verdict, and the tables of an accepted job.
+// The tests 1 to 9, 15 and 19: the verdict, and the tables of an accepted job.
 fn judge_commands(job: &[u8], tables: &mut [u32]) -> Verdict
     requires { ⌜ length (now tables) ≡ cellCount ⌝ }
     ensures { λ r. ⌜ Verdicts (decodeJob (now (job .entry))) (now (tables .exit)) r ⌝ }
 {
-    let walked = walk(job, tables);
+    let mut uses = [0; uses::CELLS];
+    let walked = walk(job, tables, &mut uses);
     match walked {
         Verdict::Refused(r) => Verdict::Refused(r),
-        Verdict::Accepted => check_jumps(job, tables),
+        Verdict::Accepted => check_later(job, tables, &uses),
     }
 }
 

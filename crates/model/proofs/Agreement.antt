@@ -2,8 +2,8 @@
 use mathlib.Core.Path.{refl}
 use Rattle.model.specs.Table.{operandsIn, operandsOf, isAmong, largestIn, largestOf}
 use Rattle.model.specs.Command.{numberAt, readCommand}
-use Rattle.model.specs.Declared.{countOf, countAmong, occurs, inSpan, declared, replyOf, openBody, bodyLength, handlerOf, startsOf}
-use Rattle.model.specs.Declared.{startedIn, turnsOf}
+use Rattle.model.specs.Declared.{countOf, countAmong, occurs, inSpan, declared, replyOf, openBody, bodyLength, handlerOf, has}
+use Rattle.model.specs.Declared.{startsOf, startedIn, turnsOf}
 use Rattle.model.specs.Program.{programOf}
 use Rattle.model.specs.State.{tabulate, initialState}
 use Rattle.model.specs.Turn.{someBelow, delivered, turn}
@@ -15,13 +15,13 @@ use Rattle.model.specs.Result.{report, monitored, unmonitored}
 use Rattle.model.specs.Examples.{outcome, enough, monitoredRow, unmonitoredRow, times, k1, k1Read, k7, four, traced, nodePart}
 use Rattle.model.specs.Examples.{idleNode, ends, noEntry, k1First, k1Last, examples, ExamplesHold}
 use Rattle.model.specs.Readings.{within, nodes, global, turns, orderRows, variable, undeclaredRows, sightRows, declaredRows, turnRows}
-use Rattle.model.specs.Readings.{callingOf, calling, span, arg, answered, called, forbidden, spanRows, reply, any, replies, replyRows}
-use Rattle.model.specs.Readings.{ReadingsHold}
+use Rattle.model.specs.Readings.{callingThen, callingOf, calling, span, arg, answered, called, forbidden, spanRows, reply, any}
+use Rattle.model.specs.Readings.{replies, replyRows, read, write, handling, rests, unusedRows, ReadingsHold}
 
 rows-hold : ExamplesHold × ReadingsHold
 unfolding operandsIn operandsOf isAmong largestIn largestOf
     numberAt readCommand
-    countOf countAmong occurs inSpan declared replyOf openBody bodyLength handlerOf startsOf startedIn turnsOf
+    countOf countAmong occurs inSpan declared replyOf openBody bodyLength handlerOf has startsOf startedIn turnsOf
     programOf tabulate initialState
     someBelow delivered turn monitoredTurn
     runFrom unmonitoredRun monitoredRun
@@ -31,8 +31,9 @@ unfolding operandsIn operandsOf isAmong largestIn largestOf
     outcome enough monitoredRow unmonitoredRow times four traced nodePart idleNode ends noEntry
     k1 k1Read k7 k1First k1Last examples
     within nodes global turns orderRows variable undeclaredRows sightRows declaredRows turnRows
-    callingOf calling span arg answered called forbidden spanRows
+    callingThen callingOf calling span arg answered called forbidden spanRows
     reply any replies replyRows
+    read write handling rests unusedRows
 rows-hold = (refl, refl)
 
 -- K1 to K11, and 32 and 33 nodes

@@ -3,7 +3,7 @@ use Prim.Native.Nat.{ℕ, zero, suc, _+_, _≤_, _<_, zero-le}
 use mathlib.Core.Path.{_≡_, refl, ap, _∙_}
 use mathlib.Core.Bool.{Bool, true, false, cond, _&&_, or-false}
 use mathlib.Core.List.{List, [], _∷_, _++_}
-use mathlib.Core.Option.{Option, none, some}
+use mathlib.Core.Option.{none, some}
 use native.Mathlib.Omega.{arith}
 use lib.Dec.{leb, ltb, eqb}
 use lib.ListN.{length, getD, length-append, List·getD-append}
@@ -14,17 +14,17 @@ use Rattle.model.specs.Table.{largestIn, largestOf, maxTurns, maxJob}
 use Rattle.model.specs.Command.{Command, binary, numberAt, firstAt, secondAt, thirdAt, fourthAt, endAt, commandAt, whole}
 use Rattle.model.specs.Command.{readCommand}
 use Rattle.model.specs.Declared.{countOf, bodyLength}
-use Rattle.model.specs.Refusal.{anyOf, violation, Refusal, refuse, accepted, rejected, decodeFrom, decode, firstOf, refuseFirst}
-use Rattle.model.specs.Refusal.{isFarJump, farJump, decodeJob}
+use Rattle.model.specs.Refusal.{anyOf, violation, refuse, accepted, rejected, decodeFrom, decode, refuseFirst}
+use Rattle.model.specs.Refusal.{isFarJump, farJump, isUnused, unusedPermission, decodeJob}
 use Rattle.model.specs.Valid.{Valid}
 use Rattle.model.proofs.Logic.{and-left, and-right}
 use Rattle.model.proofs.Reading.{read-at, read-whole, number-one, number-none}
 use Rattle.model.proofs.Valid.{decoded-valid, job-accepted}
-use Rattle.model.proofs.Growth.{among-one, highestGroup, group-falls}
+use Rattle.model.proofs.Growth.{among-one, highestGroup, group-falls, handler-other}
 use Rattle.model.proofs.Decoding.{Decoding, decoding-start, decoding-on, decoding-end, decoding-refused}
 use Rattle.model.proofs.Results.{decode-job-accepted}
 use Rattle.model.proofs.Retracing.{read-accepted}
-use Rattle.model.proofs.Scanning.{passing, accepted-from}
+use Rattle.model.proofs.Scanning.{first-of-none, passing, accepted-from}
 
 -- bytes after a job change nothing that is read inside it
 number-prefix : (job extra : List ℕ) (at w : ℕ) → at + w ≤ length job → numberAt (job ++ extra) at w ≡ numberAt job at w
@@ -156,14 +156,25 @@ module _ (job : List ℕ) (past : List Command) (e : decode job ≡ accepted pas
       (violation-turn past (decoded-valid job past e) (length job) n h ∙ rw (le-leb maxTurns (countOf TURN past) l))
       (λ z. omega arith)
 
--- a TURN is no jump and stands in no body, so test 9 stays as it was
-first-of-none : (o : Option Refusal) → firstOf o none ≡ o
-first-of-none none = refl
-first-of-none (some r) = refl
-
+-- a TURN is no jump and no permission and stands in no body, so the tests 9 and 19 stay as they were
 far-jump-turn : (past : List Command) (place n : ℕ) → farJump (turnAt place n ∷ past) ≡ farJump past
 unfolding refuseFirst bodyLength
 far-jump-turn past place n = first-of-none (refuseFirst 9 (isFarJump past) past)
+
+-- two tests that find the same
+refuse-same :
+    (k : ℕ) (test other : List Command → Command → Bool) → ((past : List Command) (c : Command) → test past c ≡ other past c)
+    → (past : List Command) → refuseFirst k test past ≡ refuseFirst k other past
+unfolding refuseFirst
+refuse-same k test other same [] = refl
+refuse-same k test other same (c ∷ past) = rw (refuse-same k test other same past, same past c)
+
+unused-turn : (past : List Command) (place n : ℕ) → unusedPermission (turnAt place n ∷ past) ≡ unusedPermission past
+unfolding refuseFirst anyOf
+unused-turn past place n =
+    first-of-none (refuseFirst 19 (isUnused (turnAt place n ∷ past)) past)
+    ∙ refuse-same 19 (isUnused (turnAt place n ∷ past)) (isUnused past)
+    (λ before c. rw (handler-other past (turnAt place n) (c .operands .first) refl)) past
 
 -- one turn more after an accepted job
 pub turn-appended :
@@ -174,4 +185,4 @@ turn-appended job past e n h room l =
     let a = job-accepted job past e in
     let d = read-accepted job past (a .read) in
     decode-job-accepted (job ++ (TURN ∷ n ∷ [])) (turnAt (length job) n ∷ past) (turn-accepted job past d n h room l)
-    (far-jump-turn past (length job) n ∙ a .jumps)
+    (far-jump-turn past (length job) n ∙ a .jumps) (unused-turn past (length job) n ∙ a .permissions)

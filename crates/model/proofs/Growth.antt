@@ -8,10 +8,11 @@ use native.Mathlib.Omega.{arith}
 use lib.Dec.{ltb, eqb}
 use lib.ListN.{length}
 use borrow.Author.Tests.{ltb-true, ltb-false, lt-ltb, le-ltb, eq-eqb, ne-eqb}
-use Rattle.model.specs.Table.{BODY, START, TURN, groupOf}
+use Rattle.model.specs.Table.{BODY, START, TURN, groupOf, isAmong}
 use Rattle.model.specs.Command.{Operands, Command, is}
-use Rattle.model.specs.Declared.{countOf, countAmong, declared, belongs, bodyLength, instruction, handlerOf, turnsOf, only, isSame}
-use Rattle.model.specs.Declared.{isReply, replyOf, occurs, spanPermits, inSpan, flowOf, openBody, startsOf, startedIn}
+use Rattle.model.specs.Declared.{Instruction, countOf, countAmong, declared, belongs, bodyLength, instruction, handlerOf, has}
+use Rattle.model.specs.Declared.{turnsOf, only, isSame, isReply, replyOf, occurs, spanPermits, inSpan, flowOf, openBody}
+use Rattle.model.specs.Declared.{startsOf, startedIn}
 use Rattle.model.specs.Refusal.{groupFalls}
 use Rattle.model.proofs.Lists.{length-only}
 
@@ -112,6 +113,27 @@ handler-new past c n e = rw e
 pub handler-other : (past : List Command) (c : Command) (n : ℕ) → belongs past c n ≡ false → handlerOf (c ∷ past) n ≡ handlerOf past n
 unfolding handlerOf
 handler-other past c n e = rw (e, append-nil)
+
+-- what a handler has, with a command more
+has-more : (bytes : List ℕ) (x : ℕ) (t : Bool) (i : Instruction) (handler : List Instruction)
+    → has bytes x (handler ++ only t i) ≡ ((t && (isAmong (i .byte) bytes && eqb (i .operand) x)) || has bytes x handler)
+unfolding has
+has-more bytes x true i [] = refl
+has-more bytes x false i [] = refl
+has-more bytes x t i (j ∷ handler) =
+    rw (has-more bytes x t i handler)
+    (exchange (isAmong (j .byte) bytes && eqb (j .operand) x) (t && (isAmong (i .byte) bytes && eqb (i .operand) x)) (has bytes x handler))
+  where
+    exchange : (p q r : Bool) → (p || (q || r)) ≡ (q || (p || r))
+    exchange true true r = refl
+    exchange true false r = refl
+    exchange false q r = refl
+
+pub has-next : (bytes : List ℕ) (x : ℕ) (past : List Command) (c : Command) (n : ℕ)
+    → has bytes x (handlerOf (c ∷ past) n)
+    ≡ ((belongs past c n && (isAmong (c .byte) bytes && eqb (c .operands .first) x)) || has bytes x (handlerOf past n))
+unfolding handlerOf
+has-next bytes x past c n = has-more bytes x (belongs past c n) (instruction (c .byte) (c .operands .first)) (handlerOf past n)
 
 -- as many turns as TURN commands
 pub length-turns : (past : List Command) → length (turnsOf past) ≡ countOf TURN past

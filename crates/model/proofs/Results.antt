@@ -1,9 +1,9 @@
--- What a job comes to after test 9, the tests of the buffers, and the run.
+-- What a job comes to after the tests 9 and 19, the tests of the buffers, and the run.
 use Prim.Native.Nat.{ℕ, _*_, _≤_, _<_}
 use mathlib.Core.Path.{_≡_, refl}
 use mathlib.Core.Bool.{Bool, true, false, cond}
 use mathlib.Core.List.{List}
-use mathlib.Core.Option.{none, some}
+use mathlib.Core.Option.{Option, none, some}
 use native.Mathlib.Omega.{arith}
 use lib.Dec.{ltb}
 use lib.ListN.{length}
@@ -13,10 +13,11 @@ use Rattle.model.specs.Command.{Command}
 use Rattle.model.specs.Declared.{countOf, turnsOf}
 use Rattle.model.specs.Program.{programOf}
 use Rattle.model.specs.Run.{monitoredRun, unmonitoredRun}
-use Rattle.model.specs.Refusal.{Refusal, refuse, accepted, rejected, decode, farJump, decodeJob, Sizes, shortBuffer, decodeFor}
+use Rattle.model.specs.Refusal.{Refusal, refuse, accepted, rejected, decode, acceptUnless, andThen, firstOf, farJump}
+use Rattle.model.specs.Refusal.{unusedPermission, decodeJob, Sizes, shortBuffer, decodeFor}
 use Rattle.model.specs.Result.{refused, report, monitored, unmonitored}
 
--- test 9 and the buffers, by what came before
+-- the tests 9 and 19, by what came before
 pub decode-job-rejected : (job : List ℕ) (r : Refusal) → decode job ≡ rejected r → decodeJob job ≡ rejected r
 unfolding decodeJob
 decode-job-rejected job r e = rw e
@@ -26,10 +27,25 @@ pub decode-job-jump : (job : List ℕ) (all : List Command) (r : Refusal) → de
 unfolding decodeJob
 decode-job-jump job all r e f = rw (e, f)
 
-pub decode-job-accepted : (job : List ℕ) (all : List Command) → decode job ≡ accepted all → farJump all ≡ none
-    → decodeJob job ≡ accepted all
+pub decode-job-unused : (job : List ℕ) (all : List Command) (r : Refusal) → decode job ≡ accepted all → farJump all ≡ none
+    → unusedPermission all ≡ some r → decodeJob job ≡ rejected r
 unfolding decodeJob
-decode-job-accepted job all e f = rw (e, f)
+decode-job-unused job all r e f u = rw (e, f, u)
+
+pub decode-job-accepted : (job : List ℕ) (all : List Command) → decode job ≡ accepted all → farJump all ≡ none
+    → unusedPermission all ≡ none → decodeJob job ≡ accepted all
+unfolding decodeJob
+decode-job-accepted job all e f u = rw (e, f, u)
+
+-- both at once
+pub decode-job-later : (job : List ℕ) (all : List Command) → decode job ≡ accepted all
+    → decodeJob job ≡ acceptUnless all (firstOf (farJump all) (unusedPermission all))
+unfolding decodeJob
+decode-job-later job all e = rw e (by-jumps (farJump all))
+  where
+    by-jumps : (o : Option Refusal) → andThen unusedPermission (acceptUnless all o) ≡ acceptUnless all (firstOf o (unusedPermission all))
+    by-jumps none = refl
+    by-jumps (some r) = refl
 
 -- no buffer is too short
 pub buffers-fit : (job : List ℕ) (b : Sizes) (past : List Command) → shortBuffer job b past ≡ none

@@ -7,10 +7,10 @@ use lib.ListN.{length}
 use Rattle.model.specs.Command.{Command}
 use Rattle.model.specs.Refusal.{Refusal, refuse, accepted, rejected, decode, Sizes, decodeFor}
 use Rattle.model.specs.Conclusion.{HasLength, Reads, begin, further, Refuses, empty, long, noCommand, cutOff, violates, jumpsFar}
-use Rattle.model.specs.Conclusion.{hasShortBuffer, Accepts}
+use Rattle.model.specs.Conclusion.{permitsUnused, hasShortBuffer, Accepts}
 use Rattle.model.proofs.Decoding.{Decoding, decode-empty, decode-long, decoding-start, decoding-on, decoding-end, decoding-unknown}
 use Rattle.model.proofs.Decoding.{decoding-short, decoding-refused}
-use Rattle.model.proofs.Results.{decode-job-rejected, decode-job-jump, decode-job-accepted, decode-for-rejected}
+use Rattle.model.proofs.Results.{decode-job-rejected, decode-job-jump, decode-job-unused, decode-job-accepted, decode-for-rejected}
 use Rattle.model.proofs.Walking.{PassedEight}
 
 -- decoding comes to every place that is read
@@ -25,7 +25,8 @@ read-accepted job past q = decoding-end job (length job) past (reads-decoding (q
 pub accepts-decodes : (job : List ℕ) (b : Sizes) (past : List Command) → Accepts job b past → decodeFor job b ≡ accepted past
 unfolding decodeFor
 accepts-decodes job b past a =
-    let d = decode-job-accepted job past (read-accepted job past (record { size = a .size; reads = a .reads })) (a .jumps) in
+    let d = decode-job-accepted job past (read-accepted job past (record { size = a .size; reads = a .reads })) (a .jumps)
+    (a .permissions) in
     rw (d, a .buffers)
 
 -- a refused job
@@ -45,6 +46,8 @@ refuses-decodes {job} {b} (violates size place past c next k reads h e v n) = ea
     (decoding-refused job place past (reads-decoding size reads) h c next k e v n)
 refuses-decodes {job} {b} (jumpsFar size past r reads e) =
     decode-for-rejected job b r (decode-job-jump job past r (read-accepted job past (record { size = size; reads = reads })) e)
-refuses-decodes {job} {b} (hasShortBuffer size past r reads j e) =
-    let d = decode-job-accepted job past (read-accepted job past (record { size = size; reads = reads })) j in
+refuses-decodes {job} {b} (permitsUnused size past r reads j e) =
+    decode-for-rejected job b r (decode-job-unused job past r (read-accepted job past (record { size = size; reads = reads })) j e)
+refuses-decodes {job} {b} (hasShortBuffer size past r reads j u e) =
+    let d = decode-job-accepted job past (read-accepted job past (record { size = size; reads = reads })) j u in
     rw (d, e)

@@ -18,17 +18,9 @@ use Rattle.model.proofs.Reading.{read-at}
 use Rattle.model.proofs.Decoding.{decode-end, fuel-left}
 
 -- the first of two refusals, if the second is not there
-first-none : (r : Option Refusal) → firstOf r none ≡ r
-first-none none = refl
-first-none (some q) = refl
-
--- a later test by a second look at the commands: none of those so far is found, and the rest of an accepted job follows
-pub record Scanning (k : ℕ) (test : List Command → Command → Bool) (job : List ℕ) (all : List Command) (place : ℕ)
-    (past : List Command) : Type 0 where
-  pub fuel : ℕ
-  pub enough : length job ≤ place + fuel
-  pub goesOn : decodeFrom fuel job place past ≡ accepted all
-  pub fine : refuseFirst k test past ≡ none
+pub first-of-none : (r : Option Refusal) → firstOf r none ≡ r
+first-of-none none = refl
+first-of-none (some q) = refl
 
 -- an accepted job is decoded from its start
 pub accepted-from : (job : List ℕ) (all : List Command) → decode job ≡ accepted all → decodeFrom (length job) job 0 [] ≡ accepted all
@@ -39,12 +31,6 @@ accepted-from job all e = by-length (eqb (length job) 0 || ltb maxJob (length jo
         → decodeFrom (length job) job 0 [] ≡ accepted all
     by-length true q = let w : _≡_ {A = ℕ} 0 1 = cc in absurd (omega arith)
     by-length false q = q
-
--- at the start
-pub scanning-start : (k : ℕ) (test : List Command → Command → Bool) (job : List ℕ) (all : List Command) → decode job ≡ accepted all
-    → Scanning k test job all 0 []
-unfolding refuseFirst
-scanning-start k test job all e = record { fuel = length job; enough = omega arith; goesOn = accepted-from job all e; fine = refl }
 
 -- what is read inside an accepted job is a command that passes
 pub record Passing (fuel : ℕ) (job : List ℕ) (place : ℕ) (past all : List Command) : Type 0 where
@@ -91,13 +77,6 @@ module _ (P : List Command → Type 0) (further : (past : List Command) (c : Com
           ih (p .next) (p .command ∷ past) (p .goesOn) (further past (p .command) (p .passes) h)
       by-place false t ih = let z = rw t at e in let q : past ≡ all = cc in rw q at h
 
--- a command found so far is the first one of all
-pub found-stays :
-    (k : ℕ) (test : List Command → Command → Bool) (job : List ℕ) (all : List Command) (r : Refusal) (fuel place : ℕ) (past : List Command)
-    → decodeFrom fuel job place past ≡ accepted all → refuseFirst k test past ≡ some r → refuseFirst k test all ≡ some r
-unfolding refuseFirst
-found-stays k test job all r = holds-of-all (λ past. refuseFirst k test past ≡ some r) (λ past c v f. rw f) job all
-
 -- what no command of a group above g changes: it stays as it is from the first such command on, since groups do not fall
 module _ {A : Type 0} (value : List Command → A) (g : ℕ)
     (same : (past : List Command) (c : Command) → g < groupOf (c .byte) → value (c ∷ past) ≡ value past) where
@@ -114,7 +93,7 @@ module _ {A : Type 0} (value : List Command → A) (g : ℕ)
         still = same past c (b .above c (passes past c v .ordered)) ∙ b .still;
       }
 
-  pub stays-from :
+  stays-from :
       (job : List ℕ) (all : List Command) (fuel place : ℕ) (past : List Command) → place < length job
       → decodeFrom (suc fuel) job place past ≡ accepted all
       → (c : Command) (next : ℕ) → readCommand job place ≡ whole c next → g < groupOf (c .byte) → value all ≡ value past
@@ -131,54 +110,68 @@ module _ {A : Type 0} (value : List Command → A) (g : ℕ)
       holds-of-all (Behind (value past)) (further-behind (value past)) job all fuel (p .next) (p .command ∷ past) (p .goesOn)
       (rw a first) .still
 
-module _ (k : ℕ) (test : List Command → Command → Bool) (job : List ℕ) (all : List Command) (place : ℕ) (past : List Command)
-    (s : Scanning k test job all place past) where
+-- a further look at the commands of an accepted job: those before a place, after which the rest of the job follows
+pub record Scanning (job : List ℕ) (all : List Command) (place : ℕ) (past : List Command) : Type 0 where
+  pub fuel : ℕ
+  pub enough : length job ≤ place + fuel
+  pub goesOn : decodeFrom fuel job place past ≡ accepted all
+
+-- at the start
+pub scanning-start : (job : List ℕ) (all : List Command) → decode job ≡ accepted all → Scanning job all 0 []
+scanning-start job all e = record { fuel = length job; enough = omega arith; goesOn = accepted-from job all e }
+
+module _ {job : List ℕ} {all : List Command} {place : ℕ} {past : List Command} (s : Scanning job all place past) where
   -- at the end
-  pub scanning-end : length job ≤ place → refuseFirst k test all ≡ none
-  scanning-end h =
-      let z = sym (decode-end (s .fuel) job place past h) ∙ s .goesOn in
-      let q : past ≡ all = cc in
-      rw q at (s .fine)
+  pub scanning-end : length job ≤ place → past ≡ all
+  scanning-end h = let z = sym (decode-end (s .fuel) job place past h) ∙ s .goesOn in cc
 
   module _ (h : place < length job) where
-    left-over : (f : ℕ) × (decodeFrom (suc f) job place past ≡ accepted all) × (s .fuel ≡ suc f)
-    left-over = let f = fuel-left job place (s .fuel) h (s .enough) in (f .0, rw (f .1) at (s .goesOn), f .1)
+    left : (f : ℕ) × (decodeFrom (suc f) job place past ≡ accepted all) × (s .fuel ≡ suc f)
+    left = let f = fuel-left job place (s .fuel) h (s .enough) in (f .0, rw (f .1) at (s .goesOn), f .1)
+
+    read : Passing (left .0) job place past all
+    read = passing (left .0) job place past all h (left .1)
 
     -- what is read is a command
     pub scanning-reads : (c : Command) × (next : ℕ) × (readCommand job place ≡ whole c next)
-    scanning-reads = let p = passing (left-over .0) job place past all h (left-over .1) in (p .command, p .next, p .isRead)
+    scanning-reads = (read .command, read .next, read .isRead)
 
     module _ (c : Command) (next : ℕ) (e : readCommand job place ≡ whole c next) where
-      went : decodeFrom (left-over .0) job next (c ∷ past) ≡ accepted all
-      went =
-          let p = passing (left-over .0) job place past all h (left-over .1) in
-          let w = sym e ∙ p .isRead in
-          let a : p .command ≡ c = cc in
-          let b : p .next ≡ next = cc in
-          rw (a, b) at (p .goesOn)
+      same-command : read .command ≡ c
+      same-command = let w = sym e ∙ read .isRead in cc
 
-      -- the test finds it
-      pub scanning-found : test past c ≡ true → refuseFirst k test all ≡ some (refuse k place)
-      unfolding refuseFirst
-      scanning-found t =
-          found-stays k test job all (refuse k place) (left-over .0) next (c ∷ past) went
-          (rw (s .fine, t, read-at job place c next e .here))
+      same-next : read .next ≡ next
+      same-next = let w = sym e ∙ read .isRead in cc
 
-      -- the test does not
-      pub scanning-on : test past c ≡ false → Scanning k test job all next (c ∷ past)
-      unfolding refuseFirst
-      scanning-on t =
+      -- it passes the tests of commands
+      pub scanning-passes : violation past c ≡ 0
+      scanning-passes = rw same-command at (read .passes)
+
+      -- after it
+      pub scanning-on : Scanning job all next (c ∷ past)
+      scanning-on =
           let r = read-at job place c next e in
-          let g = left-over .2 in
+          let g = left .2 in
           let m = s .enough in
-          record { fuel = left-over .0; enough = omega (arith, r .later); goesOn = went; fine = rw (s .fine, t) }
+          record { fuel = left .0; enough = omega (arith, r .later); goesOn = rw (same-command, same-next) at (read .goesOn) }
 
-      -- it is of a group above g, and the test finds no command of those groups
-      pub scanning-behind :
-          (g : ℕ) → ((past : List Command) (d : Command) → g < groupOf (d .byte) → test past d ≡ false) → g < groupOf (c .byte)
-          → refuseFirst k test all ≡ none
+      -- a later test that found none before it and finds it refuses it
+      pub scanning-found : (k : ℕ) (test : List Command → Command → Bool) → refuseFirst k test past ≡ none → test past c ≡ true
+          → refuseFirst k test all ≡ some (refuse k place)
       unfolding refuseFirst
-      scanning-behind g none-found above =
-          stays-from (refuseFirst k test) g (λ past d h. rw (none-found past d h) (first-none (refuseFirst k test past))) job all
-          (left-over .0) place past h (left-over .1) c next e above
-          ∙ s .fine
+      scanning-found k test fine t =
+          holds-of-all (λ past. refuseFirst k test past ≡ some (refuse k place)) (λ past d v f. rw f) job all (scanning-on .fuel) next
+          (c ∷ past) (scanning-on .goesOn) (rw (fine, t, read-at job place c next e .here))
+
+      -- it is of a group above g, and a value does not change by commands of those groups
+      pub scanning-behind :
+          {A : Type 0} (value : List Command → A) (g : ℕ)
+          → ((past : List Command) (d : Command) → g < groupOf (d .byte) → value (d ∷ past) ≡ value past)
+          → g < groupOf (c .byte) → value all ≡ value past
+      scanning-behind value g same above = stays-from value g same job all (left .0) place past h (left .1) c next e above
+
+-- a command that a later test does not find changes nothing
+pub refuse-on : (k : ℕ) (test : List Command → Command → Bool) (past : List Command) (c : Command) → test past c ≡ false
+    → refuseFirst k test (c ∷ past) ≡ refuseFirst k test past
+unfolding refuseFirst
+refuse-on k test past c e = rw e (first-of-none (refuseFirst k test past))

@@ -17,7 +17,7 @@ use Rattle.model.specs.Refusal.{repeated, emptySpan, violation, accepted
 use Rattle.model.specs.Conclusion.{Reads, begin, further, Refuses}
 use Rattle.model.specs.Valid.{Allowed, Valid, Passes, ValidJob, Named, Limits}
 use Rattle.model.proofs.Reading.{read-at}
-use Rattle.model.proofs.Walking.{Decides, PassedEight, PassedNine, decode-walked, decode-job-walked}
+use Rattle.model.proofs.Walking.{Decides, PassedEight, PassedJob, decode-walked, decode-job-walked}
 use Rattle.model.proofs.Logic.{true-false, and-rest, and-left, and-right, none-of}
 
 -- no refusal: the test is false, and the later tests refuse nothing
@@ -42,12 +42,12 @@ pub reads-valid : {job : List ℕ} {place : ℕ} {past : List Command} → Reads
 reads-valid begin = tt
 reads-valid {job} (further place past c next reads h e v) = (reads-valid reads, read-at job place c next e .plain, v)
 
--- an accepted job's commands are valid, after the tests of commands, after 9 and after all
+-- an accepted job's commands are valid, after the tests of commands and after 9 and 19
 pub decoded-valid : (job : List ℕ) (past : List Command) → decode job ≡ accepted past → Valid past
 decoded-valid job past e = let w : Decides (PassedEight job) (Refuses job (sizes 0 0 0)) (accepted past) = rw e at
     (decode-walked job (sizes 0 0 0)) in reads-valid (w .reads)
 
-pub job-accepted : (job : List ℕ) (past : List Command) → decodeJob job ≡ accepted past → PassedNine job past
+pub job-accepted : (job : List ℕ) (past : List Command) → decodeJob job ≡ accepted past → PassedJob job past
 job-accepted job past e = rw e at (decode-job-walked job (sizes 0 0 0))
 
 pub job-valid : (job : List ℕ) (past : List Command) → decodeJob job ≡ accepted past → ValidJob past

@@ -11,9 +11,9 @@ use borrow.Author.Tests.{ltb-true, ltb-false, eqb-true, eqb-false}
 use Rattle.model.specs.Table.{maxJob}
 use Rattle.model.specs.Command.{Command, Parsed, whole, unknown, cutShort, readCommand}
 use Rattle.model.specs.Refusal.{violation, Refusal, refuse, Decoded, accepted, rejected, decodeNext, decodeRead, decodeFrom, decode}
-use Rattle.model.specs.Refusal.{acceptUnless, andThen, farJump, decodeJob, Sizes, shortBuffer, decodeFor}
+use Rattle.model.specs.Refusal.{acceptUnless, andThen, farJump, unusedPermission, decodeJob, Sizes, shortBuffer, decodeFor}
 use Rattle.model.specs.Conclusion.{HasLength, Reads, begin, further, Refuses, empty, long, noCommand, cutOff, violates, jumpsFar}
-use Rattle.model.specs.Conclusion.{hasShortBuffer, Accepts}
+use Rattle.model.specs.Conclusion.{permitsUnused, hasShortBuffer, Accepts}
 use Rattle.model.proofs.Reading.{read-at}
 
 -- a property of the commands if they are accepted, and one of the refusal if they are not
@@ -99,23 +99,42 @@ and-then-walked Q S R test (accepted past) pass fail q = by-test (test past) ref
     by-test (some r) e = fail past r q e
 
 -- after the tests 1 to 9 and 15
-pub record PassedNine (job : List ℕ) (past : List Command) : Type 0 where
-  pub read : PassedEight job past
-  pub jumps : farJump past ≡ none
+record PassedNine (job : List ℕ) (past : List Command) : Type 0 where
+  read : PassedEight job past
+  jumps : farJump past ≡ none
 
-pub decode-job-walked : (job : List ℕ) (b : Sizes) → Decides (PassedNine job) (Refuses job b) (decodeJob job)
-unfolding decodeJob
-decode-job-walked job b =
+jumps-walked : (job : List ℕ) (b : Sizes) → Decides (PassedNine job) (Refuses job b) (andThen farJump (decode job))
+jumps-walked job b =
     and-then-walked (PassedEight job) (PassedNine job) (Refuses job b) farJump (decode job)
     (λ past q e. record { read = q; jumps = e })
     (λ past r q e. jumpsFar (q .size) past r (q .reads) e)
     (decode-walked job b)
 
+-- after the tests 1 to 9, 15 and 19
+pub record PassedJob (job : List ℕ) (past : List Command) : Type 0 where
+  pub read : PassedEight job past
+  pub jumps : farJump past ≡ none
+  pub permissions : unusedPermission past ≡ none
+
+pub decode-job-walked : (job : List ℕ) (b : Sizes) → Decides (PassedJob job) (Refuses job b) (decodeJob job)
+unfolding decodeJob
+decode-job-walked job b =
+    and-then-walked (PassedNine job) (PassedJob job) (Refuses job b) unusedPermission (andThen farJump (decode job))
+    (λ past q e. record { read = q .read; jumps = q .jumps; permissions = e })
+    (λ past r q e. permitsUnused (q .read .size) past r (q .read .reads) (q .jumps) e)
+    (jumps-walked job b)
+
 -- after all tests
 pub decode-for-walked : (job : List ℕ) (b : Sizes) → Decides (Accepts job b) (Refuses job b) (decodeFor job b)
 unfolding decodeFor
 decode-for-walked job b =
-    and-then-walked (PassedNine job) (Accepts job b) (Refuses job b) (shortBuffer job b) (decodeJob job)
-    (λ past q e. record { size = q .read .size; reads = q .read .reads; jumps = q .jumps; buffers = e })
-    (λ past r q e. hasShortBuffer (q .read .size) past r (q .read .reads) (q .jumps) e)
+    and-then-walked (PassedJob job) (Accepts job b) (Refuses job b) (shortBuffer job b) (decodeJob job)
+    (λ past q e. record {
+      size = q .read .size;
+      reads = q .read .reads;
+      jumps = q .jumps;
+      permissions = q .permissions;
+      buffers = e;
+    })
+    (λ past r q e. hasShortBuffer (q .read .size) past r (q .read .reads) (q .jumps) (q .permissions) e)
     (decode-job-walked job b)

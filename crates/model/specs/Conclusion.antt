@@ -12,7 +12,7 @@ use Rattle.model.specs.Declared.{turnsOf}
 use Rattle.model.specs.Program.{Program, programOf}
 use Rattle.model.specs.Run.{Run, monitoredRun, unmonitoredRun}
 use Rattle.model.specs.Output.{Answer, traceIn, snapshotBytes}
-use Rattle.model.specs.Refusal.{violation, Refusal, refuse, farJump, Sizes, snapshotSize, workSize, shortBuffer}
+use Rattle.model.specs.Refusal.{violation, Refusal, refuse, farJump, unusedPermission, Sizes, snapshotSize, workSize, shortBuffer}
 use Rattle.model.specs.Result.{Result, refused, ran, report, monitored, unmonitored, Buffers, sizesOf, traceAfter, snapshotAfter}
 use Rattle.model.specs.Result.{workAfter}
 
@@ -48,16 +48,22 @@ pub data Refuses (job : List ℕ) (b : Sizes) : Refusal → Type 0 where
   jumpsFar :
       HasLength job → (past : List Command) (r : Refusal)
       → Reads job (length job) past → farJump past ≡ some r → Refuses job b r
+  -- 19, after 9
+  permitsUnused :
+      HasLength job → (past : List Command) (r : Refusal)
+      → Reads job (length job) past → farJump past ≡ none → unusedPermission past ≡ some r → Refuses job b r
   -- 10 to 12
   hasShortBuffer :
       HasLength job → (past : List Command) (r : Refusal)
-      → Reads job (length job) past → farJump past ≡ none → shortBuffer job b past ≡ some r → Refuses job b r
+      → Reads job (length job) past → farJump past ≡ none → unusedPermission past ≡ none → shortBuffer job b past ≡ some r
+      → Refuses job b r
 
 -- a job with these commands fails no test
 pub record Accepts (job : List ℕ) (b : Sizes) (past : List Command) : Type 0 where
   pub size : HasLength job
   pub reads : Reads job (length job) past
   pub jumps : farJump past ≡ none
+  pub permissions : unusedPermission past ≡ none
   pub buffers : shortBuffer job b past ≡ none
 
 -- a run ends with a stop from 0 to 3 after at most 4,096 turns; its trace has 7 bytes a completed turn, its snapshot at most 2,624, and the

@@ -5,7 +5,7 @@ use mathlib.Core.Bool.{Bool, true, false, cond, not, _&&_, _||_}
 use mathlib.Core.List.{List, [], _∷_, _++_}
 use mathlib.Core.Option.{Option, none, some, Option·getD}
 use lib.Dec.{leb, eqb}
-use Rattle.model.specs.Table.{FLOW, NODE, VAR, FUN, REPLY, SPAN, BODY, SET, SKIP, START, TURN}
+use Rattle.model.specs.Table.{FLOW, NODE, VAR, FUN, REPLY, SPAN, BODY, SET, SKIP, START, TURN, isAmong}
 use Rattle.model.specs.Command.{Operands, sameOperands, Command, is}
 
 -- a list of the value if the test passes, and else the empty list
@@ -136,6 +136,11 @@ instruction b x = record { byte = b; operand = x }
 unfoldable pub handlerOf : List Command → ℕ → List Instruction
 handlerOf [] n = []
 handlerOf (c ∷ past) n = handlerOf past n ++ only (belongs past c n) (instruction (c .byte) (c .operands .first))
+
+-- a handler has a command with one of these bytes and this operand
+unfoldable pub has : List ℕ → ℕ → List Instruction → Bool
+has bytes x [] = false
+has bytes x (i ∷ handler) = (isAmong (i .byte) bytes && eqb (i .operand) x) || has bytes x handler
 
 -- the first messages of a node
 unfoldable pub startsOf : List Command → ℕ → List ℕ

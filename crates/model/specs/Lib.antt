@@ -21,6 +21,7 @@ pub mod Examples
 pub mod Readings
 -- statements on change requests
 pub mod LargestCounts
+pub mod LeastPrivilege
 pub mod Replies
 pub mod Spans
 pub mod WorkSize

@@ -114,7 +114,8 @@ declaredRows =
     ∷ monitoredRow (global 5) (ends 0 0 noEntry [] (four 5))
     -- ARG beside ANY and beside ARG with another argument is no repetition
     ∷ monitoredRow
-    (nodes 1 ++ 0x11 ∷ four 0 ++ 0x30 ∷ 0x00 ∷ 0x00 ∷ 0x31 ∷ 0x00 ∷ 0x00 ∷ four 1 ++ 0x31 ∷ 0x00 ∷ 0x00 ∷ four 2)
+    (nodes 1 ++ 0x11 ∷ four 0 ++ 0x30 ∷ 0x00 ∷ 0x00 ∷ 0x31 ∷ 0x00 ∷ 0x00 ∷ four 1 ++ 0x31 ∷ 0x00 ∷ 0x00 ∷ four 2 ++
+    (0x40 ∷ 0x00 ∷ 0x4A ∷ 0x00 ∷ []))
     (ends 0 0 noEntry [] idleNode)
     -- 8: the same WIRE, ANY, ARG, READ or WRITE again
     ∷ monitoredRow (nodes 1 ++ times 2 (0x20 ∷ 0x00 ∷ 0x03 ∷ 0x00 ∷ [])) (refused (refuse 8 6))
@@ -157,7 +158,8 @@ turnRows =
     (ends 0 6 noEntry (traced 0 1 0 1 ++ times 5 (traced 0 0 0 0)) (nodePart 6 4 1 0))
     -- a forbidden write: the attempted entry shows the accumulator, and the variable is not written
     ∷ monitoredRow
-    (nodes 1 ++ global 5 ++ 0x32 ∷ 0x00 ∷ 0x00 ∷ 0x40 ∷ 0x00 ∷ 0x41 ∷ four 7 ++ 0x44 ∷ 0x00 ∷ 0x50 ∷ 0x00 ∷ four 1 ++ turns 3 0)
+    (nodes 1 ++ global 5 ++ 0x32 ∷ 0x00 ∷ 0x00 ∷ 0x40 ∷ 0x00 ∷ 0x41 ∷ four 7 ++ 0x44 ∷ 0x00 ∷ 0x43 ∷ 0x00 ∷ 0x50 ∷ 0x00 ∷ four 1 ++
+    turns 3 0)
     (ends 1 2 (entry 0 4 0 7) (traced 0 1 0 1 ++ traced 0 0 0 0) (nodePart 1 7 1 0 ++ four 5))
     -- a send to two targets, and one to a port that is not wired
     ∷ monitoredRow
@@ -178,11 +180,15 @@ turnRows =
     (nodePart 17 3 3 0 ++ nodePart 255 0 0 16 ++ times 16 (four 0)))
     ∷ []
 
--- one node that calls function f with its first message, given by its 4 bytes; function 0 has FUN's answer 9; the list is what is declared
--- and permitted besides
+-- one node that calls function f with its first message, given by its 4 bytes; function 0 has FUN's answer 9; the lists are what is
+-- declared and permitted besides, and what follows the call
+unfoldable pub callingThen : ℕ → List ℕ → List ℕ → List ℕ → List ℕ
+callingThen f others more message =
+    nodes 1 ++ 0x11 ∷ four 9 ++ others ++ 0x40 ∷ 0x00 ∷ 0x42 ∷ 0x4A ∷ f ∷ more ++ 0x50 ∷ 0x00 ∷ message ++ turns 3 0
+
+-- likewise, with nothing after the call
 unfoldable pub callingOf : ℕ → List ℕ → List ℕ → List ℕ
-callingOf f others message =
-    nodes 1 ++ 0x11 ∷ four 9 ++ others ++ 0x40 ∷ 0x00 ∷ 0x42 ∷ 0x4A ∷ f ∷ 0x50 ∷ 0x00 ∷ message ++ turns 3 0
+callingOf f others = callingThen f others []
 
 -- likewise, of function 0
 unfoldable pub calling : List ℕ → List ℕ → List ℕ
@@ -229,8 +235,8 @@ spanRows =
     (calling (span 10 20 ++ span 15 30 ++ span 31 40 ++ span 10 19 ++ span 11 20 ++ arg 12 ++ arg 50 ++ span 50 50) (four 25))
     (called 25)
     -- a range of another function, and one of another node, permit nothing here
-    ∷ monitoredRow (calling (0x11 ∷ four 9 ++ 0x34 ∷ 0x00 ∷ 0x01 ∷ four 10 ++ four 20) (four 15)) (forbidden 15)
-    ∷ monitoredRow (0x01 ∷ 0x02 ∷ calling (0x34 ∷ 0x01 ∷ 0x00 ∷ four 10 ++ four 20) (four 15))
+    ∷ monitoredRow (callingThen 0 (0x11 ∷ four 9 ++ 0x34 ∷ 0x00 ∷ 0x01 ∷ four 10 ++ four 20) (0x4A ∷ 0x01 ∷ []) (four 15)) (forbidden 15)
+    ∷ monitoredRow (0x01 ∷ 0x02 ∷ callingThen 0 (0x34 ∷ 0x01 ∷ 0x00 ∷ four 10 ++ four 20) (0x40 ∷ 0x01 ∷ 0x4A ∷ 0x00 ∷ []) (four 15))
     (ends 1 2 (entry 0 5 0 15) (traced 0 1 0 15 ++ traced 0 0 0 0) (nodePart 1 15 15 0 ++ idleNode))
     -- 3: the last byte of high is missing
     ∷ monitoredRow (nodes 1 ++ 0x11 ∷ four 9 ++ 0x34 ∷ 0x00 ∷ 0x00 ∷ four 10 ++ (20 ∷ 0 ∷ 0 ∷ [])) (refused (refuse 3 7))
@@ -304,6 +310,60 @@ replyRows =
     ∷ unmonitoredRow (nodes 1 ++ 0x11 ∷ four 9 ++ reply 0 5 7 ++ reply 0 5 8) (refused (refuse 8 17))
     ∷ []
 
+-- a READ of node 0 and variable 0
+unfoldable pub read : List ℕ
+read = 0x32 ∷ 0x00 ∷ 0x00 ∷ []
+
+-- a WRITE of node 0 and variable 0
+unfoldable pub write : List ℕ
+write = 0x33 ∷ 0x00 ∷ 0x00 ∷ []
+
+-- one node, a global variable that starts with 5 and a function, with these permissions, at place 14, and this handler
+unfoldable pub handling : List ℕ → List ℕ → List ℕ
+handling permissions handler = nodes 1 ++ global 5 ++ 0x11 ∷ four 9 ++ permissions ++ 0x40 ∷ 0x00 ∷ handler
+
+-- what such a job gives if it is accepted
+unfoldable pub rests : Result
+rests = ends 0 0 noEntry [] (idleNode ++ four 5)
+
+-- permissions that the handler has no command for (S-7)
+unfoldable pub unusedRows : List Example
+unusedRows =
+    -- used: READ by GET and by PLUS, WRITE by PUT, ANY, ARG and SPAN by CALL
+    monitoredRow (handling read (0x43 ∷ 0x00 ∷ [])) rests
+    ∷ monitoredRow (handling read (0x46 ∷ 0x00 ∷ [])) rests
+    ∷ monitoredRow (handling write (0x44 ∷ 0x00 ∷ [])) rests
+    ∷ monitoredRow (handling (any 0) (0x4A ∷ 0x00 ∷ [])) rests
+    ∷ monitoredRow (handling (arg 7) (0x4A ∷ 0x00 ∷ [])) rests
+    ∷ monitoredRow (handling (span 7 8) (0x4A ∷ 0x00 ∷ [])) rests
+    -- unused: READ with only PUT, WRITE with only GET and PLUS, each other sort in a handler without CALL; unmonitored alike
+    ∷ monitoredRow (handling read (0x44 ∷ 0x00 ∷ 0x4A ∷ 0x00 ∷ [])) (refused (refuse 19 14))
+    ∷ monitoredRow (handling write (0x43 ∷ 0x00 ∷ 0x46 ∷ 0x00 ∷ 0x4A ∷ 0x00 ∷ [])) (refused (refuse 19 14))
+    ∷ monitoredRow (handling (any 0) (0x43 ∷ 0x00 ∷ 0x44 ∷ 0x00 ∷ 0x46 ∷ 0x00 ∷ [])) (refused (refuse 19 14))
+    ∷ monitoredRow (handling (arg 7) (0x43 ∷ 0x00 ∷ 0x44 ∷ 0x00 ∷ 0x46 ∷ 0x00 ∷ [])) (refused (refuse 19 14))
+    ∷ monitoredRow (handling (span 7 8) (0x43 ∷ 0x00 ∷ 0x44 ∷ 0x00 ∷ 0x46 ∷ 0x00 ∷ [])) (refused (refuse 19 14))
+    ∷ unmonitoredRow (handling read (0x44 ∷ 0x00 ∷ [])) (refused (refuse 19 14))
+    -- used: a command that is never reached, and arguments that do not come up, beside ANY
+    ∷ monitoredRow (handling read (0x48 ∷ 0x02 ∷ 0x43 ∷ 0x00 ∷ [])) rests
+    ∷ monitoredRow (handling (any 0 ++ arg 7 ++ span 7 8) (0x41 ∷ four 1 ++ (0x4A ∷ 0x00 ∷ []))) rests
+    -- a command with another variable, and one with another function
+    ∷ monitoredRow (nodes 1 ++ global 5 ++ global 5 ++ read ++ (0x40 ∷ 0x00 ∷ 0x43 ∷ 0x01 ∷ [])) (refused (refuse 19 16))
+    ∷ monitoredRow (nodes 1 ++ times 2 (0x11 ∷ four 9) ++ any 0 ++ (0x40 ∷ 0x00 ∷ 0x4A ∷ 0x01 ∷ [])) (refused (refuse 19 12))
+    -- the command is in another node's handler; each node's own, whichever handler comes first
+    ∷ monitoredRow (nodes 2 ++ global 5 ++ read ++ (0x40 ∷ 0x01 ∷ 0x43 ∷ 0x00 ∷ 0x40 ∷ 0x00 ∷ 0x4B ∷ [])) (refused (refuse 19 10))
+    ∷ monitoredRow
+    (nodes 2 ++ global 5 ++ read ++ 0x33 ∷ 0x01 ∷ 0x00 ∷ 0x40 ∷ 0x01 ∷ 0x44 ∷ 0x00 ∷ 0x40 ∷ 0x00 ∷ 0x43 ∷ 0x00 ∷ [])
+    (ends 0 0 noEntry [] (idleNode ++ idleNode ++ four 5))
+    -- a node without BODY uses nothing
+    ∷ monitoredRow (nodes 1 ++ global 5 ++ read) (refused (refuse 19 9))
+    -- 19 at the first of two that are unused, after one that is used
+    ∷ monitoredRow (handling (read ++ write ++ any 0) (0x43 ∷ 0x00 ∷ [])) (refused (refuse 19 17))
+    -- 15 and 9 before 19, at later commands; 19 before 10
+    ∷ monitoredRow (handling (read ++ span 8 7) []) (refused (refuse 15 17))
+    ∷ monitoredRow (handling read (0x48 ∷ 0x02 ∷ [])) (refused (refuse 9 19))
+    ∷ within (sizes 6 2623 4095) (handling read [] ++ turns 1 0) (refused (refuse 19 14))
+    ∷ []
+
 -- every row holds
 abbrev pub ReadingsHold : Type 0
-ReadingsHold = RowsHold (orderRows ++ undeclaredRows ++ sightRows ++ declaredRows ++ turnRows ++ spanRows ++ replyRows)
+ReadingsHold = RowsHold (orderRows ++ undeclaredRows ++ sightRows ++ declaredRows ++ turnRows ++ spanRows ++ replyRows ++ unusedRows)

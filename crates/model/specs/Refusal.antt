@@ -1,17 +1,17 @@
--- When a job is refused ("When a job is turned away"): the tests 1 to 12, and after test 8 the test 15 of request S-5, each with its
--- number and place, in their order.
+-- When a job is refused ("When a job is turned away"): the tests 1 to 12, after test 8 the test 15 of request S-5, and after test 9 the
+-- test 19 of request S-7, each with its number and place, in their order.
 use Prim.Native.Nat.{ℕ, zero, suc, _*_}
 use mathlib.Core.Bool.{Bool, false, cond, not, _&&_, _||_}
 use mathlib.Core.List.{List, [], _∷_}
 use mathlib.Core.Option.{Option, none, some}
 use lib.Dec.{leb, ltb, eqb}
 use lib.ListN.{length}
-use Rattle.model.specs.Table.{FLOW, NODE, VAR, FUN, REPLY, WIRE, READ, WRITE, SPAN, BODY, GET, PUT, PLUS, JUMPZ, JUMP, START, TURN}
-use Rattle.model.specs.Table.{OperandKind, scope, owner, start, answer, node, port, target, function, argument, value, low, high}
-use Rattle.model.specs.Table.{variable, jump, absent, kindAt, groupOf, Limit, largestOf, maxPort, maxHandler, maxJob}
+use Rattle.model.specs.Table.{FLOW, NODE, VAR, FUN, REPLY, WIRE, ANY, ARG, READ, WRITE, SPAN, BODY, GET, PUT, PLUS, JUMPZ, JUMP}
+use Rattle.model.specs.Table.{CALL, START, TURN, OperandKind, scope, owner, start, answer, node, port, target, function, argument}
+use Rattle.model.specs.Table.{value, low, high, variable, jump, absent, kindAt, groupOf, Limit, largestOf, maxPort, maxHandler, maxJob}
 use Rattle.model.specs.Command.{Command, Parsed, whole, unknown, cutShort, is, readCommand}
 use Rattle.model.specs.Declared.{countOf, countAmong, occurs, flowOf, replyOf, isThere, shared, sees, isHandler, openBody}
-use Rattle.model.specs.Declared.{bodyLength, startedIn}
+use Rattle.model.specs.Declared.{bodyLength, handlerOf, has, startedIn}
 
 -- some test passes
 unfoldable pub anyOf : List Bool → Bool
@@ -192,9 +192,36 @@ isFarJump all past c = (is JUMPZ c || is JUMP c) && ltb (bodyLength all (openBod
 abbrev pub farJump : List Command → Option Refusal
 farJump all = refuseFirst 9 (isFarJump all) all
 
--- the commands of a job after the tests 1 to 8, 15 and 9, or its refusal
+-- the handler of a node reads a variable: it has a GET or PLUS of it
+abbrev pub handlerReads : List Command → ℕ → ℕ → Bool
+handlerReads all n x = has (GET ∷ PLUS ∷ []) x (handlerOf all n)
+
+-- it writes a variable: it has a PUT of it
+abbrev pub handlerWrites : List Command → ℕ → ℕ → Bool
+handlerWrites all n x = has (PUT ∷ []) x (handlerOf all n)
+
+-- it calls a function: it has a CALL of it
+abbrev pub handlerCalls : List Command → ℕ → ℕ → Bool
+handlerCalls all n f = has (CALL ∷ []) f (handlerOf all n)
+
+-- a permission ("idle") that its node's handler has no command for, when the job's commands are `all` (S-7)
+abbrev pub isUnused : List Command → List Command → Command → Bool
+isUnused all past c =
+    anyOf
+    ((is READ c && not (handlerReads all (c .operands .first) (c .operands .second)))
+    ∷ (is WRITE c && not (handlerWrites all (c .operands .first) (c .operands .second)))
+    ∷ (is ANY c && not (handlerCalls all (c .operands .first) (c .operands .second)))
+    ∷ (is ARG c && not (handlerCalls all (c .operands .first) (c .operands .second)))
+    ∷ (is SPAN c && not (handlerCalls all (c .operands .first) (c .operands .second)))
+    ∷ [])
+
+-- 19: at the first such permission
+abbrev pub unusedPermission : List Command → Option Refusal
+unusedPermission all = refuseFirst 19 (isUnused all) all
+
+-- the commands of a job after the tests 1 to 8, 15, 9 and 19, or its refusal
 unfoldable pub decodeJob : List ℕ → Decoded
-decodeJob job = andThen farJump (decode job)
+decodeJob job = andThen unusedPermission (andThen farJump (decode job))
 
 -- the job is accepted
 abbrev pub IsAccepted : Decoded → Type 0

@@ -15,7 +15,7 @@ use Rattle.tables.specs.declared.cells.Section.{Section}
 use Rattle.tables.specs.Cells.{cellCount, entryIn}
 use Rattle.tables.specs.Stands.{Stands}
 use Rattle.tables.specs.Writes.{oneMore, written, noteWrites}
-use Rattle.notes.proofs.Sections.{sorted, left, entry-written}
+use Rattle.tables.proofs.Sections.{sorted, left, entry-written}
 
 -- one more, where that is counted
 pub more : (n : ℕ) → n < 65536 → oneMore n ≡ n + 1

@@ -20,7 +20,7 @@ use Rattle.tables.specs.Tables.{bodyCells, startedCells, firstCells, messageCel
 use Rattle.tables.specs.Items.{isItem}
 use Rattle.tables.specs.Writes.{oneMore}
 use Rattle.command.proofs.Known.{byte-low}
-use Rattle.notes.proofs.Cases.{column, this-last, flag}
+use Rattle.tables.proofs.Cases.{column, this-last, flag}
 use Rattle.notes.proofs.Same.{same-one}
 use Rattle.notes.proofs.After.{more, after, Admitted, in-section, named-as, room}
 

@@ -18,7 +18,7 @@ use Rattle.tables.specs.Tables.{progressCells, linkCells, lastRangeCells, lastR
 use Rattle.tables.specs.Tables.{rangePlace, lastRangeIn, rangesIn, listedIn, inRangeIn, lastReplyIn, repliesIn, replyIn}
 use Rattle.tables.specs.Items.{Item, item, isRange, rangeOf, replyItemOf, isItem, foundItem, holds, isThis, isTo, secondOf}
 use Rattle.tables.specs.Writes.{oneMore}
-use Rattle.notes.proofs.Cases.{this-first}
+use Rattle.tables.proofs.Cases.{this-first}
 use Rattle.notes.proofs.Kept.{ItemWritten, repliesFor, last-range-next, last-reply-next, ranges-next, replies-next, found-next}
 use Rattle.notes.proofs.Kept.{some-next}
 use Rattle.notes.proofs.Same.{by-range, isOf, argument-same, span-same, call-same}

@@ -19,7 +19,7 @@ use Rattle.tables.specs.Tables.{itemFirstCells, itemSecondCells, linkCells, las
 use Rattle.tables.specs.Tables.{lastRangeIn, lastReplyIn, chainIn, rangesIn, repliesIn}
 use Rattle.tables.specs.Writes.{beforeOf}
 use Rattle.tables.proofs.Chains.{chain-below, chain-first, chain-kept}
-use Rattle.notes.proofs.Cases.{column, same-place}
+use Rattle.tables.proofs.Cases.{column, same-place}
 use Rattle.notes.proofs.Same.{isOf}
 
 -- a half: the new value at its place, the old one elsewhere

@@ -1,6 +1,4 @@
 pub mod Arms
-pub mod Sections
-pub mod Cases
 pub mod Same
 pub mod Kept
 pub mod After

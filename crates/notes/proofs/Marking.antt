@@ -13,7 +13,7 @@ use Rattle.tables.specs.declared.cells.Section.{Section}
 use Rattle.tables.specs.Bits.{bitOf}
 use Rattle.tables.specs.Cells.{entryIn, isMarkPlace, markCell, marksWith, markIn}
 use Rattle.tables.specs.Tables.{readCells, writeCells, anyCells, wireCells, wiredIn}
-use Rattle.notes.proofs.Cases.{marking, wire}
+use Rattle.tables.proofs.Cases.{marking, mark-after, wire}
 use Rattle.notes.proofs.Same.{same-three, same-two}
 use Rattle.notes.proofs.After.{after, Admitted, in-section, named-as}
 
@@ -26,12 +26,10 @@ module _ {t : List ℕ} {past : List Command} {c : Command} (one : Admitted t pa
       (marksWith t r (c .operands .first) (c .operands .second)) (entryIn t r (markCell row x))
       → (is b c ≡ true → (c .operands .first < 32) × (c .operands .second < 64) × (c .operands .third ≡ 0) × (c .operands .fourth ≡ 0))
       → markIn t r row x ≡ occurs b (binary row x) past → markIn (after t c) r row x ≡ occurs b (binary row x) (c ∷ past)
-  unfolding markIn
   mark-next r b row x e h q =
-      rw e
-      (marking (entryIn t r) (c .operands .first) (c .operands .second) row x 64 (is b c) (occurs b (binary row x) past)
-      (λ p. omega (arith, h p .0)) (λ p. h p .1) (λ p. omega (arith, h p .0, h p .1)) q
-      ∙ rw (occurs-next c past b (binary row x), same-two b c row x 0 (λ p. (h p .2, h p .3))))
+      mark-after t (after t c) r (is b c) (c .operands .first) (c .operands .second) row x (occurs b (binary row x) past) e
+      (λ p. (h p .0, h p .1)) q
+      ∙ rw (occurs-next c past b (binary row x), same-two b c row x 0 (λ p. (h p .2, h p .3)))
 
   pub reads-next : (n x : ℕ) → markIn (after t c) readCells n x ≡ occurs READ (binary n x) (c ∷ past)
   unfolding operandsOf operandsIn

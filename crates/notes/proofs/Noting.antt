@@ -10,7 +10,7 @@ use Rattle.tables.specs.Tables.{countCells, progressCells, countIn}
 use Rattle.tables.specs.Stands.{Stands}
 use Rattle.notes.specs.Notes.{Notes}
 use Rattle.tables.specs.Writes.{oneMore, made, written, commandWrites, noteWrites, tablesOf}
-use Rattle.notes.proofs.Sections.{length-written}
+use Rattle.tables.proofs.Sections.{length-written}
 use Rattle.notes.proofs.After.{after, Admitted}
 use Rattle.notes.proofs.Declaring.{counts-next, group-next, opened-next, flow-next, scope-next, owner-next, start-next}
 use Rattle.notes.proofs.Declaring.{fun-answer-next, lengths-next, bodies-next, started-after, firsts-next}

@@ -4,7 +4,7 @@ use Rattle.text.specs.Text.{digitsWithin, decimal, field, fields, joined}
 use Rattle.lines.specs.Lines.{entryLine, endLine, messagesAt, partAt, nodeLine, variableLine, snapshotLines, runLines}
 use Rattle.model.specs.Table.{operandsIn, operandsOf, isAmong, largestIn, largestOf}
 use Rattle.model.specs.Command.{numberAt, readCommand}
-use Rattle.model.specs.Declared.{countOf, countAmong, occurs, declared, openBody, bodyLength, handlerOf, startsOf, startedIn, turnsOf}
+use Rattle.model.specs.Declared.{countOf, countAmong, occurs, declared, openBody, bodyLength, handlerOf, has, startsOf, startedIn, turnsOf}
 use Rattle.model.specs.Program.{programOf}
 use Rattle.model.specs.State.{tabulate, initialState}
 use Rattle.model.specs.Turn.{someBelow, delivered, turn}
@@ -19,7 +19,7 @@ use Rattle.printing.specs.Example.{k1Lines, K1Prints}
 pub k1-prints : K1Prints
 unfolding operandsIn operandsOf isAmong largestIn largestOf
     numberAt readCommand
-    countOf countAmong occurs declared openBody bodyLength handlerOf startsOf startedIn turnsOf
+    countOf countAmong occurs declared openBody bodyLength handlerOf has startsOf startedIn turnsOf
     programOf tabulate initialState
     someBelow delivered turn monitoredTurn
     runFrom monitoredRun

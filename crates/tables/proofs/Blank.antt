@@ -6,7 +6,7 @@ use mathlib.Core.List.{[]}
 use mathlib.Core.Option.{none}
 use native.Mathlib.Omega.{arith}
 use lib.Dec.{ltb, eqb}
-use lib.ListN.{length-replicate, getD-replicate}
+use lib.ListN.{replicate, length-replicate, getD-replicate}
 use borrow.Author.Tests.{ltb-true, ltb-false, le-ltb}
 use Rattle.model.specs.Table.{ARG, SPAN, groupOf}
 use Rattle.model.specs.Declared.{countOf, isThere, occurs, inSpan, declared, replyOf, openBody, bodyLength, startsOf, startedIn}
@@ -22,24 +22,33 @@ use Rattle.tables.specs.Stands.{Stands}
 use Rattle.tables.proofs.Setting.{bit-zero}
 use Rattle.tables.proofs.Writing.{entry-inside, entry-outside}
 
--- every cell is 0
+-- cells that are all 0
+module _ (count : ℕ) (s : Section) (h : s .0 + s .1 ≤ count) where
+  entry-zero : (i : ℕ) → entryIn (replicate count 0) s i ≡ 0
+  entry-zero i = by-range (ltb i (s .1)) refl
+    where
+      by-range : (t : Bool) → ltb i (s .1) ≡ t → entryIn (replicate count 0) s i ≡ 0
+      by-range true e =
+          let l = ltb-true i (s .1) e in
+          entry-inside (replicate count 0) s i l ∙ getD-replicate {A = ℕ} count (s .0 + i) 0 0 (omega arith)
+      by-range false e = entry-outside (replicate count 0) s i (ltb-false i (s .1) e)
+
+  pub mark-zero : (r x : ℕ) → markIn (replicate count 0) s r x ≡ false
+  unfolding markIn
+  mark-zero r x = rw (entry-zero (markCell r x), bit-zero (x % 32)) (and-false (isMarkPlace r x))
+
+-- those of the tables
 entry-blank : (s : Section) (i : ℕ) → s .0 + s .1 ≤ cellCount → entryIn blank s i ≡ 0
 unfolding blank
-entry-blank s i h = by-range (ltb i (s .1)) refl
-  where
-    by-range : (t : Bool) → ltb i (s .1) ≡ t → entryIn blank s i ≡ 0
-    by-range true e =
-        let l = ltb-true i (s .1) e in
-        entry-inside blank s i l ∙ getD-replicate {A = ℕ} cellCount (s .0 + i) 0 0 (omega arith)
-    by-range false e = entry-outside blank s i (ltb-false i (s .1) e)
+entry-blank s i h = entry-zero cellCount s h i
 
 flag-blank : (s : Section) (i : ℕ) → s .0 + s .1 ≤ cellCount → flagIn blank s i ≡ false
 unfolding flagIn
 flag-blank s i h = rw (entry-blank s i h)
 
 mark-blank : (s : Section) (r x : ℕ) → s .0 + s .1 ≤ cellCount → markIn blank s r x ≡ false
-unfolding markIn
-mark-blank s r x h = rw (entry-blank s (markCell r x) h, bit-zero (x % 32)) (and-false (isMarkPlace r x))
+unfolding blank
+mark-blank s r x h = mark-zero cellCount s h r x
 
 -- no node has a range for a function
 last-blank : (n f : ℕ) → lastRangeIn blank n f ≡ 0

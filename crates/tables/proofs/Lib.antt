@@ -2,3 +2,5 @@ pub mod Setting
 pub mod Writing
 pub mod Blank
 pub mod Chains
+pub mod Sections
+pub mod Cases

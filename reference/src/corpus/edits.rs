@@ -56,7 +56,7 @@ pub fn jobs() -> Vec<Job> {
 }
 
 /// Each byte one more and one less.
-fn other_bytes(job: &[u8]) -> Vec<Job> {
+pub fn other_bytes(job: &[u8]) -> Vec<Job> {
     let edited = |at: usize, byte: u8| [&job[..at], &[byte], &job[at + 1..]].concat();
     (0..job.len())
         .flat_map(|at| [edited(at, job[at].wrapping_add(1)), edited(at, job[at].wrapping_sub(1))])

@@ -6,7 +6,7 @@ use crate::table::{self, *};
 const NODES: u8 = MAX_NODES as u8;
 
 pub fn jobs() -> Vec<Job> {
-    vec![all_made(), late()]
+    vec![all_made(), late(0)]
 }
 
 /// A full handler: sums that are written to variable 0, numbers that function 0 is called with, and at its end a
@@ -45,16 +45,18 @@ fn all_made() -> Job {
     job
 }
 
-/// The last node makes its handler, which stands behind every ANY, READ and WRITE that there can be.
-fn late() -> Job {
-    let (variables, functions) = (0..MAX_VARIABLES as u8, 0..MAX_FUNCTIONS as u8);
+/// The last node makes its handler, which stands behind all declarations and as many wires of other nodes as leave room
+/// for it. Of the functions it calls 0, and may call this one.
+pub fn late(function: u8) -> Job {
+    let (variables, functions, last) = (0..MAX_VARIABLES as u8, 0..MAX_FUNCTIONS as u8, NODES - 1);
     let mut job = [&[FLOW][..], &[NODE; MAX_NODES]].concat();
-    job.extend(variables.clone().flat_map(|variable| [VAR, 2, 0, variable, 0, 0, 0]));
-    job.extend(functions.clone().flat_map(|function| [FUN, function, 0, 0, 0]));
-    for node in 0..NODES {
-        job.extend(functions.clone().flat_map(|function| [ANY, node, function]));
-        job.extend(variables.clone().flat_map(|variable| [READ, node, variable, WRITE, node, variable]));
-    }
-    let last = NODES - 1;
-    [job, handler(last), vec![START, last, 1, 0, 0, 0], turns(last)].concat()
+    job.extend(variables.flat_map(|variable| [VAR, 2, 0, variable, 0, 0, 0]));
+    job.extend(functions.flat_map(|function| [FUN, function, 0, 0, 0]));
+    let lists = vec![ANY, last, function, WRITE, last, 0];
+    let tail = [lists, handler(last), vec![START, last, 1, 0, 0, 0], turns(last)].concat();
+    let room = (MAX_JOB_BYTES - job.len() - tail.len()) / table::write(WIRE, &[0; 3]).len();
+    let ports = (0..last).flat_map(|node| (0..PORTS as u8).map(move |port| [WIRE, node, port]));
+    let wires = ports.flat_map(|[wire, node, port]| (0..NODES).map(move |target| [wire, node, port, target]));
+    job.extend(wires.take(room).flatten());
+    [job, tail].concat()
 }

@@ -101,30 +101,36 @@ fn uncounted() -> Vec<Job> {
     ]
 }
 
-/// All declarations, every wire, every permission that there can be, a full body for every node and a START
-/// for every flow: accepted.
+/// All declarations, every wire, a full body for every node with the permissions that its commands use, each of them
+/// another one, 256 ARG commands and a START for every flow: accepted.
 fn everything() -> Job {
     let mut plan = full();
     for node in 0..MAX_NODES as u32 {
-        wires_and_permissions(&mut plan, node);
+        wires(&mut plan, node);
         plan.push(BODY, &[node]);
-        (0..MAX_BODY_COMMANDS).for_each(|_| plan.push(SKIP, &[]));
+        accesses(&mut plan, node);
     }
     (0..MAX_ARGS as u32).for_each(|number| plan.push(ARG, &[number % 32, number / 8, number]));
     (0..MAX_FLOWS as u32).for_each(|flow| plan.push(START, &[4 * flow, 1]));
     plan.bytes()
 }
 
-/// Every wire, ANY, READ and WRITE of a node.
-fn wires_and_permissions(plan: &mut Plan, node: u32) {
+/// Every wire of a node.
+fn wires(plan: &mut Plan, node: u32) {
     for target in plan.nodes_of(plan.flow_of[node as usize]) {
         (0..PORTS as u32).for_each(|port| plan.push(WIRE, &[node, port, target.into()]));
     }
-    (0..MAX_FUNCTIONS as u32).for_each(|function| plan.push(ANY, &[node, function]));
-    for variable in 0..MAX_VARIABLES as u8 {
-        if plan.sees(node as u8, variable) && plan.is_shared(variable) {
-            plan.push(READ, &[node, variable.into()]);
-            plan.push(WRITE, &[node, variable.into()]);
-        }
+}
+
+/// A node's handler without its BODY, as long as can be, and a permission for each of its commands: calls of all
+/// functions, then reads and writes of the last variables that it shares.
+fn accesses(plan: &mut Plan, node: u32) {
+    let is_shared = |&variable: &u8| plan.sees(node as u8, variable) && plan.is_shared(variable);
+    let shared: Vec<u8> = (0..MAX_VARIABLES as u8).rev().filter(is_shared).collect();
+    let calls = (0..MAX_FUNCTIONS as u8).map(|function| (ANY, CALL, function));
+    let others = shared.into_iter().flat_map(|variable| [(READ, GET, variable), (WRITE, PUT, variable)]);
+    for (permission, command, number) in calls.chain(others).take(MAX_BODY_COMMANDS) {
+        plan.push(permission, &[node, number.into()]);
+        plan.push(command, &[number.into()]);
     }
 }

@@ -1,5 +1,6 @@
 //! Permissions in long lists, and those of the last node, variables and function that there can be.
 
+use super::mend::mended;
 use super::worlds::{behind, full};
 use super::Job;
 use crate::table::{self, *};
@@ -44,5 +45,5 @@ pub fn last_node_with(replies: &[u8], permissions: &[u8]) -> Job {
     let wires = [WIRE, 31, 3, 28, WIRE, 31, 3, 31];
     let start = table::write(START, &[31, 7]);
     let turns = [[TURN, 31].repeat(9), [TURN, 28].repeat(2), [TURN, 31].repeat(2)].concat();
-    behind(&full(), &[replies, &wires, permissions, &HANDLER, &start, &turns].concat())
+    mended(behind(&full(), &[replies, &wires, permissions, &HANDLER, &start, &turns].concat()))
 }

@@ -8,10 +8,12 @@ mod edits;
 mod full;
 mod groups;
 mod handlers;
+mod idle;
 mod jumps;
 mod lengths;
 mod limits;
 mod lists;
+mod mend;
 mod names;
 mod order;
 mod pairs;
@@ -29,6 +31,7 @@ mod worlds;
 
 use std::collections::BTreeSet;
 
+use mend::all_mended;
 use run::Runs;
 pub use run::{Change, Run};
 
@@ -62,14 +65,20 @@ fn jobs() -> Vec<(&'static str, Vec<Job>)> {
     ]
 }
 
+/// Of these, the families in which permissions may be idle.
+const WITH_IDLE: [&str; 2] = ["groups", "random"];
+
 /// All families: the worked jobs in both modes, each of the jobs above once, then what is about runs, then SPAN,
-/// then REPLY. A new family goes behind all others, so that the stored runs before it stay the same.
+/// then REPLY, then idle permissions. A new family goes behind all others, so that the stored runs before it stay the same.
 pub fn families() -> Vec<Family> {
     let mut runs = Runs::new();
     let mut list = vec![Family { name: "worked", runs: runs.pairs(&worked::jobs()) }];
     let mut seen: BTreeSet<Job> = worked::jobs().into_iter().collect();
     for (name, mut jobs) in jobs() {
         jobs.retain(|job| seen.insert(job.clone()));
+        if !WITH_IDLE.contains(&name) {
+            jobs = all_mended(jobs);
+        }
         list.push(Family { name, runs: jobs.iter().map(|job| runs.any(job)).collect() });
     }
     list.push(Family { name: "buffers", runs: buffers::runs(&mut runs) });
@@ -89,15 +98,16 @@ pub fn families() -> Vec<Family> {
     list.push(Family { name: "work", runs: work::runs(&mut runs) });
     list.extend(with_spans(&mut runs));
     list.extend(with_replies(&mut runs));
+    list.extend(about_idle(&mut runs));
     list
 }
 
 /// What is about SPAN, which no job before has: some jobs once, in either mode, then pairs.
 fn with_spans(runs: &mut Runs) -> [Family; 4] {
-    let once = [spans::cuts(), spans::limits(), random::damaged_by_span(2)].concat();
+    let once = [spans::cuts(), all_mended(spans::limits()), random::damaged_by_span(2)].concat();
     [
         Family { name: "spans once", runs: once.iter().map(|job| runs.any(job)).collect() },
-        Family { name: "spans", runs: runs.pairs(&spans::jobs()) },
+        Family { name: "spans", runs: runs.pairs(&all_mended(spans::jobs())) },
         Family { name: "ranges", runs: runs.pairs(&ranges::jobs()) },
         Family { name: "span pairs", runs: runs.pairs(&pairs::with_spans(12)) },
     ]
@@ -105,13 +115,25 @@ fn with_spans(runs: &mut Runs) -> [Family; 4] {
 
 /// What is about REPLY, which no job before has: some jobs once, in either mode, then pairs.
 fn with_replies(runs: &mut Runs) -> [Family; 5] {
-    let once = [replies::cuts(), replies::limits(), random::damaged_by_reply(2)].concat();
+    let once = [replies::cuts(), all_mended(replies::limits()), random::damaged_by_reply(2)].concat();
     [
         Family { name: "replies once", runs: once.iter().map(|job| runs.any(job)).collect() },
-        Family { name: "replies", runs: runs.pairs(&replies::jobs()) },
+        Family { name: "replies", runs: runs.pairs(&all_mended(replies::jobs())) },
         Family { name: "reply buffers", runs: replies::beside_buffers(runs) },
         Family { name: "answers", runs: runs.pairs(&answers::jobs()) },
         Family { name: "reply pairs", runs: runs.pairs(&pairs::with_replies(12)) },
+    ]
+}
+
+/// What is about idle permissions: some jobs once, in either mode, then pairs; and jobs with permissions for what their
+/// runs do not reach.
+fn about_idle(runs: &mut Runs) -> [Family; 4] {
+    let once = [idle::once(), random::damaged_by_idle(4)].concat();
+    [
+        Family { name: "idle once", runs: once.iter().map(|job| runs.any(job)).collect() },
+        Family { name: "idle", runs: runs.pairs(&idle::jobs()) },
+        Family { name: "idle buffers", runs: idle::beside_buffers(runs) },
+        Family { name: "used pairs", runs: runs.pairs(&pairs::with_unreached(24)) },
     ]
 }
 

@@ -1,5 +1,5 @@
 //! The generator's valid jobs with runs of 10 to 60 turns, for both modes: of 01's commands alone, with SPAN, with
-//! REPLY.
+//! REPLY, with permissions that the run does not need.
 
 use super::Job;
 use crate::generate::{draw_case, Kind, Random};
@@ -22,8 +22,29 @@ pub fn with_spans(count: usize) -> Vec<Job> {
 
 /// So many jobs with a call that gets another answer than FUN's.
 pub fn with_replies(count: usize) -> Vec<Job> {
-    let jobs = drawn(|index| Random::for_case(SEED + 1, index));
+    let jobs = drawn(|index| Random::for_case(SEED + 1, index).without_idle());
     jobs.filter(|job| job.len() < 400 && has_call_by_reply(job)).take(count).collect()
+}
+
+/// So many jobs with READ or WRITE for what the run does not reach.
+pub fn with_unreached(count: usize) -> Vec<Job> {
+    let jobs = drawn(|index| Random::for_case(SEED + 2, index));
+    jobs.filter(|job| job.len() < 400 && has_unreached(job)).take(count).collect()
+}
+
+/// Whether some READ or WRITE permits no entry of the unmonitored run.
+fn has_unreached(job: &[u8]) -> bool {
+    let program = decode(job).expect("a valid job");
+    let mut nodes = program.nodes.clone();
+    for entry in entries(&program) {
+        let node = &mut nodes[usize::from(entry.node)];
+        match entry.kind {
+            kind::READ => node.readable &= !(1 << entry.number),
+            kind::WRITE => node.writable &= !(1 << entry.number),
+            _ => {}
+        }
+    }
+    nodes.iter().any(|node| node.readable | node.writable != 0)
 }
 
 /// Whether a call of the unmonitored run gets another answer than FUN's.

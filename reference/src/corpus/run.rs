@@ -3,9 +3,11 @@
 use super::Job;
 use crate::dirt::{dirty, handed_over, is_kept, Buffers};
 use crate::generate::buffers::{self, Lengths};
+use crate::generate::plan::Plan;
 use crate::generate::Random;
 use crate::print::text;
-use crate::{decode, run, Mode};
+use crate::table::TURN;
+use crate::{decode, run, Mode, Refusal};
 
 /// The byte of a buffer that is changed after a run, by one modulo 256.
 #[derive(Clone, Copy, Debug, PartialEq, Eq)]
@@ -74,9 +76,13 @@ impl Run {
     }
 }
 
-/// The turns of a job; of a refused one any number.
+/// The turns of a job, accepted or refused by 19, which comes before the buffers alone; of any other any number.
 fn turns(job: &[u8], random: &mut Random) -> usize {
-    decode(job).map_or_else(|_| random.below(40), |program| program.turns.len())
+    match decode(job) {
+        Ok(program) => program.turns.len(),
+        Err(Refusal { number: 19, .. }) => Plan::split(job).indices(TURN).len(),
+        Err(_) => random.below(40),
+    }
 }
 
 /// Buffers just long enough for a job that is accepted.

@@ -1,5 +1,6 @@
 //! Jobs that stop: accesses beside each single permission, nodes that are not ready, full queues.
 
+use super::mend::mended;
 use super::Job;
 use crate::table::{self, *};
 
@@ -46,7 +47,7 @@ pub fn access_job(permission: &[u8], access: [u8; 2], message: u32) -> Job {
     let handler = [&[BODY, 0, TAKE][..], &access, &[SEND, 0]].concat();
     let tail = [TURN, 0, TURN, 0, TURN, 0, TURN, 0, TURN, 0, TURN, 2];
     let start = table::write(START, &[0, message]);
-    [&DECLARATIONS, permission, &handler, &start, &tail].concat()
+    mended([&DECLARATIONS, permission, &handler, &start, &tail].concat())
 }
 
 /// A node without a message: at once, behind some turns, when it is idle again, and without a handler.

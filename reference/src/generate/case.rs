@@ -46,14 +46,19 @@ pub fn draw_case(random: &mut Random, kind: Kind, max_bytes: usize) -> Case {
     if is_valid {
         return valid_case(random, max_bytes);
     }
-    match random.weighted(&[60, 15, 6, 5, 14]) {
-        0 => damaged_case(random, max_bytes),
+    let ways = if random.draws_idle { WAYS.len() } else { WAYS.len() - 1 };
+    match random.weighted(&WAYS[..ways]) {
+        0 => damaged_case(random, max_bytes, Reason::draw),
         1 => blind_case(random, max_bytes, |job, random| noise::flip(job, random)),
         2 => blind_case(random, max_bytes, noise::cut),
         3 => soup_case(random, max_bytes),
-        _ => short_case(random, max_bytes),
+        4 => short_case(random, max_bytes),
+        _ => damaged_case(random, max_bytes, Reason::draw_idle),
     }
 }
+
+/// How often a case that is not valid is made in each way; the last, idle permissions, is an eighth of mixed cases.
+const WAYS: [usize; 6] = [60, 15, 6, 5, 14, 45];
 
 fn mode(random: &mut Random) -> Mode {
     if random.chance(65) {
@@ -69,7 +74,8 @@ fn turns(plan: &Plan) -> usize {
 
 fn valid_plan(random: &mut Random, max_bytes: usize) -> Plan {
     if max_bytes > 600 && random.chance(3) {
-        if let Some(plan) = full_plan(random).filter(|plan| plan.length() <= max_bytes) {
+        if let Some(mut plan) = full_plan(random).filter(|plan| plan.length() <= max_bytes) {
+            plan.drop_idle();
             return plan;
         }
     }
@@ -78,12 +84,14 @@ fn valid_plan(random: &mut Random, max_bytes: usize) -> Plan {
         let count = turns(&plan);
         valid::random_turns(&mut plan, random, count);
     }
+    plan.drop_idle();
     plan
 }
 
 /// A job that reaches a largest count exactly.
 fn full_plan(random: &mut Random) -> Option<Plan> {
     let mut plan = valid::medium(random);
+    plan.drop_idle();
     let counts = count::drawn_with(random);
     match random.below(counts.len() + 1) {
         0 => count::pad(&mut plan, random, MAX_JOB_BYTES)?,
@@ -109,9 +117,9 @@ fn short_case(random: &mut Random, max_bytes: usize) -> Case {
 /// After so many jobs that are too long or do not suit the reason, an empty job has to do.
 const TRIES: usize = 300;
 
-fn damaged_case(random: &mut Random, max_bytes: usize) -> Case {
+fn damaged_case(random: &mut Random, max_bytes: usize, draw: fn(&mut Random) -> Reason) -> Case {
     for _ in 0..TRIES {
-        let reason = Reason::draw(random);
+        let reason = draw(random);
         let small = max_bytes <= 600 || random.chance(50);
         let mut plan = if small { valid::valid(random, max_bytes.min(600)) } else { valid::medium(random) };
         let turns = turns(&plan);
@@ -126,7 +134,10 @@ fn damaged_case(random: &mut Random, max_bytes: usize) -> Case {
 }
 
 fn blind_case(random: &mut Random, max_bytes: usize, spoil: impl FnOnce(&mut Vec<u8>, &mut Random)) -> Case {
-    let plan = valid::valid(random, max_bytes);
+    let mut plan = valid::valid(random, max_bytes);
+    if random.draws_idle {
+        plan.drop_idle();
+    }
     let mut job = plan.bytes();
     spoil(&mut job, random);
     let lengths = buffers::any(random, turns(&plan));

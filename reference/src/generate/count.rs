@@ -104,14 +104,17 @@ fn fill_body(plan: &mut Plan, random: &mut Random) -> Option<Spot> {
 }
 
 fn fill_args(plan: &mut Plan, random: &mut Random) -> Option<()> {
-    if plan.nodes() == 0 || plan.functions == 0 {
+    let calls = plan.calls();
+    if plan.nodes() == 0 || plan.functions == 0 || random.draws_idle && calls.is_empty() {
         return None;
     }
     let mut value = random.value();
     for _ in plan.arguments().len()..MAX_ARGS {
         let permissions = &plan.groups[usize::from(group(ARG))];
-        let node = random.below(plan.nodes()) as u32;
-        let function = random.below(plan.functions) as u32;
+        let [node, function] = match random.draws_idle {
+            true => random.pick(&calls),
+            false => [random.below(plan.nodes()), random.below(plan.functions)].map(|number| number as u32),
+        };
         let width = (random.draws_spans && random.chance(50)).then(|| random.below(4) as u32);
         let permission = |value: u32| match width {
             Some(width) => table::write(SPAN, &[node, function, value, value.saturating_add(width)]),

@@ -15,6 +15,7 @@ mod reply;
 mod schedule;
 mod shape;
 mod size;
+pub mod uses;
 pub mod valid;
 mod wire;
 

@@ -4,9 +4,10 @@ use std::collections::{BTreeMap, BTreeSet};
 
 use super::plan::Plan;
 use super::random::Random;
+use super::uses::used;
 use crate::command::{self, Command};
 use crate::outcome::{kind, Entry};
-use crate::table::{self, ANY, ARG, MAX_ARGS, READ, SPAN, WRITE};
+use crate::table::{self, ANY, ARG, GET, MAX_ARGS, PUT, READ, SPAN, WRITE};
 
 /// How many of the needed permissions are given.
 enum Style {
@@ -47,6 +48,9 @@ pub fn permit(plan: &mut Plan, entries: &[Entry], random: &mut Random) {
         Style::Percent(percent) => permissions.retain(|_| random.chance(percent)),
     }
     permissions.extend(extras(plan, entries, random));
+    if random.draws_idle {
+        permissions.extend(unreached(plan, entries, random));
+    }
     add_distinct(plan, permissions, random);
 }
 
@@ -141,6 +145,40 @@ fn extras(plan: &Plan, entries: &[Entry], random: &mut Random) -> Vec<Vec<u8>> {
         }
     }
     list
+}
+
+/// Permissions for what a handler has a command for that the run does not reach: none, some or all of them.
+fn unreached(plan: &Plan, entries: &[Entry], random: &mut Random) -> Vec<Vec<u8>> {
+    let percent = random.pick(&[0, 40, 100]);
+    let mut list = Vec::new();
+    for node in 0..plan.nodes() as u8 {
+        for [byte, number] in plan.handler(node).iter().filter_map(|command| used(command)) {
+            let (kind, permission) = of_use(byte, random);
+            let is_reached = |entry: &Entry| (entry.node, entry.kind, entry.number) == (node, kind, number);
+            let may_be = kind == kind::CALL || plan.is_shared(number);
+            if may_be && random.chance(percent) && !entries.iter().any(is_reached) {
+                list.push(whole([permission, node, number], random));
+            }
+        }
+    }
+    list
+}
+
+/// The kind of a used command's entry, and a permission for it.
+fn of_use(byte: u8, random: &mut Random) -> (u8, u8) {
+    match byte {
+        GET => (kind::READ, READ),
+        PUT => (kind::WRITE, WRITE),
+        _ => (kind::CALL, random.pick(&[ANY, ARG, SPAN])),
+    }
+}
+
+/// A permission with any arguments, given by its byte, node and number.
+pub fn whole([byte, node, number]: [u8; 3], random: &mut Random) -> Vec<u8> {
+    let (one, other) = (random.value(), random.value());
+    let operands = [node.into(), number.into(), one.min(other), one.max(other)];
+    let count = table::row(byte).expect("a byte of the table").operands.len();
+    table::write(byte, &operands[..count])
 }
 
 /// ARG beside the needed ones: another value, function or node; the same argument beside ANY.

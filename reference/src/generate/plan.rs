@@ -1,9 +1,12 @@
 //! A job in the making: its commands by group, and what they declare.
 
+use super::uses::{use_of, used};
 use crate::command::{self, Command};
-use crate::table::{self, group, ARG, BODY, FLOW, FUN, NODE, REPLY, SPAN, TURN, VAR};
+use crate::table::{self, group, ARG, BODY, CALL, FLOW, FUN, NODE, REPLY, SPAN, TURN, VAR};
 
 pub const GROUPS: usize = 7;
+/// The group of permissions.
+pub const PERMISSIONS: usize = group(ARG) as usize;
 /// The group of handler commands.
 pub const HANDLERS: usize = group(BODY) as usize;
 
@@ -20,6 +23,18 @@ pub struct Plan {
 }
 
 impl Plan {
+    /// The commands of a job, as far as they are whole, by group. What they declare is not noted.
+    pub fn split(mut job: &[u8]) -> Plan {
+        let mut plan = Plan::default();
+        while !job.is_empty() {
+            let Ok((_, group, length)) = command::read(job, 0) else { break };
+            let (command, rest) = job.split_at(length);
+            plan.groups[usize::from(group)].push(command.to_vec());
+            job = rest;
+        }
+        plan
+    }
+
     pub fn nodes(&self) -> usize {
         self.flow_of.len()
     }
@@ -110,6 +125,34 @@ impl Plan {
         let mut starts = self.indices(BODY);
         starts.push(self.groups[HANDLERS].len());
         starts.windows(2).map(|pair| pair[0] + 1..pair[1]).collect()
+    }
+
+    /// The body of a node, if it has one.
+    pub fn body(&self, node: u8) -> Option<std::ops::Range<usize>> {
+        self.bodies().into_iter().find(|body| self.groups[HANDLERS][body.start - 1] == [BODY, node])
+    }
+
+    /// The commands of a node's handler.
+    pub fn handler(&self, node: u8) -> &[Vec<u8>] {
+        self.body(node).map_or(&[], |body| &self.groups[HANDLERS][body])
+    }
+
+    /// Whether the handler of a permission's node has a command for it.
+    pub fn is_used(&self, permission: &[u8]) -> bool {
+        self.handler(permission[1]).iter().any(|command| used(command) == Some(use_of(permission)))
+    }
+
+    /// Node and function of each CALL.
+    pub fn calls(&self) -> Vec<[u32; 2]> {
+        let calls = self.indices(CALL).into_iter();
+        let call = |index| Some([self.body_at(index)?.into(), self.groups[HANDLERS][index][1].into()]);
+        calls.filter_map(call).collect()
+    }
+
+    /// Leaves out the permissions that no handler uses. No run is another without them.
+    pub fn drop_idle(&mut self) {
+        let permissions = std::mem::take(&mut self.groups[PERMISSIONS]);
+        self.groups[PERMISSIONS] = permissions.into_iter().filter(|one| self.is_used(one)).collect();
     }
 
     pub fn length(&self) -> usize {

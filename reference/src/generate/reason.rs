@@ -1,6 +1,7 @@
 //! Every way in which a job is damaged on purpose.
 
 use super::count::{Count, COUNTS};
+use super::damage::idle::SORTS;
 use super::random::Random;
 use crate::table::*;
 
@@ -55,11 +56,19 @@ pub enum Reason {
     TwoBadJumps,
     /// Refused for what comes after the jump.
     BadJumpBeforeOtherRefusal,
+    /// Refused for the jump.
+    IdleBeforeBadJump,
     // 15
     /// If it is not alone, what comes after the SPAN is wrong too.
     LowAboveHigh {
         alone: bool,
     },
+    // 19
+    Idle(u8),
+    /// The handler has the other access of the variable, or another handler the same call.
+    IdleBesideClose(u8),
+    SeveralIdle,
+    UseLost,
 }
 
 use Reason::*;
@@ -93,6 +102,9 @@ impl Reason {
         }
         list.extend([TwoBadJumps, BadJumpBeforeOtherRefusal]);
         list.extend([true, false].map(|alone| LowAboveHigh { alone }));
+        list.extend(SORTS.map(Idle));
+        list.extend(SORTS.map(IdleBesideClose));
+        list.extend([SeveralIdle, UseLost, IdleBeforeBadJump]);
         list
     }
 
@@ -101,7 +113,13 @@ impl Reason {
         let mut list = Reason::all();
         list.retain(|reason| random.draws_spans || !reason.needs_span());
         list.retain(|reason| random.draws_replies || !reason.needs_reply());
+        list.retain(|reason| random.draws_idle || !reason.needs_idle());
         list
+    }
+
+    /// Whether the damage is an idle permission.
+    pub fn needs_idle(self) -> bool {
+        self.number() == 19 || self == IdleBeforeBadJump
     }
 
     /// Whether the damage is a SPAN.
@@ -121,7 +139,7 @@ impl Reason {
     }
 }
 
-/// Numbers of refusals, and how often each is drawn; 15 is the last.
+/// Numbers of refusals, and how often each is drawn; 15 is the last. 19 is drawn apart.
 const NUMBERS: [u8; 10] = [1, 2, 3, 4, 5, 6, 7, 8, 9, 15];
 const WEIGHTS: [usize; 10] = [5, 8, 11, 8, 12, 20, 14, 14, 8, 8];
 
@@ -141,16 +159,30 @@ impl Reason {
             PermissionUnseen(_) | PermissionNotShared(_) | PermissionUnseenNotShared(_) => 7,
             Repeated(_) | ReplyWithOtherAnswer => 8,
             SecondBody | SecondStartSameNode | SecondStartOtherNode => 8,
-            JumpOnePastEnd(_) | JumpFarPastEnd(_) | TwoBadJumps => 9,
+            JumpOnePastEnd(_) | JumpFarPastEnd(_) | TwoBadJumps | IdleBeforeBadJump => 9,
             BadJumpBeforeOtherRefusal => 6,
             LowAboveHigh { .. } => 15,
+            Idle(_) | IdleBesideClose(_) | SeveralIdle | UseLost => 19,
         }
     }
 
-    /// Any reason, every number about as often as the others.
+    /// Any reason but of 19, every number about as often as the others.
     pub fn draw(random: &mut Random) -> Reason {
         let last = if random.draws_spans { NUMBERS.len() } else { NUMBERS.len() - 1 };
         let number = NUMBERS[random.weighted(&WEIGHTS[..last])];
+        Reason::draw_of(random, number)
+    }
+
+    /// Any reason of 19, several idle permissions more often than the others.
+    pub fn draw_idle(random: &mut Random) -> Reason {
+        if random.chance(25) {
+            return SeveralIdle;
+        }
+        Reason::draw_of(random, 19)
+    }
+
+    /// Any reason of a number.
+    fn draw_of(random: &mut Random, number: u8) -> Reason {
         let mut reasons = Reason::drawn_with(random);
         reasons.retain(|reason| reason.number() == number);
         random.pick(&reasons)

@@ -7,7 +7,7 @@ pub mod made;
 use std::collections::HashSet;
 use std::ops::RangeInclusive;
 
-use flow_reference::{hex, Mode, Outcome};
+use flow_reference::{decode, hex, Mode, Outcome, Refusal};
 
 pub const MODES: [Mode; 2] = [Mode::Monitored, Mode::Unmonitored];
 
@@ -40,6 +40,23 @@ pub fn run_dirty(job: &[u8], mode: Mode, lengths: [usize; 3], dirt: u8) -> Ran {
     let [mut trace, mut snapshot, mut work] = lengths.map(|length| vec![dirt; length]);
     let outcome = flow_reference::run(job, mode, &mut trace, &mut snapshot, &mut work);
     Ran { outcome, trace, snapshot, work }
+}
+
+/// What the decoder and both runs say to a job, whatever the buffers: number and place, or none if they accept it.
+pub fn refusal(job: &[u8]) -> Option<(u8, usize)> {
+    let refusal = decode(job).err();
+    for (mode, lengths) in MODES.into_iter().flat_map(|mode| [(mode, [28_672, 2_624, 4_096]), (mode, [0; 3])])
+    {
+        let outcome = run_dirty(job, mode, lengths, 0x5A).outcome;
+        match refusal {
+            Some(refusal) => assert_eq!(outcome, Outcome::Refused(refusal)),
+            None if lengths[1] == 0 => {
+                assert!(matches!(outcome, Outcome::Refused(Refusal { number: 10..=12, .. })))
+            }
+            None => assert!(matches!(outcome, Outcome::Ran(_))),
+        }
+    }
+    refusal.map(|Refusal { number, place }| (number, place))
 }
 
 /// A job of pieces in hexadecimal, each so often.

@@ -1,6 +1,7 @@
 //! Damaged jobs whose refusal is known from the damage.
 
 mod bytes;
+pub mod idle;
 mod jumps;
 mod names;
 mod order;
@@ -80,6 +81,11 @@ fn damage_content(reason: Reason, plan: &mut Plan, random: &mut Random) -> Optio
         TwoBadJumps => jumps::two_bad_jumps(plan, random),
         BadJumpBeforeOtherRefusal => jumps::before_other_refusal(plan, random),
         LowAboveHigh { alone } => spans::low_above_high(plan, random, alone),
+        Idle(byte) => idle::one(plan, random, byte, false),
+        IdleBesideClose(byte) => idle::one(plan, random, byte, true),
+        SeveralIdle => idle::several(plan, random),
+        UseLost => idle::use_lost(plan, random),
+        IdleBeforeBadJump => idle::before_bad_jump(plan, random),
         _ => unreachable!("{reason:?} comes before these"),
     }
 }

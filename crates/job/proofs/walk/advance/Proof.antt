@@ -15,18 +15,23 @@ enum-known-read-2 : tie.Need-enum-known-read-2
 enum-known-read-2 c = search needs
 
 admit-requires : tie.Need-admit-requires
-admit-requires c κs = (
-  c .before .before .before .before .before .before .before .pre,
-  reads-whole _ _ _ _ _
-      (c .before .before .before .before .read-command .ensures) (c .before .before .read2 .given .1),
-)
+admit-requires c κs =
+    let p3 = c .before .before .before in
+    let start = p3 .before .before .before .before .before .before in
+    (start .pre, reads-whole _ _ _ _ _ (p3 .before .before .read-command .ensures) (p3 .read2 .given .1))
 
 returns : tie.Need-returns
-returns c = λ past stands valid short. step-unread _ _ (c .before .before .before .before .before .before .pre .0) past _
-    (reads-refused _ _ _ _ (c .before .before .before .read-command .ensures) (c .before .read .given .1))
+returns c =
+    let p3 = c .before .before .before in
+    let start = p3 .before .before .before .before in
+    λ past stands uses valid short.
+    step-unread _ _ (start .pre .0) past _ (reads-refused _ _ _ _ (p3 .read-command .ensures) (c .before .read .given .1))
 
 same-length : tie.Need-same-length
 same-length c = search needs
+
+same-length-2 : tie.Need-same-length-2
+same-length-2 c = search needs
 
 returns-2 : tie.Need-returns-2
 returns-2 c = search needs
@@ -41,4 +46,5 @@ advance-spec =
     admit-requires
     returns
     same-length
+    same-length-2
     returns-2)

@@ -2,12 +2,14 @@
 use Prim.Native.Nat.{ℕ, _+_, _*_, _%_, _≤_, _<_}
 use mathlib.Core.Path.{_≡_, refl, sym}
 use mathlib.Core.Bool.{Bool, true, false, cond, not, _&&_, _||_}
+use mathlib.Core.List.{List}
 use native.Mathlib.Omega.{arith}
 use lib.Dec.{ltb, eqb}
 use borrow.Author.Tests.{ltb-true, ltb-false, lt-ltb, eqb-true, eqb-false, eq-eqb, ne-eqb}
+use Rattle.tables.specs.declared.cells.Section.{Section}
 use Rattle.tables.specs.Bits.{bitOf, withBit}
-use Rattle.tables.specs.Cells.{isMarkPlace, markCell}
+use Rattle.tables.specs.Cells.{entryIn, isMarkPlace, markCell, marksWith, markIn}
 use Rattle.tables.proofs.Setting.{bit-set}
 
 -- a column: the new value at the cell, the old one elsewhere
 pub column :
@@ -99,6 +101,18 @@ module _ (cells : ℕ → ℕ) (a b r x k : ℕ) where
           by-row : (p : Bool) → false ≡ ((p && eqb b x) || older)
           by-row true = rw (ne-eqb b x (λ z. omega (arith, h₂ refl, ltb-false x 64 f))) q
           by-row false = q
+
+-- the marks of a section of 32 rows after a write of one of them, if it is made: those before, and this one
+pub mark-after :
+    (t u : List ℕ) (s : Section) (on : Bool) (a b r x : ℕ) (older : Bool)
+    → entryIn u s (markCell r x) ≡ cond ((on && isMarkPlace a b) && (eqb (markCell a b) (markCell r x) && ltb (markCell r x) 64))
+    (marksWith t s a b) (entryIn t s (markCell r x))
+    → (on ≡ true → (a < 32) × (b < 64)) → markIn t s r x ≡ older
+    → markIn u s r x ≡ ((on && (eqb a r && eqb b x)) || older)
+unfolding markIn
+mark-after t u s on a b r x older e h q =
+    rw e
+    (marking (entryIn t s) a b r x 64 on older (λ p. omega (arith, h p .0)) (λ p. h p .1) (λ p. omega (arith, h p .0, h p .1)) q)
 
 -- two places that are each given by a pair of numbers
 pub same-place : (x y a b n p : ℕ) → (x ≡ y → (a ≡ n) × (b ≡ p)) → (a ≡ n → b ≡ p → x ≡ y) → eqb x y ≡ (eqb a n && eqb b p)
