@@ -9,7 +9,7 @@ pub struct Tally {
     runs: u64,
     turns: u64,
     refusals: [u64; 20],
-    idle_places: BTreeSet<u64>,
+    unused_places: BTreeSet<u64>,
     stops: [u64; 4],
     pub differences: u64,
 }
@@ -23,7 +23,7 @@ impl Tally {
         self.refusals[refusal as usize] += 1;
         match refusal {
             0 => self.stops[stop as usize] += 1,
-            19 => drop(self.idle_places.insert(place)),
+            19 => drop(self.unused_places.insert(place)),
             _ => {}
         }
         self.differences += u64::from(differs);
@@ -38,10 +38,10 @@ fn list(counts: &[u64], first: usize) -> String {
 
 impl fmt::Display for Tally {
     fn fmt(&self, f: &mut fmt::Formatter) -> fmt::Result {
-        let Tally { runs, turns, refusals, idle_places, stops, differences } = self;
+        let Tally { runs, turns, refusals, unused_places, stops, differences } = self;
         // There is no 13, 14, 16, 17 or 18.
         let refusals = [list(&refusals[1..=12], 1), list(&refusals[15..=15], 15), list(&refusals[19..], 19)];
-        let (refusals, places, stops) = (refusals.concat(), idle_places.len(), list(stops, 0));
+        let (refusals, places, stops) = (refusals.concat(), unused_places.len(), list(stops, 0));
         write!(
             f,
             "{runs} runs, {turns} turns, refusals{refusals} at {places} places, stops{stops}, {differences} differences"

@@ -1,8 +1,8 @@
 //! The program so far, while a job is read front to back.
 
 use crate::command::{Command, HandlerCommand};
-use crate::idle::Lists;
 use crate::program::{arg_key, Instruction, Node, Program, Reference, Scope, Variable};
+use crate::unused::Lists;
 
 /// A jump, tested once all bodies are complete.
 struct Jump {

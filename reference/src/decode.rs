@@ -24,7 +24,7 @@ pub fn decode(job: &[u8]) -> Result<Program, Refusal> {
         builder.apply(command, place);
         place = next;
     }
-    match (builder.first_bad_jump(), builder.lists.first_idle()) {
+    match (builder.first_bad_jump(), builder.lists.first_unused()) {
         (Some(place), _) => Err(Refusal { number: 9, place }),
         (None, Some(place)) => Err(Refusal { number: 19, place }),
         (None, None) => Ok(builder.finish()),

@@ -11,7 +11,6 @@ pub mod dirt;
 pub mod engine;
 pub mod generate;
 pub mod hex;
-mod idle;
 pub mod outcome;
 pub mod output;
 pub mod print;
@@ -19,6 +18,7 @@ pub mod program;
 pub mod run;
 pub mod state;
 pub mod table;
+mod unused;
 
 pub use decode::decode;
 pub use outcome::{Answer, Entry, Mode, Outcome, Refusal};

@@ -108,17 +108,17 @@ fn numbers_of_pairs(name: &str) -> Vec<u8> {
     numbers.into_iter().step_by(2).collect()
 }
 
-/// Jobs about idle permissions in both modes: each sort beside each command; bodies; ANY beside others; two sorts; order;
+/// Jobs about unused permissions in both modes: each sort beside each command; bodies; ANY beside others; two sorts; order;
 /// the largest numbers; K1 with one more.
 #[test]
-fn refusals_at_idle_permissions() {
+fn refusals_at_unused_permissions() {
     // GET, PUT, PLUS, CALL of the same, then of others, in its node, then in another.
     let with = |uses: [usize; 4]| (0..16).map(move |index| if uses.contains(&index) { 0 } else { 19 });
     let [call, read, write] = [[3; 4], [0, 2, 2, 2], [1; 4]];
     let sorts: Vec<u8> = [call, call, read, write, call].into_iter().flat_map(with).collect();
     let bodies = [19, 19, 19, 19, 19, 0, 0, 0].repeat(5);
     let beside_any = [0, 19, 0, 19, 0, 19, 0, 19, 19, 19, 0];
-    // With the first used, the second is idle too, unless both are of the same call.
+    // With the first used, the second is unused too, unless both are of the same call.
     let several: Vec<u8> = [[0, 19, 19, 0], [0, 19, 19, 0], [19; 4], [19; 4], [0, 0, 19, 19]]
         .concat()
         .into_iter()
@@ -129,13 +129,13 @@ fn refusals_at_idle_permissions() {
     let largest = [calls, calls, accesses, accesses, calls].concat();
     let worked = [19, 19, 19, 19, 0, 19, 19, 0];
     let expected = [&sorts[..], &bodies, &beside_any, &several, &order, &largest, &worked].concat();
-    assert_eq!(numbers_of_pairs("idle"), expected);
+    assert_eq!(numbers_of_pairs("unused"), expected);
 }
 
 /// The places of 19 in jobs that are run once: in long lists, at the end of the longest job.
 #[test]
-fn places_of_idle_permissions() {
-    let lines = verdicts_of("idle once");
+fn places_of_unused_permissions() {
+    let lines = verdicts_of("unused once");
     let place = |first: usize, index: usize| format!("refused 19 {}", first + 3 * index);
     let world = 2 + 7 * 64 + 5 * 32;
     let of = |count: usize| [count - 1, 0, count / 2].map(|index| place(world, index));
@@ -163,8 +163,8 @@ fn replies_beside_short_buffers() {
     assert_eq!(numbers_of_runs("reply buffers"), [[5; 4], [6; 4], [8; 4], [0, 10, 11, 12]].concat());
 }
 
-/// An idle permission goes before short buffers, by which the second job is refused, and behind a far jump.
+/// An unused permission goes before short buffers, by which the second job is refused, and behind a far jump.
 #[test]
-fn idle_beside_short_buffers() {
-    assert_eq!(numbers_of_runs("idle buffers"), [[19; 6], [10, 10, 0, 10, 11, 12], [9; 6]].concat());
+fn unused_beside_short_buffers() {
+    assert_eq!(numbers_of_runs("unused buffers"), [[19; 6], [10, 10, 0, 10, 11, 12], [9; 6]].concat());
 }

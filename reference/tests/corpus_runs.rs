@@ -206,8 +206,8 @@ fn modes_seeds_and_pairs() {
         ("reply buffers", 16),
         ("answers", 60),
         ("reply pairs", 12),
-        ("idle", 100),
-        ("idle buffers", 18),
+        ("unused", 100),
+        ("unused buffers", 18),
         ("used pairs", 24),
     ] {
         let runs = runs_of(family);

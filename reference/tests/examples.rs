@@ -47,7 +47,7 @@ fn printed(file: &str) -> (Vec<String>, String) {
 
 #[test]
 fn every_job_has_its_text_and_its_lines() {
-    let expected: BTreeSet<String> = ["k1", "k2", "k4", "k5", "k6", "k7", "idle"]
+    let expected: BTreeSet<String> = ["k1", "k2", "k4", "k5", "k6", "k7", "unused"]
         .map(str::to_string)
         .into_iter()
         .chain(FLOWS.iter().flat_map(|flow| [format!("{flow}-benign"), format!("{flow}-malicious")]))
@@ -125,10 +125,10 @@ fn malicious_flows_part_at_the_forbidden_turn() {
 
 /// K1 with one more permission, in front of its handlers.
 #[test]
-fn an_idle_permission_is_refused() {
-    let (k1, idle) = (read("k1.job"), read("idle.job"));
-    assert_eq!(idle, [&k1[..29], &[0x33, 0, 0], &k1[29..]].concat());
-    assert_eq!([text("idle.watched"), text("idle.bare")], ["refused 19 29\n"; 2]);
+fn an_unused_permission_is_refused() {
+    let (k1, unused) = (read("k1.job"), read("unused.job"));
+    assert_eq!(unused, [&k1[..29], &[0x33, 0, 0], &k1[29..]].concat());
+    assert_eq!([text("unused.watched"), text("unused.bare")], ["refused 19 29\n"; 2]);
 }
 
 /// Whether words are an entry, or a line `end`, `node`, `var` or `refused`, with its numbers.

@@ -43,7 +43,7 @@ fn full_counts_are_accepted() {
         let mut filled = 0;
         while filled < 5 {
             let mut plan = valid::medium(&mut random);
-            plan.drop_idle();
+            plan.drop_unused();
             if fill(&mut plan, &mut random, count).is_some() {
                 assert_eq!(decode(&plan.bytes()).err(), None, "{count:?}");
                 filled += 1;
@@ -51,7 +51,7 @@ fn full_counts_are_accepted() {
         }
     }
     let mut plan = valid::medium(&mut random);
-    plan.drop_idle();
+    plan.drop_unused();
     pad(&mut plan, &mut random, 16_384).unwrap();
     assert_eq!(plan.bytes().len(), 16_384);
     assert_eq!(decode(&plan.bytes()).err(), None);

@@ -1,4 +1,4 @@
-//! Refusals 1 to 9 by hand: number and place. `spans.rs` and `replies.rs` have those at SPAN and REPLY, `idle.rs` has 19.
+//! Refusals 1 to 9 by hand: number and place. `spans.rs` and `replies.rs` have those at SPAN and REPLY, `unused.rs` has 19.
 
 mod common;
 

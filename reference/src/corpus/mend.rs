@@ -1,4 +1,4 @@
-//! Jobs with idle permissions, mended: a handler command for each of these permissions, which is never made.
+//! Jobs with unused permissions, mended: a handler command for each of these permissions, which is never made.
 
 use super::Job;
 use crate::generate::plan::{Plan, HANDLERS, PERMISSIONS};
@@ -17,9 +17,9 @@ pub fn mended(job: Job) -> Job {
     let Err(Refusal { number: 19, .. }) = decode(&job) else { return job };
     let mut plan = Plan::split(&job);
     for node in 0..table::MAX_NODES as u8 {
-        let is_idle = |permission: &&Vec<u8>| permission[1] == node && !plan.is_used(permission);
+        let is_unused = |permission: &&Vec<u8>| permission[1] == node && !plan.is_used(permission);
         let mut uses: Vec<_> =
-            plan.groups[PERMISSIONS].iter().filter(is_idle).map(|one| use_of(one)).collect();
+            plan.groups[PERMISSIONS].iter().filter(is_unused).map(|one| use_of(one)).collect();
         uses.sort_unstable();
         uses.dedup();
         if !uses.is_empty() {

@@ -8,7 +8,6 @@ mod edits;
 mod full;
 mod groups;
 mod handlers;
-mod idle;
 mod jumps;
 mod lengths;
 mod limits;
@@ -25,6 +24,7 @@ mod run;
 mod sight;
 mod spans;
 mod stops;
+mod unused;
 mod work;
 mod worked;
 mod worlds;
@@ -65,18 +65,18 @@ fn jobs() -> Vec<(&'static str, Vec<Job>)> {
     ]
 }
 
-/// Of these, the families in which permissions may be idle.
-const WITH_IDLE: [&str; 2] = ["groups", "random"];
+/// Of these, the families in which permissions may be unused.
+const WITH_UNUSED: [&str; 2] = ["groups", "random"];
 
 /// All families: the worked jobs in both modes, each of the jobs above once, then what is about runs, then SPAN,
-/// then REPLY, then idle permissions. A new family goes behind all others, so that the stored runs before it stay the same.
+/// then REPLY, then unused permissions. A new family goes behind all others, so that the stored runs before it stay the same.
 pub fn families() -> Vec<Family> {
     let mut runs = Runs::new();
     let mut list = vec![Family { name: "worked", runs: runs.pairs(&worked::jobs()) }];
     let mut seen: BTreeSet<Job> = worked::jobs().into_iter().collect();
     for (name, mut jobs) in jobs() {
         jobs.retain(|job| seen.insert(job.clone()));
-        if !WITH_IDLE.contains(&name) {
+        if !WITH_UNUSED.contains(&name) {
             jobs = all_mended(jobs);
         }
         list.push(Family { name, runs: jobs.iter().map(|job| runs.any(job)).collect() });
@@ -98,7 +98,7 @@ pub fn families() -> Vec<Family> {
     list.push(Family { name: "work", runs: work::runs(&mut runs) });
     list.extend(with_spans(&mut runs));
     list.extend(with_replies(&mut runs));
-    list.extend(about_idle(&mut runs));
+    list.extend(about_unused(&mut runs));
     list
 }
 
@@ -125,14 +125,14 @@ fn with_replies(runs: &mut Runs) -> [Family; 5] {
     ]
 }
 
-/// What is about idle permissions: some jobs once, in either mode, then pairs; and jobs with permissions for what their
+/// What is about unused permissions: some jobs once, in either mode, then pairs; and jobs with permissions for what their
 /// runs do not reach.
-fn about_idle(runs: &mut Runs) -> [Family; 4] {
-    let once = [idle::once(), random::damaged_by_idle(4)].concat();
+fn about_unused(runs: &mut Runs) -> [Family; 4] {
+    let once = [unused::once(), random::damaged_by_unused(4)].concat();
     [
-        Family { name: "idle once", runs: once.iter().map(|job| runs.any(job)).collect() },
-        Family { name: "idle", runs: runs.pairs(&idle::jobs()) },
-        Family { name: "idle buffers", runs: idle::beside_buffers(runs) },
+        Family { name: "unused once", runs: once.iter().map(|job| runs.any(job)).collect() },
+        Family { name: "unused", runs: runs.pairs(&unused::jobs()) },
+        Family { name: "unused buffers", runs: unused::beside_buffers(runs) },
         Family { name: "used pairs", runs: runs.pairs(&pairs::with_unreached(24)) },
     ]
 }

@@ -22,7 +22,7 @@ pub fn with_spans(count: usize) -> Vec<Job> {
 
 /// So many jobs with a call that gets another answer than FUN's.
 pub fn with_replies(count: usize) -> Vec<Job> {
-    let jobs = drawn(|index| Random::for_case(SEED + 1, index).without_idle());
+    let jobs = drawn(|index| Random::for_case(SEED + 1, index).without_unused());
     jobs.filter(|job| job.len() < 400 && has_call_by_reply(job)).take(count).collect()
 }
 

@@ -20,16 +20,16 @@ pub fn damaged_by_span(count: usize) -> Vec<Job> {
 
 /// Jobs that are damaged by a REPLY: so many for each reason. Those with too many replies are long.
 pub fn damaged_by_reply(count: usize) -> Vec<Job> {
-    let mut random = Random::new(SEED + 1).without_idle();
+    let mut random = Random::new(SEED + 1).without_unused();
     let longest = |reason: Reason| if matches!(reason.number(), 3 | 5) { 2_000 } else { 400 };
     let reasons = Reason::all().into_iter().filter(|reason| reason.needs_reply());
     reasons.flat_map(|reason| damaged(reason, count, longest(reason), &mut random)).collect()
 }
 
-/// Jobs that are damaged by idle permissions: so many for each reason.
-pub fn damaged_by_idle(count: usize) -> Vec<Job> {
+/// Jobs that are damaged by unused permissions: so many for each reason.
+pub fn damaged_by_unused(count: usize) -> Vec<Job> {
     let mut random = Random::new(SEED + 2);
-    let reasons = Reason::all().into_iter().filter(|reason| reason.needs_idle());
+    let reasons = Reason::all().into_iter().filter(|reason| reason.needs_unused());
     reasons.flat_map(|reason| damaged(reason, count, 400, &mut random)).collect()
 }
 

@@ -46,18 +46,18 @@ pub fn draw_case(random: &mut Random, kind: Kind, max_bytes: usize) -> Case {
     if is_valid {
         return valid_case(random, max_bytes);
     }
-    let ways = if random.draws_idle { WAYS.len() } else { WAYS.len() - 1 };
+    let ways = if random.draws_unused { WAYS.len() } else { WAYS.len() - 1 };
     match random.weighted(&WAYS[..ways]) {
         0 => damaged_case(random, max_bytes, Reason::draw),
         1 => blind_case(random, max_bytes, |job, random| noise::flip(job, random)),
         2 => blind_case(random, max_bytes, noise::cut),
         3 => soup_case(random, max_bytes),
         4 => short_case(random, max_bytes),
-        _ => damaged_case(random, max_bytes, Reason::draw_idle),
+        _ => damaged_case(random, max_bytes, Reason::draw_unused),
     }
 }
 
-/// How often a case that is not valid is made in each way; the last, idle permissions, is an eighth of mixed cases.
+/// How often a case that is not valid is made in each way; the last, unused permissions, is an eighth of mixed cases.
 const WAYS: [usize; 6] = [60, 15, 6, 5, 14, 45];
 
 fn mode(random: &mut Random) -> Mode {
@@ -75,7 +75,7 @@ fn turns(plan: &Plan) -> usize {
 fn valid_plan(random: &mut Random, max_bytes: usize) -> Plan {
     if max_bytes > 600 && random.chance(3) {
         if let Some(mut plan) = full_plan(random).filter(|plan| plan.length() <= max_bytes) {
-            plan.drop_idle();
+            plan.drop_unused();
             return plan;
         }
     }
@@ -84,14 +84,14 @@ fn valid_plan(random: &mut Random, max_bytes: usize) -> Plan {
         let count = turns(&plan);
         valid::random_turns(&mut plan, random, count);
     }
-    plan.drop_idle();
+    plan.drop_unused();
     plan
 }
 
 /// A job that reaches a largest count exactly.
 fn full_plan(random: &mut Random) -> Option<Plan> {
     let mut plan = valid::medium(random);
-    plan.drop_idle();
+    plan.drop_unused();
     let counts = count::drawn_with(random);
     match random.below(counts.len() + 1) {
         0 => count::pad(&mut plan, random, MAX_JOB_BYTES)?,
@@ -135,8 +135,8 @@ fn damaged_case(random: &mut Random, max_bytes: usize, draw: fn(&mut Random) -> 
 
 fn blind_case(random: &mut Random, max_bytes: usize, spoil: impl FnOnce(&mut Vec<u8>, &mut Random)) -> Case {
     let mut plan = valid::valid(random, max_bytes);
-    if random.draws_idle {
-        plan.drop_idle();
+    if random.draws_unused {
+        plan.drop_unused();
     }
     let mut job = plan.bytes();
     spoil(&mut job, random);

@@ -105,13 +105,13 @@ fn fill_body(plan: &mut Plan, random: &mut Random) -> Option<Spot> {
 
 fn fill_args(plan: &mut Plan, random: &mut Random) -> Option<()> {
     let calls = plan.calls();
-    if plan.nodes() == 0 || plan.functions == 0 || random.draws_idle && calls.is_empty() {
+    if plan.nodes() == 0 || plan.functions == 0 || random.draws_unused && calls.is_empty() {
         return None;
     }
     let mut value = random.value();
     for _ in plan.arguments().len()..MAX_ARGS {
         let permissions = &plan.groups[usize::from(group(ARG))];
-        let [node, function] = match random.draws_idle {
+        let [node, function] = match random.draws_unused {
             true => random.pick(&calls),
             false => [random.below(plan.nodes()), random.below(plan.functions)].map(|number| number as u32),
         };

@@ -48,7 +48,7 @@ pub fn permit(plan: &mut Plan, entries: &[Entry], random: &mut Random) {
         Style::Percent(percent) => permissions.retain(|_| random.chance(percent)),
     }
     permissions.extend(extras(plan, entries, random));
-    if random.draws_idle {
+    if random.draws_unused {
         permissions.extend(unreached(plan, entries, random));
     }
     add_distinct(plan, permissions, random);

@@ -150,7 +150,7 @@ impl Plan {
     }
 
     /// Leaves out the permissions that no handler uses. No run is another without them.
-    pub fn drop_idle(&mut self) {
+    pub fn drop_unused(&mut self) {
         let permissions = std::mem::take(&mut self.groups[PERMISSIONS]);
         self.groups[PERMISSIONS] = permissions.into_iter().filter(|one| self.is_used(one)).collect();
     }

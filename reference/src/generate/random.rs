@@ -9,13 +9,13 @@ pub struct Random {
     pub draws_spans: bool,
     /// Whether REPLY is drawn.
     pub draws_replies: bool,
-    /// Whether idle permissions are drawn on purpose, and others for what a run does not reach.
-    pub draws_idle: bool,
+    /// Whether unused permissions are drawn on purpose, and others for what a run does not reach.
+    pub draws_unused: bool,
 }
 
 impl Random {
     pub fn new(seed: u64) -> Random {
-        Random { state: seed, draws_spans: true, draws_replies: true, draws_idle: true }
+        Random { state: seed, draws_spans: true, draws_replies: true, draws_unused: true }
     }
 
     /// A generator of its own for the case `index` of a seed.
@@ -24,14 +24,14 @@ impl Random {
         Random::new(number ^ index.wrapping_mul(0xD1B5_4A32_D192_ED03))
     }
 
-    /// The same numbers for jobs as they were drawn before permissions could be idle.
-    pub fn without_idle(self) -> Random {
-        Random { draws_idle: false, ..self }
+    /// The same numbers for jobs as they were drawn before permissions could be unused.
+    pub fn without_unused(self) -> Random {
+        Random { draws_unused: false, ..self }
     }
 
     /// The same for jobs without REPLY, and with its byte as any other that is no command.
     pub fn without_replies(self) -> Random {
-        Random { draws_replies: false, ..self.without_idle() }
+        Random { draws_replies: false, ..self.without_unused() }
     }
 
     /// The same for jobs of 01's commands alone: without REPLY and SPAN.

@@ -1,7 +1,7 @@
 //! Every way in which a job is damaged on purpose.
 
 use super::count::{Count, COUNTS};
-use super::damage::idle::SORTS;
+use super::damage::unused::SORTS;
 use super::random::Random;
 use crate::table::*;
 
@@ -57,17 +57,17 @@ pub enum Reason {
     /// Refused for what comes after the jump.
     BadJumpBeforeOtherRefusal,
     /// Refused for the jump.
-    IdleBeforeBadJump,
+    UnusedBeforeBadJump,
     // 15
     /// If it is not alone, what comes after the SPAN is wrong too.
     LowAboveHigh {
         alone: bool,
     },
     // 19
-    Idle(u8),
+    Unused(u8),
     /// The handler has the other access of the variable, or another handler the same call.
-    IdleBesideClose(u8),
-    SeveralIdle,
+    UnusedBesideClose(u8),
+    SeveralUnused,
     UseLost,
 }
 
@@ -102,9 +102,9 @@ impl Reason {
         }
         list.extend([TwoBadJumps, BadJumpBeforeOtherRefusal]);
         list.extend([true, false].map(|alone| LowAboveHigh { alone }));
-        list.extend(SORTS.map(Idle));
-        list.extend(SORTS.map(IdleBesideClose));
-        list.extend([SeveralIdle, UseLost, IdleBeforeBadJump]);
+        list.extend(SORTS.map(Unused));
+        list.extend(SORTS.map(UnusedBesideClose));
+        list.extend([SeveralUnused, UseLost, UnusedBeforeBadJump]);
         list
     }
 
@@ -113,13 +113,13 @@ impl Reason {
         let mut list = Reason::all();
         list.retain(|reason| random.draws_spans || !reason.needs_span());
         list.retain(|reason| random.draws_replies || !reason.needs_reply());
-        list.retain(|reason| random.draws_idle || !reason.needs_idle());
+        list.retain(|reason| random.draws_unused || !reason.needs_unused());
         list
     }
 
-    /// Whether the damage is an idle permission.
-    pub fn needs_idle(self) -> bool {
-        self.number() == 19 || self == IdleBeforeBadJump
+    /// Whether the damage is an unused permission.
+    pub fn needs_unused(self) -> bool {
+        self.number() == 19 || self == UnusedBeforeBadJump
     }
 
     /// Whether the damage is a SPAN.
@@ -159,10 +159,10 @@ impl Reason {
             PermissionUnseen(_) | PermissionNotShared(_) | PermissionUnseenNotShared(_) => 7,
             Repeated(_) | ReplyWithOtherAnswer => 8,
             SecondBody | SecondStartSameNode | SecondStartOtherNode => 8,
-            JumpOnePastEnd(_) | JumpFarPastEnd(_) | TwoBadJumps | IdleBeforeBadJump => 9,
+            JumpOnePastEnd(_) | JumpFarPastEnd(_) | TwoBadJumps | UnusedBeforeBadJump => 9,
             BadJumpBeforeOtherRefusal => 6,
             LowAboveHigh { .. } => 15,
-            Idle(_) | IdleBesideClose(_) | SeveralIdle | UseLost => 19,
+            Unused(_) | UnusedBesideClose(_) | SeveralUnused | UseLost => 19,
         }
     }
 
@@ -173,10 +173,10 @@ impl Reason {
         Reason::draw_of(random, number)
     }
 
-    /// Any reason of 19, several idle permissions more often than the others.
-    pub fn draw_idle(random: &mut Random) -> Reason {
+    /// Any reason of 19, several unused permissions more often than the others.
+    pub fn draw_unused(random: &mut Random) -> Reason {
         if random.chance(25) {
-            return SeveralIdle;
+            return SeveralUnused;
         }
         Reason::draw_of(random, 19)
     }

@@ -1,4 +1,4 @@
-//! Valid jobs; the permissions of some are idle, unless they are left out.
+//! Valid jobs; the permissions of some are unused, unless they are left out.
 
 use super::plan::Plan;
 use super::random::Random;
@@ -7,7 +7,7 @@ use super::{declare, handler, permit, reply, schedule, shape, wire};
 use crate::decode::decode;
 use crate::table::{group, START, TURN};
 
-/// A job, valid but for idle permissions, of at most `max_bytes` bytes, which are at least 1.
+/// A job, valid but for unused permissions, of at most `max_bytes` bytes, which are at least 1.
 pub fn valid(random: &mut Random, max_bytes: usize) -> Plan {
     loop {
         let size = size::draw(random, max_bytes);

@@ -1,7 +1,6 @@
 //! Damaged jobs whose refusal is known from the damage.
 
 mod bytes;
-pub mod idle;
 mod jumps;
 mod names;
 mod order;
@@ -9,6 +8,7 @@ mod repeats;
 mod replies;
 mod sight;
 mod spans;
+pub mod unused;
 
 use super::plan::{Plan, HANDLERS};
 use super::random::Random;
@@ -81,11 +81,11 @@ fn damage_content(reason: Reason, plan: &mut Plan, random: &mut Random) -> Optio
         TwoBadJumps => jumps::two_bad_jumps(plan, random),
         BadJumpBeforeOtherRefusal => jumps::before_other_refusal(plan, random),
         LowAboveHigh { alone } => spans::low_above_high(plan, random, alone),
-        Idle(byte) => idle::one(plan, random, byte, false),
-        IdleBesideClose(byte) => idle::one(plan, random, byte, true),
-        SeveralIdle => idle::several(plan, random),
-        UseLost => idle::use_lost(plan, random),
-        IdleBeforeBadJump => idle::before_bad_jump(plan, random),
+        Unused(byte) => unused::one(plan, random, byte, false),
+        UnusedBesideClose(byte) => unused::one(plan, random, byte, true),
+        SeveralUnused => unused::several(plan, random),
+        UseLost => unused::use_lost(plan, random),
+        UnusedBeforeBadJump => unused::before_bad_jump(plan, random),
         _ => unreachable!("{reason:?} comes before these"),
     }
 }

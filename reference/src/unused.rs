@@ -58,7 +58,7 @@ impl Lists {
     }
 
     /// The place of the first permission that is not used.
-    pub fn first_idle(&self) -> Option<usize> {
+    pub fn first_unused(&self) -> Option<usize> {
         self.permissions.iter().find(|(permission, _)| !self.is_used(permission)).map(|&(_, place)| place)
     }
 }

@@ -10,7 +10,7 @@ use crate::table::{ANY, ARG, JUMP, MAX_ARGS, READ, SKIP, SPAN, WRITE};
 /// The permissions by their command byte.
 pub const SORTS: [u8; 5] = [ANY, ARG, READ, WRITE, SPAN];
 
-/// Byte, node and number of all permissions of a sort that would be idle.
+/// Byte, node and number of all permissions of a sort that would be unused.
 fn candidates(plan: &Plan, byte: u8) -> Vec<[u8; 3]> {
     let of_variable = matches!(byte, READ | WRITE);
     let numbers = 0..if of_variable { plan.variables.len() } else { plan.functions } as u8;
@@ -43,24 +43,24 @@ fn insert_one(plan: &mut Plan, random: &mut Random, list: &[[u8; 3]]) -> Option<
     Some(())
 }
 
-/// The plan's job, refused at its first idle permission.
+/// The plan's job, refused at its first unused permission.
 fn at_first(plan: &Plan) -> Option<Damaged> {
     let index = plan.groups[PERMISSIONS].iter().position(|permission| !plan.is_used(permission))?;
     Some(Damaged::new(plan, 19, plan.offset(PERMISSIONS, index)))
 }
 
-/// One idle permission of a sort; if that is asked for, with a close command.
+/// One unused permission of a sort; if that is asked for, with a close command.
 pub fn one(plan: &mut Plan, random: &mut Random, byte: u8, close: bool) -> Option<Damaged> {
-    plan.drop_idle();
+    plan.drop_unused();
     let mut list = candidates(plan, byte);
     list.retain(|one| !close || is_close(plan, one));
     insert_one(plan, random, &list)?;
     at_first(plan)
 }
 
-/// Two to five idle permissions of any sorts: the first is the place.
+/// Two to five unused permissions of any sorts: the first is the place.
 pub fn several(plan: &mut Plan, random: &mut Random) -> Option<Damaged> {
-    plan.drop_idle();
+    plan.drop_unused();
     for _ in 0..random.between(2, 5) {
         let byte = random.pick(&SORTS);
         let list = candidates(plan, byte);
@@ -71,7 +71,7 @@ pub fn several(plan: &mut Plan, random: &mut Random) -> Option<Damaged> {
 
 /// A used permission whose handler commands become SKIP: the first permission that they were for is the place.
 pub fn use_lost(plan: &mut Plan, random: &mut Random) -> Option<Damaged> {
-    plan.drop_idle();
+    plan.drop_unused();
     let count = plan.groups[PERMISSIONS].len();
     let permission = plan.groups[PERMISSIONS].get(random.below(count.max(1)))?.clone();
     let body = plan.body(permission[1])?;
@@ -83,7 +83,7 @@ pub fn use_lost(plan: &mut Plan, random: &mut Random) -> Option<Damaged> {
     at_first(plan)
 }
 
-/// An idle permission and a bad jump behind it: 9 goes first.
+/// An unused permission and a bad jump behind it: 9 goes first.
 pub fn before_bad_jump(plan: &mut Plan, random: &mut Random) -> Option<Damaged> {
     let byte = random.pick(&SORTS);
     let list = candidates(plan, byte);

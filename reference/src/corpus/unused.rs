@@ -1,4 +1,4 @@
-//! Refusal 19: permissions whose node's handler has a command for them, and idle ones.
+//! Refusal 19: permissions whose node's handler has a command for them, and unused ones.
 
 use super::buffers::some_lengths;
 use super::edits::{other_bytes, tour};
@@ -11,7 +11,7 @@ use crate::generate::uses::use_of;
 use crate::table::{self, *};
 use crate::{decode, Refusal};
 
-/// Idle permissions and jobs that are close to them, for both modes.
+/// Unused permissions and jobs that are close to them, for both modes.
 pub fn jobs() -> Vec<Job> {
     [sorts(), bodies(), beside_any(), several(), order(), largest_numbers(), worked()].concat()
 }
@@ -93,7 +93,7 @@ fn beside_any() -> Vec<Job> {
     jobs
 }
 
-/// Two permissions of different sorts: both idle, and the first of them used.
+/// Two permissions of different sorts: both unused, and the first of them used.
 fn several() -> Vec<Job> {
     let list = permissions(0, 1, 1);
     let mut jobs = Vec::new();
@@ -107,25 +107,25 @@ fn several() -> Vec<Job> {
     jobs
 }
 
-/// An idle permission before and behind something else that is refused: 19 waits for all of it.
+/// An unused permission before and behind something else that is refused: 19 waits for all of it.
 fn order() -> Vec<Job> {
-    let idle: &[u8] = &[READ, 0, 1];
+    let unused: &[u8] = &[READ, 0, 1];
     small_and(&[
-        &[idle, &[0x35]],
-        &[idle, &[TURN]],
-        &[idle, &[TURN, 0], &[WIRE, 0, 0, 0]],
-        &[idle, &[BODY, 0], &[SKIP; MAX_BODY_COMMANDS + 1]],
-        &[idle, &[ANY, 0, 9]],
-        &[idle, &[READ, 0, 0]],
-        &[idle, &[BODY, 1, GET, 0]],
-        &[idle, idle],
-        &[idle, &[BODY, 0, BODY, 0]],
-        &[idle, &span(0, 0, 9, 3)],
-        &[&span(0, 0, 9, 3), idle],
-        &[idle, &[BODY, 0, JUMP, 2]],
-        &[idle, &[BODY, 0, PUT, 1, BODY, 2, SKIP, JUMPZ, 255]],
-        &[idle, &[BODY, 0, GET, 1, JUMP, 3]],
-        &[idle, &[BODY, 0, GET, 1, JUMP, 2]],
+        &[unused, &[0x35]],
+        &[unused, &[TURN]],
+        &[unused, &[TURN, 0], &[WIRE, 0, 0, 0]],
+        &[unused, &[BODY, 0], &[SKIP; MAX_BODY_COMMANDS + 1]],
+        &[unused, &[ANY, 0, 9]],
+        &[unused, &[READ, 0, 0]],
+        &[unused, &[BODY, 1, GET, 0]],
+        &[unused, unused],
+        &[unused, &[BODY, 0, BODY, 0]],
+        &[unused, &span(0, 0, 9, 3)],
+        &[&span(0, 0, 9, 3), unused],
+        &[unused, &[BODY, 0, JUMP, 2]],
+        &[unused, &[BODY, 0, PUT, 1, BODY, 2, SKIP, JUMPZ, 255]],
+        &[unused, &[BODY, 0, GET, 1, JUMP, 3]],
+        &[unused, &[BODY, 0, GET, 1, JUMP, 2]],
     ])
 }
 
@@ -164,8 +164,8 @@ fn long_lists() -> Vec<Job> {
     let mut jobs = Vec::new();
     for (permission, command, count) in [(READ, PLUS, 64), (WRITE, PUT, 64), (ANY, CALL, 32)] {
         let list: Vec<u8> = (0..count).flat_map(|number| [permission, 0, number]).collect();
-        for idle in [count - 1, 0, count / 2] {
-            let commands = (0..count).filter(|&number| number != idle).flat_map(|number| [command, number]);
+        for unused in [count - 1, 0, count / 2] {
+            let commands = (0..count).filter(|&number| number != unused).flat_map(|number| [command, number]);
             jobs.push(behind(&plan, &[&list[..], &[BODY, 0], &commands.collect::<Vec<u8>>()].concat()));
         }
     }
@@ -181,13 +181,13 @@ fn long_lists() -> Vec<Job> {
     jobs
 }
 
-/// Each byte of a job with every command one more and one less, where that makes a permission idle.
+/// Each byte of a job with every command one more and one less, where that makes a permission unused.
 fn edits() -> Vec<Job> {
-    let is_idle = |job: &Job| matches!(decode(job), Err(Refusal { number: 19, .. }));
-    other_bytes(&mended(tour().concat())).into_iter().filter(is_idle).collect()
+    let is_unused = |job: &Job| matches!(decode(job), Err(Refusal { number: 19, .. }));
+    other_bytes(&mended(tour().concat())).into_iter().filter(is_unused).collect()
 }
 
-/// An idle permission, the same used, and an idle one with a far jump, with nine turns and buffers that are short and
+/// An unused permission, the same used, and an unused one with a far jump, with nine turns and buffers that are short and
 /// long enough.
 pub fn beside_buffers(runs: &mut Runs) -> Vec<Run> {
     let turns: &[u8] = &[TURN, 0].repeat(9);

@@ -1,4 +1,4 @@
-//! Refusal 19 (02, S-7): which commands use a permission, which of several idle ones is named, and its place among
+//! Refusal 19 (02, S-7): which commands use a permission, which of several unused ones is named, and its place among
 //! the tests.
 
 mod common;
@@ -102,7 +102,7 @@ fn args_and_spans_beside_any() {
 }
 
 #[test]
-fn the_first_idle_one_is_named() {
+fn the_first_unused_one_is_named() {
     let other = "30 00 01";
     for first in SORTS {
         let length = bytes(first).len();
@@ -121,17 +121,17 @@ const PAIRS: [(u8, u8); 3] = [(0x32, 0x43), (0x33, 0x44), (0x30, 0x4A)];
 
 /// Every READ, WRITE and ANY of node 0, all used but one: that one is named, wherever it stands.
 #[test]
-fn one_idle_among_many() {
+fn one_unused_among_many() {
     let pairs: Vec<([u8; 3], [u8; 2])> = PAIRS
         .iter()
         .flat_map(|&(sort, command)| [0, 1].map(|number| ([sort, 0, number], [command, number])))
         .collect();
-    for idle in 0..pairs.len() {
+    for unused in 0..pairs.len() {
         let permissions: Vec<u8> = pairs.iter().flat_map(|(permission, _)| *permission).collect();
-        let others = pairs.iter().enumerate().filter(|(index, _)| *index != idle);
+        let others = pairs.iter().enumerate().filter(|(index, _)| *index != unused);
         let handler: Vec<u8> = others.flat_map(|(_, (_, command))| *command).collect();
         let job = [&bytes(BASE), &permissions[..], &[0x40, 0], &handler].concat();
-        assert_eq!(refusal(&job), Some((19, LENGTH + 3 * idle)));
+        assert_eq!(refusal(&job), Some((19, LENGTH + 3 * unused)));
     }
 }
 
