@@ -14,7 +14,7 @@ use Rattle.model.specs.Command.{Command, is, whole, readCommand}
 use Rattle.model.specs.Declared.{openBody}
 use Rattle.model.specs.Refusal.{Refusal, anyOf, refuse, accepted, decode, firstOf, refuseFirst, isFarJump, farJump, handlerReads}
 use Rattle.model.specs.Refusal.{handlerWrites, handlerCalls, isUnused, unusedPermission}
-use Rattle.model.proofs.Logic.{true-false}
+use Rattle.model.proofs.Logic.{not-true}
 use Rattle.model.proofs.Reading.{read-at, number-one}
 use Rattle.model.proofs.Growth.{open-next}
 use Rattle.model.proofs.Scanning.{Scanning, scanning-start, scanning-end, scanning-reads, scanning-found, scanning-on, scanning-behind}
@@ -23,6 +23,7 @@ use Rattle.command.specs.declared.read.HeadParsed.{HeadParsed}
 use Rattle.command.specs.declared.read.HeadParsed.the-variants as heads
 use Rattle.command.specs.Reading.{headOf, headIn}
 use Rattle.command.proofs.Taken.{head-there}
+use Rattle.tables.specs.declared.cells.Section.{Section}
 use Rattle.tables.specs.Cells.{markIn}
 use Rattle.tables.specs.Tables.{lengthIn}
 use Rattle.tables.specs.Stands.{Stands}
@@ -63,11 +64,6 @@ used-other all past c other =
       ne-eqb (c .byte) SPAN (λ e. other (rw e)),
     )
 
--- what is not true is false
-not-true : (b : Bool) → not b ≡ true → b ≡ false
-not-true true e = true-false (sym e)
-not-true false e = refl
-
 -- the code's test of a permission, by the byte after its node
 module _ (job : List ℕ) (place : ℕ) (c : Command) (next : ℕ) (read : readCommand job place ≡ whole c next) where
   -- the second operand of a command with this byte, if it has two of one byte each
@@ -82,29 +78,30 @@ module _ (job : List ℕ) (place : ℕ) (c : Command) (next : ℕ) (read : readC
       rw (← r .command, same, w₀, w₁, at) (number-one job (place + 2))
 
   module _ (all past : List Command) (u : List ℕ) (uses : Uses u all) where
-    line : (b : ℕ) (m m′ : Bool) → (is b c ≡ true → m ≡ m′) → (is b c && not m) ≡ (is b c && not m′)
-    line b m m′ e = by-byte (is b c) refl
+    -- a line of the test: a permission with this byte goes by the marks of a section
+    line :
+        (b : ℕ) (kinds : List OperandKind) → operandsOf b ≡ some kinds → width (operandAt kinds 0) ≡ 1 → width (operandAt kinds 1) ≡ 1
+        → (s : Section) (used : ℕ → ℕ → Bool) → ((n x : ℕ) → markIn u s n x ≡ used n x)
+        → (is b c && not (markIn u s (c .operands .first) (getD job (place + 2) 0)))
+        ≡ (is b c && not (used (c .operands .first) (c .operands .second)))
+    line b kinds o w₀ w₁ s used marked = by-byte (is b c) refl
       where
-        by-byte : (t : Bool) → is b c ≡ t → (t && not m) ≡ (t && not m′)
-        by-byte true p = rw (e p)
+        by-byte :
+            (t : Bool) → is b c ≡ t
+            → (t && not (markIn u s (c .operands .first) (getD job (place + 2) 0)))
+            ≡ (t && not (used (c .operands .first) (c .operands .second)))
+        by-byte true p = rw (marked (c .operands .first) (getD job (place + 2) 0), second-of b kinds o w₀ w₁ p)
         by-byte false p = refl
 
     unused-is : unusedIn u (c .byte) (c .operands .first) (getD job (place + 2) 0) ≡ isUnused all past c
     unfolding operandsOf operandsIn
     unused-is =
-        let n = c .operands .first in
-        let y = getD job (place + 2) 0 in
         rw (
-          line READ (markIn u readUses n y) (handlerReads all n (c .operands .second))
-              (λ e. uses .reads n y ∙ rw (second-of READ (node ∷ variable ∷ []) refl refl refl e)),
-          line WRITE (markIn u writeUses n y) (handlerWrites all n (c .operands .second))
-              (λ e. uses .writes n y ∙ rw (second-of WRITE (node ∷ variable ∷ []) refl refl refl e)),
-          line ANY (markIn u callUses n y) (handlerCalls all n (c .operands .second))
-              (λ e. uses .calls n y ∙ rw (second-of ANY (node ∷ function ∷ []) refl refl refl e)),
-          line ARG (markIn u callUses n y) (handlerCalls all n (c .operands .second))
-              (λ e. uses .calls n y ∙ rw (second-of ARG (node ∷ function ∷ value ∷ []) refl refl refl e)),
-          line SPAN (markIn u callUses n y) (handlerCalls all n (c .operands .second))
-              (λ e. uses .calls n y ∙ rw (second-of SPAN (node ∷ function ∷ low ∷ high ∷ []) refl refl refl e)),
+          line READ (node ∷ variable ∷ []) refl refl refl readUses (handlerReads all) (uses .reads),
+          line WRITE (node ∷ variable ∷ []) refl refl refl writeUses (handlerWrites all) (uses .writes),
+          line ANY (node ∷ function ∷ []) refl refl refl callUses (handlerCalls all) (uses .calls),
+          line ARG (node ∷ function ∷ value ∷ []) refl refl refl callUses (handlerCalls all) (uses .calls),
+          line SPAN (node ∷ function ∷ low ∷ high ∷ []) refl refl refl callUses (handlerCalls all) (uses .calls),
         )
 
 -- the first unused permission, with one more command: `on` if that is no permission

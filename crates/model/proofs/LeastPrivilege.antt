@@ -2,7 +2,7 @@
 use Prim.Native.Nat.{ℕ, suc, _<_}
 use mathlib.Core.Path.{_≡_, refl, sym, ap, _∙_}
 use mathlib.Core.Logic.{_⊎_, inl, inr}
-use mathlib.Core.Bool.{Bool, true, false, cond, not, _&&_, _||_, or-false}
+use mathlib.Core.Bool.{Bool, true, false, cond, _&&_, _||_, or-false}
 use mathlib.Core.List.{List, [], _∷_}
 use mathlib.Core.Option.{Option, none, some}
 use native.Mathlib.Omega.{arith}
@@ -18,7 +18,7 @@ use Rattle.model.specs.Refusal.{refuse, Refusal, Decoded, accepted, reje
 use Rattle.model.specs.Refusal.{farJump, isUnused, unusedPermission, decodeJob, shortBuffer, decodeFor}
 use Rattle.model.specs.Result.{refused, resultOf, monitored, unmonitored}
 use Rattle.model.specs.LeastPrivilege.{HasCommand, OnlyRefuses, LeastPrivilegeHolds}
-use Rattle.model.proofs.Logic.{true-false, and-left, and-right, none-of}
+use Rattle.model.proofs.Logic.{true-false, not-false, and-left, and-right, none-of}
 use Rattle.model.proofs.Naming.{same-byte, same-operands}
 use Rattle.model.proofs.Positions.{first-none}
 use Rattle.model.proofs.Valid.{job-accepted}
@@ -87,30 +87,25 @@ unfound k test b x (c ∷ past) e there =
         record { before = past; place = c .place; passes = rw (← byte, ← operands) passed }
     by-same false p q rest = rest q
 
--- what is not missing is there
-not-missing : (b : Bool) → not b ≡ false → b ≡ true
-not-missing true e = refl
-not-missing false e = true-false e
-
 module _ (past : List Command) (used : unusedPermission past ≡ none) where
   found : (b : ℕ) (x : Operands) → occurs b x past ≡ true → Unfound (isUnused past) b x
   found b x = unfound 19 (isUnused past) b x past used
 
   reads-used : (n x : ℕ) → occurs READ (binary n x) past ≡ true
       → HasCommand (programOf past) n GET x ⊎ HasCommand (programOf past) n PLUS x
-  reads-used n x e = has-either past n GET PLUS x (not-missing _ (none-of 0 _ (found READ (binary n x) e .passes)))
+  reads-used n x e = has-either past n GET PLUS x (not-false _ (none-of 0 _ (found READ (binary n x) e .passes)))
 
   writes-used : (n x : ℕ) → occurs WRITE (binary n x) past ≡ true → HasCommand (programOf past) n PUT x
-  writes-used n x e = has-command past n PUT x (not-missing _ (none-of 1 _ (found WRITE (binary n x) e .passes)))
+  writes-used n x e = has-command past n PUT x (not-false _ (none-of 1 _ (found WRITE (binary n x) e .passes)))
 
   anys-used : (n f : ℕ) → occurs ANY (binary n f) past ≡ true → HasCommand (programOf past) n CALL f
-  anys-used n f e = has-command past n CALL f (not-missing _ (none-of 2 _ (found ANY (binary n f) e .passes)))
+  anys-used n f e = has-command past n CALL f (not-false _ (none-of 2 _ (found ANY (binary n f) e .passes)))
 
   arguments-used : (n f v : ℕ) → occurs ARG (ternary n f v) past ≡ true → HasCommand (programOf past) n CALL f
-  arguments-used n f v e = has-command past n CALL f (not-missing _ (none-of 3 _ (found ARG (ternary n f v) e .passes)))
+  arguments-used n f v e = has-command past n CALL f (not-false _ (none-of 3 _ (found ARG (ternary n f v) e .passes)))
 
   spans-used : (n f low high : ℕ) → occurs SPAN (quaternary n f low high) past ≡ true → HasCommand (programOf past) n CALL f
-  spans-used n f low high e = has-command past n CALL f (not-missing _ (none-of 4 _ (found SPAN (quaternary n f low high) e .passes)))
+  spans-used n f low high e = has-command past n CALL f (not-false _ (none-of 4 _ (found SPAN (quaternary n f low high) e .passes)))
 
 -- the number of a later test's refusal is the test's
 first-number : (k : ℕ) (test : List Command → Command → Bool) (past : List Command) (r : Refusal) → refuseFirst k test past ≡ some r

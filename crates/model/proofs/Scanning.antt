@@ -1,4 +1,4 @@
--- A later test by a second loop over the commands of an accepted job.
+-- A further look at the commands of an accepted job, after the tests of commands: what its loop keeps, and what it finds.
 use Prim.Native.Nat.{ℕ, zero, suc, _+_, _≤_, _<_}
 use mathlib.Core.Path.{_≡_, refl, sym, _∙_}
 use mathlib.Core.Bool.{Bool, true, false, cond, _||_}
