@@ -36,7 +36,7 @@ extern "C" {
 /* The numbers of the answer. All eight are always written. */
 enum {
     LEQSUMIR_REFUSAL = 0, /* 0: the job ran; 1 to 12, 15 or 19: why it was refused, in the numbers of 01, of S-5 (15) and of S-7 (19) */
-    LEQSUMIR_PLACE = 1,   /* of a refusal: the offset of the offending command; the job's length for 10 to 12 */
+    LEQSUMIR_PLACE = 1,   /* of a refusal: the offset of the offending command; 0 for 1, the job's length for 10 to 12 */
     LEQSUMIR_STOP = 2,    /* of a run: one of the stops below */
     LEQSUMIR_TURNS = 3,   /* of a run: the completed turns, which are the entries of the trace */
     LEQSUMIR_NODE = 4,    /* of a run: the attempted entry, from here to the value: zeros for stop 0, */

@@ -1,4 +1,4 @@
-// The tests 9 and 19, by a second look at the commands of a job that passed the others.
+// The tests 9 and 19, by a second look at the commands of a job that passed the tests 1 to 8 and 15.
 ghost use mathlib.Core.Path.{_≡_};
 ghost use mathlib.Core.Bool.{cond, not, _&&_, _||_};
 ghost use mathlib.Core.List.{List};

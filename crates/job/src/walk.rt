@@ -28,7 +28,7 @@ pub(crate) enum Continuation {
     Refused(Refusal),
 }
 
-// Admits the command that was read at a place: it is refused there, or noted, and so is what it uses.
+// Admits the command that was read at a place: it is refused there, or it is noted together with what it uses.
 fn admit(
     job: &[u8],
     at: usize,

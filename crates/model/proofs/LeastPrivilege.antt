@@ -1,67 +1,30 @@
--- Each permission of an accepted job has a command in its node's handler that needs it (S-7), and test 19 does nothing but refuse.
-use Prim.Native.Nat.{ℕ, suc, _<_}
+-- Test 19 refuses a job exactly if a permission of it has no command in its node's handler that uses it (S-7), and does nothing else.
+use Prim.Native.Nat.{ℕ}
 use mathlib.Core.Path.{_≡_, refl, sym, ap, _∙_}
 use mathlib.Core.Logic.{_⊎_, inl, inr}
-use mathlib.Core.Bool.{Bool, true, false, cond, _&&_, _||_, or-false}
+use mathlib.Core.Bool.{Bool, true, false, cond, not, _&&_, _||_}
 use mathlib.Core.List.{List, [], _∷_}
 use mathlib.Core.Option.{Option, none, some}
 use native.Mathlib.Omega.{arith}
-use lib.Dec.{eqb}
-use lib.ListN.{length, getD}
-use borrow.Author.Tests.{eqb-true}
-use Rattle.model.specs.Table.{ANY, ARG, READ, WRITE, SPAN, GET, PUT, PLUS, CALL, isAmong}
-use Rattle.model.specs.Command.{Operands, Command, quaternary, ternary, binary}
-use Rattle.model.specs.Declared.{Instruction, instruction, handlerOf, has, isSame, occurs}
+use borrow.Author.Tests.{eqb-true, eq-eqb}
+use Rattle.model.specs.Table.{ANY, ARG, READ, WRITE, SPAN, GET, PUT, PLUS, CALL, absent, kindAt, operandsIn, operandsOf, isAmong}
+use Rattle.model.specs.Command.{Operands, Command, is, quaternary, ternary, binary}
+use Rattle.model.specs.Declared.{isSame, occurs}
 use Rattle.model.specs.Program.{Program, programOf}
 use Rattle.model.specs.Run.{Run, monitoredRun, unmonitoredRun}
-use Rattle.model.specs.Refusal.{refuse, Refusal, Decoded, accepted, rejected, acceptUnless, andThen, decode, firstOf, refuseFirst}
-use Rattle.model.specs.Refusal.{farJump, isUnused, unusedPermission, decodeJob, shortBuffer, decodeFor}
+use Rattle.model.specs.Refusal.{anyOf, refuse, Refusal, Decoded, accepted, rejected, acceptUnless, andThen, decode, firstOf}
+use Rattle.model.specs.Refusal.{refuseFirst, farJump, handlerReads, handlerWrites, handlerCalls, isUnused, unusedPermission}
+use Rattle.model.specs.Refusal.{decodeJob, shortBuffer, decodeFor}
 use Rattle.model.specs.Result.{refused, resultOf, monitored, unmonitored}
-use Rattle.model.specs.LeastPrivilege.{HasCommand, OnlyRefuses, LeastPrivilegeHolds}
-use Rattle.model.proofs.Logic.{true-false, not-false, and-left, and-right, none-of}
+use Rattle.model.specs.LeastPrivilege.{HasCommand, LeastPrivilege, OnlyRefuses, LeastPrivilegeHolds}
+use Rattle.model.specs.Valid.{Valid, Plain}
+use Rattle.model.proofs.Logic.{true-false, not-false, or-first, or-second, none-of}
 use Rattle.model.proofs.Naming.{same-byte, same-operands}
+use Rattle.model.proofs.Handling.{has-either, has-command, command-has}
 use Rattle.model.proofs.Positions.{first-none}
-use Rattle.model.proofs.Valid.{job-accepted}
-
--- a command that a handler has stands at some position
-has-position :
-    (bytes : List ℕ) (x : ℕ) (handler : List Instruction) → has bytes x handler ≡ true
-    → (b : ℕ) × (i : ℕ) × (isAmong b bytes ≡ true) × (i < length handler) × (getD handler i (instruction 0 0) ≡ instruction b x)
-unfolding has
-has-position bytes x [] e = true-false (sym e)
-has-position bytes x (i ∷ handler) e = by-first (isAmong (i .byte) bytes && eqb (i .operand) x) refl e (has-position bytes x handler)
-  where
-    by-first :
-        (t : Bool) → (isAmong (i .byte) bytes && eqb (i .operand) x) ≡ t → (t || has bytes x handler) ≡ true
-        → (has bytes x handler ≡ true
-        → (b : ℕ) × (k : ℕ) × (isAmong b bytes ≡ true) × (k < length handler) × (getD handler k (instruction 0 0) ≡ instruction b x))
-        → (b : ℕ) × (k : ℕ) × (isAmong b bytes ≡ true) × (k < suc (length handler)) ×
-        (getD (i ∷ handler) k (instruction 0 0) ≡ instruction b x)
-    by-first true p q rest =
-        let operand = eqb-true (i .operand) x (and-right (isAmong (i .byte) bytes) _ p) in
-        (i .byte, 0, and-left (isAmong (i .byte) bytes) _ p, omega arith, rw operand)
-    by-first false p q rest = let r = rest q in (r .0, suc (r .1), r .2, omega (arith, r .3), r .4)
-
--- one with one of two bytes, and one with a byte
-has-either : (past : List Command) (n b d x : ℕ) → has (b ∷ d ∷ []) x (handlerOf past n) ≡ true
-    → HasCommand (programOf past) n b x ⊎ HasCommand (programOf past) n d x
-unfolding programOf isAmong
-has-either past n b d x e =
-    let r = has-position (b ∷ d ∷ []) x (handlerOf past n) e in by-first (r .0) (r .1) (r .3) (r .4) (eqb (r .0) b) refl (r .2)
-  where
-    by-first :
-        (y i : ℕ) → i < length (handlerOf past n) → getD (handlerOf past n) i (instruction 0 0) ≡ instruction y x
-        → (t : Bool) → eqb y b ≡ t → (t || (eqb y d || false)) ≡ true
-        → HasCommand (programOf past) n b x ⊎ HasCommand (programOf past) n d x
-    by-first y i l q true p o = inl (record { position = i; inside = l; command = q ∙ rw (eqb-true y b p) })
-    by-first y i l q false p o =
-        inr (record { position = i; inside = l; command = q ∙ rw (eqb-true y d (sym (or-false (eqb y d)) ∙ o)) })
-
-has-command : (past : List Command) (n b x : ℕ) → has (b ∷ []) x (handlerOf past n) ≡ true → HasCommand (programOf past) n b x
-unfolding programOf isAmong
-has-command past n b x e =
-    let r = has-position (b ∷ []) x (handlerOf past n) e in
-    record { position = r .1; inside = r .3; command = r .4 ∙ rw (eqb-true (r .0) b (sym (or-false (eqb (r .0) b)) ∙ r .2)) }
+use Rattle.model.proofs.Scanning.{refuse-on}
+use Rattle.model.proofs.Results.{and-then-accepted, decode-job-accepted}
+use Rattle.model.proofs.Valid.{decoded-valid, job-accepted}
 
 -- a command with this byte and these operands that a later test did not find
 record Unfound (test : List Command → Command → Bool) (b : ℕ) (x : Operands) : Type 0 where
@@ -106,6 +69,85 @@ module _ (past : List Command) (used : unusedPermission past ≡ none) where
 
   spans-used : (n f low high : ℕ) → occurs SPAN (quaternary n f low high) past ≡ true → HasCommand (programOf past) n CALL f
   spans-used n f low high e = has-command past n CALL f (not-false _ (none-of 4 _ (found SPAN (quaternary n f low high) e .passes)))
+
+-- a command is the same as itself
+same-self : (c : Command) → isSame (c .byte) (c .operands) c ≡ true
+same-self c =
+    rw (
+      eq-eqb (c .byte) (c .byte) refl,
+      eq-eqb (c .operands .first) (c .operands .first) refl,
+      eq-eqb (c .operands .second) (c .operands .second) refl,
+      eq-eqb (c .operands .third) (c .operands .third) refl,
+      eq-eqb (c .operands .fourth) (c .operands .fourth) refl,
+    )
+
+-- the converse: where each permission has a command, test 19 finds none
+module _ (all : List Command) (used : LeastPrivilege all) where
+  -- a line of the test
+  line : (t u : Bool) → (t ≡ true → u ≡ true) → (t && not u) ≡ false
+  line true u e = rw (e refl)
+  line false u e = refl
+
+  reads-either : (n x : ℕ) → HasCommand (programOf all) n GET x ⊎ HasCommand (programOf all) n PLUS x → handlerReads all n x ≡ true
+  unfolding isAmong
+  reads-either n x (inl h) = command-has all n GET x (GET ∷ PLUS ∷ []) refl h
+  reads-either n x (inr h) = command-has all n PLUS x (GET ∷ PLUS ∷ []) refl h
+
+  module _ (before : List Command) (c : Command) (plain : Plain c) (there : occurs (c .byte) (c .operands) all ≡ true) where
+    -- by its byte; one with two operands has no others
+    known : (b : ℕ) → is b c ≡ true → occurs b (c .operands) all ≡ true
+    known b e = let byte = eqb-true (c .byte) b e in rw byte at there
+
+    known-two : (b : ℕ) → kindAt b 2 ≡ absent → kindAt b 3 ≡ absent → is b c ≡ true
+        → occurs b (binary (c .operands .first) (c .operands .second)) all ≡ true
+    known-two b z w e =
+        let byte = eqb-true (c .byte) b e in
+        let third : c .operands .third ≡ 0 = plain .third (rw byte z) in
+        let fourth : c .operands .fourth ≡ 0 = plain .fourth (rw byte w) in
+        let same : c .operands ≡ binary (c .operands .first) (c .operands .second) = λ i. record {
+          first = c .operands .first;
+          second = c .operands .second;
+          third = third i;
+          fourth = fourth i;
+        } in
+        sym (ap (λ (y : Operands). occurs b y all) same) ∙ known b e
+
+    known-three : (b : ℕ) → kindAt b 3 ≡ absent → is b c ≡ true
+        → occurs b (ternary (c .operands .first) (c .operands .second) (c .operands .third)) all ≡ true
+    known-three b w e =
+        let fourth : c .operands .fourth ≡ 0 = plain .fourth (rw (eqb-true (c .byte) b e) w) in
+        let same : c .operands ≡ ternary (c .operands .first) (c .operands .second) (c .operands .third) = λ i. record {
+          first = c .operands .first;
+          second = c .operands .second;
+          third = c .operands .third;
+          fourth = fourth i;
+        } in
+        sym (ap (λ (y : Operands). occurs b y all) same) ∙ known b e
+
+    used-here : isUnused all before c ≡ false
+    unfolding anyOf operandsOf operandsIn isAmong
+    used-here =
+        let n = c .operands .first in
+        let x = c .operands .second in
+        let v = c .operands .third in
+        let called : HasCommand (programOf all) n CALL x → handlerCalls all n x ≡ true = command-has all n CALL x (CALL ∷ []) refl in
+        rw (
+          line (is READ c) (handlerReads all n x) (λ e. reads-either n x (used .reads n x (known-two READ refl refl e))),
+          line (is WRITE c) (handlerWrites all n x)
+              (λ e. command-has all n PUT x (PUT ∷ []) refl (used .writes n x (known-two WRITE refl refl e))),
+          line (is ANY c) (handlerCalls all n x) (λ e. called (used .anys n x (known-two ANY refl refl e))),
+          line (is ARG c) (handlerCalls all n x) (λ e. called (used .arguments n x v (known-three ARG refl e))),
+          line (is SPAN c) (handlerCalls all n x) (λ e. called (used .spans n x v (c .operands .fourth) (known SPAN e))),
+        )
+
+  all-used : (past : List Command) → Valid past → ((b : ℕ) (x : Operands) → occurs b x past ≡ true → occurs b x all ≡ true)
+      → refuseFirst 19 (isUnused all) past ≡ none
+  unfolding refuseFirst occurs
+  all-used [] valid within = refl
+  all-used (c ∷ past) valid within =
+      refuse-on 19 (isUnused all) past c
+      (used-here past c (valid .1) (within (c .byte) (c .operands) (or-first (isSame (c .byte) (c .operands) c) _ (same-self c))))
+      ∙ all-used past (valid .0) (λ b x e. within b x (or-second (isSame b x c) (occurs b x past) e))
 
 -- the number of a later test's refusal is the test's
 first-number : (k : ℕ) (test : List Command → Command → Bool) (past : List Command) (r : Refusal) → refuseFirst k test past ≡ some r
@@ -153,6 +195,9 @@ least-privilege =
             arguments = arguments-used past used;
             spans = spans-used past used;
           };
+      ofUsed = λ job past e used.
+          let d = and-then-accepted farJump (decode job) past e in
+          decode-job-accepted job past (d .0) (d .1) (all-used past used past (decoded-valid job past (d .0)) (λ b x o. o));
       ofMonitored = only-refuses monitoredRun;
       ofUnmonitored = only-refuses unmonitoredRun;
     }

@@ -13,7 +13,7 @@ use Rattle.model.specs.Command.{Command}
 use Rattle.model.specs.Declared.{countOf, turnsOf}
 use Rattle.model.specs.Program.{programOf}
 use Rattle.model.specs.Run.{monitoredRun, unmonitoredRun}
-use Rattle.model.specs.Refusal.{Refusal, refuse, accepted, rejected, decode, acceptUnless, andThen, firstOf, farJump}
+use Rattle.model.specs.Refusal.{Refusal, refuse, Decoded, accepted, rejected, decode, acceptUnless, andThen, firstOf, farJump}
 use Rattle.model.specs.Refusal.{unusedPermission, decodeJob, Sizes, shortBuffer, decodeFor}
 use Rattle.model.specs.Result.{refused, report, monitored, unmonitored}
 
@@ -46,6 +46,16 @@ decode-job-later job all e = rw e (by-jumps (farJump all))
     by-jumps : (o : Option Refusal) → andThen unusedPermission (acceptUnless all o) ≡ acceptUnless all (firstOf o (unusedPermission all))
     by-jumps none = refl
     by-jumps (some r) = refl
+
+-- accepted after a further test: accepted before it, and the test finds nothing
+pub and-then-accepted : (test : List Command → Option Refusal) (d : Decoded) (past : List Command) → andThen test d ≡ accepted past
+    → (d ≡ accepted past) × (test past ≡ none)
+and-then-accepted test (accepted all) past e = by-test (test all) refl e
+  where
+    by-test : (r : Option Refusal) → test all ≡ r → acceptUnless all r ≡ accepted past → (accepted all ≡ accepted past) × (test past ≡ none)
+    by-test none p q = let same : all ≡ past = cc in (q, rw (← same) p)
+    by-test (some r) p q = let w : _≡_ {A = ℕ} 0 1 = cc in absurd (omega arith)
+and-then-accepted test (rejected r) past e = let w : _≡_ {A = ℕ} 0 1 = cc in absurd (omega arith)
 
 -- no buffer is too short
 pub buffers-fit : (job : List ℕ) (b : Sizes) (past : List Command) → shortBuffer job b past ≡ none

@@ -1,4 +1,5 @@
--- Request S-7, "that a list show only what the handler uses": what its test gives of every accepted job, and that it takes nothing else.
+-- Request S-7, "that a list show only what the handler uses": its test refuses a job exactly if a permission of it is unused, and does
+-- nothing else.
 use Prim.Native.Nat.{ℕ, _<_}
 use mathlib.Core.Path.{_≡_}
 use mathlib.Core.Bool.{true}
@@ -20,7 +21,7 @@ pub record HasCommand (P : Program) (n b x : ℕ) : Type 0 where
   pub inside : position < length (P .handler n)
   pub command : instructionAt P n position ≡ instruction b x
 
--- each permission of these commands has a command in its node's handler that needs it
+-- each permission of these commands has a command in its node's handler that uses it
 pub record LeastPrivilege (past : List Command) : Type 0 where
   pub reads : (n x : ℕ) → occurs READ (binary n x) past ≡ true
       → HasCommand (programOf past) n GET x ⊎ HasCommand (programOf past) n PLUS x
@@ -38,8 +39,13 @@ abbrev pub OnlyRefuses : (Program → List ℕ → Run) → (List ℕ → Sizes 
 OnlyRefuses run result =
     (job : List ℕ) (b : Sizes) → ((place : ℕ) × (result job b ≡ refused (refuse 19 place))) ⊎ (result job b ≡ withoutTest run job b)
 
--- the claim on every accepted job, and on the monitored ("watched") and the unmonitored ("bare") run of every job
+-- the claim
 pub record LeastPrivilegeHolds : Type 0 where
+  -- on every accepted job: all its permissions are used
   pub ofAccepted : (job : List ℕ) (past : List Command) → decodeJob job ≡ accepted past → LeastPrivilege past
+  -- and on every job that passes the tests before: if all its permissions are used, it passes this one too
+  pub ofUsed : (job : List ℕ) (past : List Command) → andThen farJump (decode job) ≡ accepted past → LeastPrivilege past
+      → decodeJob job ≡ accepted past
+  -- on the monitored ("watched") and the unmonitored ("bare") run of every job
   pub ofMonitored : OnlyRefuses monitoredRun monitored
   pub ofUnmonitored : OnlyRefuses unmonitoredRun unmonitored

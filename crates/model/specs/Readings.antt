@@ -358,7 +358,11 @@ unusedRows =
     ∷ monitoredRow (nodes 1 ++ global 5 ++ read) (refused (refuse 19 9))
     -- 19 at the first of two that are unused, after one that is used
     ∷ monitoredRow (handling (read ++ write ++ any 0) (0x43 ∷ 0x00 ∷ [])) (refused (refuse 19 17))
-    -- 15 and 9 before 19, at later commands; 19 before 10
+    -- used by the last of 64 commands
+    ∷ monitoredRow (handling read (times 63 (0x4B ∷ []) ++ (0x43 ∷ 0x00 ∷ []))) rests
+    -- 6, 8, 15 and 9 before 19, at later commands; 19 before 10
+    ∷ monitoredRow (handling read [] ++ turns 1 1) (refused (refuse 6 19))
+    ∷ monitoredRow (handling (read ++ read) []) (refused (refuse 8 17))
     ∷ monitoredRow (handling (read ++ span 8 7) []) (refused (refuse 15 17))
     ∷ monitoredRow (handling read (0x48 ∷ 0x02 ∷ [])) (refused (refuse 9 19))
     ∷ within (sizes 6 2623 4095) (handling read [] ++ turns 1 0) (refused (refuse 19 14))

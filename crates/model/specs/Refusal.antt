@@ -8,7 +8,8 @@ use lib.Dec.{leb, ltb, eqb}
 use lib.ListN.{length}
 use Rattle.model.specs.Table.{FLOW, NODE, VAR, FUN, REPLY, WIRE, ANY, ARG, READ, WRITE, SPAN, BODY, GET, PUT, PLUS, JUMPZ, JUMP}
 use Rattle.model.specs.Table.{CALL, START, TURN, OperandKind, scope, owner, start, answer, node, port, target, function, argument}
-use Rattle.model.specs.Table.{value, low, high, variable, jump, absent, kindAt, groupOf, Limit, largestOf, maxPort, maxHandler, maxJob}
+use Rattle.model.specs.Table.{value, low, high, variable, jump, absent, kindAt, groupOf, Limit, largestOf, maxPort, maxHandler}
+use Rattle.model.specs.Table.{maxJob}
 use Rattle.model.specs.Command.{Command, Parsed, whole, unknown, cutShort, is, readCommand}
 use Rattle.model.specs.Declared.{countOf, countAmong, occurs, flowOf, replyOf, isThere, shared, sees, isHandler, openBody}
 use Rattle.model.specs.Declared.{bodyLength, handlerOf, has, startedIn}
@@ -204,7 +205,8 @@ handlerWrites all n x = has (PUT ∷ []) x (handlerOf all n)
 abbrev pub handlerCalls : List Command → ℕ → ℕ → Bool
 handlerCalls all n f = has (CALL ∷ []) f (handlerOf all n)
 
--- a permission ("idle") that its node's handler has no command for, when the job's commands are `all` (S-7)
+-- a permission ("idle") that its node's handler has no command for, when the job's commands are `all` (S-7); the commands before it do not
+-- matter
 abbrev pub isUnused : List Command → List Command → Command → Bool
 isUnused all past c =
     anyOf

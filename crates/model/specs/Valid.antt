@@ -59,7 +59,7 @@ pub record Passes (past : List Command) (c : Command) : Type 0 where
   pub fresh : repeated past c ≡ false
   pub ascends : emptySpan c ≡ false
 
--- the commands of an accepted job
+-- the commands of an accepted job: what a run asks of them
 pub record ValidJob (past : List Command) : Type 0 where
   pub commands : Valid past
   pub jumps : farJump past ≡ none

@@ -30,11 +30,11 @@ use Rattle.model.specs.Valid.{Fits}
 use Rattle.model.proofs.Reading.{number-one}
 use Rattle.model.proofs.Bounds.{length-numbers, length-variables}
 use Rattle.model.proofs.Following.{demand2}
+use Rattle.model.proofs.Results.{and-then-accepted}
 use Rattle.model.proofs.Walking.{Decides, decode-for-walked}
 use Rattle.model.proofs.Ways.{either, turn-by, monitored-by}
 use Rattle.model.proofs.Words.{unmonitored-words, monitored-words, bytes-spell}
 use Rattle.turns.proofs.Narrow.{Makes}
-use Rattle.run.proofs.Delivering.{and-then-accepted}
 use Rattle.printing.specs.Printing.{resultLines}
 use Rattle.printing.specs.Meaning.{lineOfEntry, lineOfNode, lineOfVariable}
 use Rattle.printing.specs.Meaning.{linesOfEntries, linesOfState, linesOfRun, linesOfJob, LinesHold}

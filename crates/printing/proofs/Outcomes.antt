@@ -10,7 +10,7 @@ use Rattle.run.specs.declared.answer.Answer.the-variants as a
 use Rattle.run.specs.Answers.{resultFor, Delivers}
 use Rattle.writing.specs.Writing.{Writes, placed}
 use Rattle.lines.specs.Lines.{partAt, runLines}
-use Rattle.run.proofs.Delivering.{and-then-accepted, result-ran, result-refused}
+use Rattle.run.proofs.Delivering.{result-ran, result-refused}
 use Rattle.model.specs.Table.{NODE, VAR}
 use Rattle.model.specs.Command.{Command}
 use Rattle.model.specs.Declared.{countOf, turnsOf}
@@ -21,6 +21,7 @@ use Rattle.model.specs.Output.{answerIn, traceIn, nodesBytes, variablesBytes, s
 use Rattle.model.specs.Refusal.{Decoded, accepted, rejected, decodeJob, shortBuffer, decodeFor}
 use Rattle.model.specs.Result.{Result, refused, ran, report, Buffers, sizesOf, written, traceAfter, snapshotAfter, workAfter}
 use Rattle.model.specs.Valid.{Bytes, Valid}
+use Rattle.model.proofs.Results.{and-then-accepted}
 use Rattle.model.proofs.Valid.{job-valid, limits}
 use Rattle.model.proofs.Growth.{length-turns}
 use Rattle.model.proofs.Bounds.{length-trace, length-variables, RunBounded, monitored-fits, unmonitored-fits, snapshot-fits}

@@ -18,7 +18,7 @@ use Rattle.model.specs.Refusal.{decodeFor}
 use Rattle.model.specs.Result.{Result, refused, report, monitored, unmonitored, Buffers, sizesOf, written}
 use Rattle.model.specs.Result.{traceAfter, snapshotAfter, workAfter}
 use Rattle.model.specs.Valid.{ValidJob}
-use Rattle.model.proofs.Results.{buffers-fit}
+use Rattle.model.proofs.Results.{and-then-accepted, buffers-fit}
 use Rattle.model.proofs.Valid.{job-valid, limits}
 use Rattle.command.specs.declared.refusal.Refusal.{Refusal as Refused}
 use Rattle.command.specs.Reading.{refusalOf}
@@ -37,16 +37,6 @@ use Rattle.run.specs.declared.answer.Answer.{Answer}
 use Rattle.run.specs.declared.answer.Answer.the-variants as a
 use Rattle.run.specs.Delivered.{AcceptedWith, DeliversRun}
 use Rattle.run.specs.Answers.{answer, toldBy, toldIn, resultFor, buffers, Delivers}
-
--- accepted after a further test: accepted before it, and the test finds nothing
-pub and-then-accepted : (test : List Command → Option Refusal) (d : Decoded) (past : List Command) → andThen test d ≡ accepted past
-    → (d ≡ accepted past) × (test past ≡ none)
-and-then-accepted test (accepted all) past e = by-test (test all) refl e
-  where
-    by-test : (r : Option Refusal) → test all ≡ r → acceptUnless all r ≡ accepted past → (accepted all ≡ accepted past) × (test past ≡ none)
-    by-test none p q = let same : all ≡ past = cc in (q, rw (← same) p)
-    by-test (some r) p q = let w : _≡_ {A = ℕ} 0 1 = cc in absurd (omega arith)
-and-then-accepted test (rejected r) past e = let w : _≡_ {A = ℕ} 0 1 = cc in absurd (omega arith)
 
 -- lists that agree from a place on
 drop-same : (n : ℕ) (xs ys : List ℕ) → length xs ≡ length ys → ((i : ℕ) → n ≤ i → getD xs i 0 ≡ getD ys i 0) → drop n xs ≡ drop n ys
