@@ -50,6 +50,7 @@ unfound k test b x (c ∷ past) e there =
         record { before = past; place = c .place; passes = rw (← byte, ← operands) passed }
     by-same false p q rest = rest q
 
+-- where test 19 finds none, each permission has a command
 module _ (past : List Command) (used : unusedPermission past ≡ none) where
   found : (b : ℕ) (x : Operands) → occurs b x past ≡ true → Unfound (isUnused past) b x
   found b x = unfound 19 (isUnused past) b x past used
@@ -94,7 +95,7 @@ module _ (all : List Command) (used : LeastPrivilege all) where
   reads-either n x (inr h) = command-has all n PLUS x (GET ∷ PLUS ∷ []) refl h
 
   module _ (before : List Command) (c : Command) (plain : Plain c) (there : occurs (c .byte) (c .operands) all ≡ true) where
-    -- by its byte; one with two operands has no others
+    -- it occurs with its byte, and with as many operands as that has
     known : (b : ℕ) → is b c ≡ true → occurs b (c .operands) all ≡ true
     known b e = let byte = eqb-true (c .byte) b e in rw byte at there
 

@@ -3,7 +3,7 @@ use Prim.Native.Nat.{ℕ, _+_, _-_, _*_, _≤_}
 use mathlib.Core.Path.{_≡_, refl, sym, ap, subst, _∙_}
 use mathlib.Core.Bool.{Bool, true, false}
 use mathlib.Core.List.{List, _++_}
-use mathlib.Core.Option.{Option, none, some}
+use mathlib.Core.Option.{none}
 use native.Mathlib.Omega.{arith}
 use lib.ListN.{length, getD, drop, replicate, length-drop, length-replicate}
 use lib.Seq.{ext-getD, getD-drop}
@@ -13,8 +13,7 @@ use Rattle.model.specs.Program.{programOf}
 use Rattle.model.specs.State.{State}
 use Rattle.model.specs.Run.{monitoredRun, unmonitoredRun}
 use Rattle.model.specs.Output.{snapshotBytes}
-use Rattle.model.specs.Refusal.{Refusal, Decoded, accepted, rejected, acceptUnless, andThen, decodeJob, Sizes, workSize, shortBuffer}
-use Rattle.model.specs.Refusal.{decodeFor}
+use Rattle.model.specs.Refusal.{Refusal, Decoded, accepted, rejected, decodeJob, Sizes, workSize, shortBuffer, decodeFor}
 use Rattle.model.specs.Result.{Result, refused, report, monitored, unmonitored, Buffers, sizesOf, written}
 use Rattle.model.specs.Result.{traceAfter, snapshotAfter, workAfter}
 use Rattle.model.specs.Valid.{ValidJob}
