@@ -14,7 +14,7 @@ use Rattle.model.specs.Command.{Command, is, whole, readCommand}
 use Rattle.model.specs.Declared.{openBody}
 use Rattle.model.specs.Refusal.{Refusal, anyOf, refuse, accepted, decode, firstOf, refuseFirst, isFarJump, farJump, handlerReads}
 use Rattle.model.specs.Refusal.{handlerWrites, handlerCalls, isUnused, unusedPermission}
-use Rattle.model.proofs.Logic.{not-true}
+use Rattle.model.proofs.Logic.{not-turned}
 use Rattle.model.proofs.Reading.{read-at, number-one}
 use Rattle.model.proofs.Growth.{open-next}
 use Rattle.model.proofs.Scanning.{Scanning, scanning-start, scanning-end, scanning-reads, scanning-found, scanning-on, scanning-behind}
@@ -158,7 +158,8 @@ module _ {job : List ℕ} {all : List Command} {place opened unused : ℕ} (l : 
 
         pub looking-on :
             far ≡ false → (u : List ℕ) → Uses u all → (i o : ℕ)
-            → i ≡ cond (not (eqb group 3) || ltb unused (length job)) unused (cond (unusedIn u byte first (getD job (place + 2) 0)) place unused)
+            → i ≡ cond (not (eqb group 3) || ltb unused (length job)) unused
+            (cond (unusedIn u byte first (getD job (place + 2) 0)) place unused)
             → o ≡ cond (eqb byte BODY) first opened → Looking job all next o i
         unfolding refuseFirst
         looking-on e u uses i o p q =
@@ -172,5 +173,5 @@ module _ {job : List ℕ} {all : List Command} {place opened unused : ℕ} (l : 
                   (unused-next (length job) unused place h (refuseFirst 19 (isUnused all) (l .past)) (l .first)
                   (not (eqb (groupOf (c .byte)) 3))
                   (isUnused all (l .past) c)
-                  (λ z. used-other all (l .past) c (eqb-false (groupOf (c .byte)) 3 (not-true (eqb (groupOf (c .byte)) 3) z))));
+                  (λ z. used-other all (l .past) c (eqb-false (groupOf (c .byte)) 3 (not-turned (eqb (groupOf (c .byte)) 3) true z))));
             }

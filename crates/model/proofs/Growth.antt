@@ -1,7 +1,7 @@
 -- How what commands declare grows by one command.
 use Prim.Native.Nat.{ℕ, suc, _+_, _≤_, _<_, zero-le, max}
 use mathlib.Core.Path.{_≡_, refl, sym, _∙_}
-use mathlib.Core.Bool.{Bool, true, false, cond, _&&_, _||_}
+use mathlib.Core.Bool.{Bool, true, false, cond, _&&_, _||_, or-assoc, or-comm}
 use mathlib.Core.List.{List, [], _∷_, _++_, append-nil}
 use mathlib.Core.Option.{some}
 use native.Mathlib.Omega.{arith}
@@ -125,9 +125,7 @@ has-more bytes x t i (j ∷ handler) =
     (exchange (isAmong (j .byte) bytes && eqb (j .operand) x) (t && (isAmong (i .byte) bytes && eqb (i .operand) x)) (has bytes x handler))
   where
     exchange : (p q r : Bool) → (p || (q || r)) ≡ (q || (p || r))
-    exchange true true r = refl
-    exchange true false r = refl
-    exchange false q r = refl
+    exchange p q r = sym (or-assoc p q r) ∙ rw (or-comm p q) (or-assoc q p r)
 
 pub has-next : (bytes : List ℕ) (x : ℕ) (past : List Command) (c : Command) (n : ℕ)
     → has bytes x (handlerOf (c ∷ past) n)

@@ -18,7 +18,7 @@ use Rattle.model.specs.Refusal.{decodeJob, shortBuffer, decodeFor}
 use Rattle.model.specs.Result.{refused, resultOf, monitored, unmonitored}
 use Rattle.model.specs.LeastPrivilege.{HasCommand, LeastPrivilege, OnlyRefuses, LeastPrivilegeHolds}
 use Rattle.model.specs.Valid.{Valid, Plain}
-use Rattle.model.proofs.Logic.{true-false, not-false, or-first, or-second, none-of}
+use Rattle.model.proofs.Logic.{true-false, not-turned, or-first, or-second, none-of}
 use Rattle.model.proofs.Naming.{same-byte, same-operands}
 use Rattle.model.proofs.Handling.{has-either, has-command, command-has}
 use Rattle.model.proofs.Positions.{first-none}
@@ -57,19 +57,19 @@ module _ (past : List Command) (used : unusedPermission past ≡ none) where
 
   reads-used : (n x : ℕ) → occurs READ (binary n x) past ≡ true
       → HasCommand (programOf past) n GET x ⊎ HasCommand (programOf past) n PLUS x
-  reads-used n x e = has-either past n GET PLUS x (not-false _ (none-of 0 _ (found READ (binary n x) e .passes)))
+  reads-used n x e = has-either past n GET PLUS x (not-turned _ false (none-of 0 _ (found READ (binary n x) e .passes)))
 
   writes-used : (n x : ℕ) → occurs WRITE (binary n x) past ≡ true → HasCommand (programOf past) n PUT x
-  writes-used n x e = has-command past n PUT x (not-false _ (none-of 1 _ (found WRITE (binary n x) e .passes)))
+  writes-used n x e = has-command past n PUT x (not-turned _ false (none-of 1 _ (found WRITE (binary n x) e .passes)))
 
   anys-used : (n f : ℕ) → occurs ANY (binary n f) past ≡ true → HasCommand (programOf past) n CALL f
-  anys-used n f e = has-command past n CALL f (not-false _ (none-of 2 _ (found ANY (binary n f) e .passes)))
+  anys-used n f e = has-command past n CALL f (not-turned _ false (none-of 2 _ (found ANY (binary n f) e .passes)))
 
   arguments-used : (n f v : ℕ) → occurs ARG (ternary n f v) past ≡ true → HasCommand (programOf past) n CALL f
-  arguments-used n f v e = has-command past n CALL f (not-false _ (none-of 3 _ (found ARG (ternary n f v) e .passes)))
+  arguments-used n f v e = has-command past n CALL f (not-turned _ false (none-of 3 _ (found ARG (ternary n f v) e .passes)))
 
   spans-used : (n f low high : ℕ) → occurs SPAN (quaternary n f low high) past ≡ true → HasCommand (programOf past) n CALL f
-  spans-used n f low high e = has-command past n CALL f (not-false _ (none-of 4 _ (found SPAN (quaternary n f low high) e .passes)))
+  spans-used n f low high e = has-command past n CALL f (not-turned _ false (none-of 4 _ (found SPAN (quaternary n f low high) e .passes)))
 
 -- a command is the same as itself
 same-self : (c : Command) → isSame (c .byte) (c .operands) c ≡ true

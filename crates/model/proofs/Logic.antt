@@ -1,7 +1,7 @@
 -- Small laws of tests.
 use Prim.Native.Nat.{ℕ, zero, suc}
-use mathlib.Core.Path.{_≡_, refl, sym, _∙_}
-use mathlib.Core.Bool.{Bool, true, false, not, _&&_, _||_, or-false}
+use mathlib.Core.Path.{_≡_, refl, sym, ap, _∙_}
+use mathlib.Core.Bool.{Bool, true, false, not, Bool·not-not, _&&_, _||_, or-false}
 use mathlib.Core.List.{List, [], _∷_}
 use native.Mathlib.Omega.{arith}
 use lib.ListN.{getD}
@@ -14,13 +14,9 @@ true-false e = let w : _≡_ {A = ℕ} 0 1 = cc in absurd (omega arith)
 pub not-both : {b : Bool} {A : Type 0} → b ≡ true → b ≡ false → A
 not-both p q = true-false (sym p ∙ q)
 
-pub not-true : (b : Bool) → not b ≡ true → b ≡ false
-not-true true e = true-false (sym e)
-not-true false e = refl
-
-pub not-false : (b : Bool) → not b ≡ false → b ≡ true
-not-false true e = refl
-not-false false e = true-false e
+-- a negation to the other side
+pub not-turned : (b c : Bool) → not b ≡ c → b ≡ not c
+not-turned b c e = sym (Bool·not-not b) ∙ ap not e
 
 pub or-left : (a b : Bool) → (a || b) ≡ false → a ≡ false
 or-left true b e = true-false e

@@ -1,6 +1,9 @@
 // What the handlers of a job use: by node, the variables that its handler reads and writes, and the functions that it calls. The cells are
 // the decoder's own: no run has them.
 ghost use mathlib.Core.Path.{_≡_};
+ghost use mathlib.Core.Bool.{_||_};
+ghost use lib.Dec.{eqb};
+ghost use Rattle.model.specs.Table.{ANY, ARG, SPAN};
 ghost use Rattle.tables.specs.Writes.{written};
 ghost use Rattle.uses.specs.Uses.{useWrites, unusedIn};
 use command::bytes;
@@ -25,12 +28,18 @@ pub fn note_use(uses: &mut [u32], n: NodeNum, byte: u8, x: u32)
     let row = n.0 as usize;
     let column = x as usize;
     match byte {
-        bytes::GET => mark(uses, READ_USES, row, column),
+        bytes::GET | bytes::PLUS => mark(uses, READ_USES, row, column),
         bytes::PUT => mark(uses, WRITE_USES, row, column),
-        bytes::PLUS => mark(uses, READ_USES, row, column),
         bytes::CALL => mark(uses, CALL_USES, row, column),
         _ => {}
     }
+}
+
+// Whether the byte is that of a permission to call.
+fn permits_call(byte: u8) -> bool
+    ensures { λ r. ⌜ r ≡ (eqb byte ANY || (eqb byte ARG || eqb byte SPAN)) ⌝ }
+{
+    (byte == bytes::ANY) | ((byte == bytes::ARG) | (byte == bytes::SPAN))
 }
 
 // Whether a permission with this byte, of a node and a variable or a function, is one that the node's handler has no command for.
@@ -42,9 +51,6 @@ pub fn is_unused(uses: &[u32], byte: u8, n: NodeNum, x: u32) -> bool
     match byte {
         bytes::READ => !marked(uses, READ_USES, row, column),
         bytes::WRITE => !marked(uses, WRITE_USES, row, column),
-        bytes::ANY => !marked(uses, CALL_USES, row, column),
-        bytes::ARG => !marked(uses, CALL_USES, row, column),
-        bytes::SPAN => !marked(uses, CALL_USES, row, column),
-        _ => false,
+        _ => permits_call(byte) & !marked(uses, CALL_USES, row, column),
     }
 }
