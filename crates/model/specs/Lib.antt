@@ -22,6 +22,7 @@ pub mod Readings
 -- statements on change requests
 pub mod LargestCounts
 pub mod LeastPrivilege
+pub mod Parts
 pub mod Replies
 pub mod Spans
 pub mod WorkSize

@@ -44,6 +44,10 @@ unfoldable pub nodesBytes : State → ℕ → List ℕ
 nodesBytes s zero = []
 nodesBytes s (suc k) = nodesBytes s k ++ nodeBytes s k
 
+-- where the part of node n begins: where the parts of all nodes before it end
+abbrev pub partStart : State → ℕ → ℕ
+partStart s n = length (nodesBytes s n)
+
 -- the first k variables
 unfoldable pub variablesBytes : State → ℕ → List ℕ
 variablesBytes s zero = []
@@ -52,6 +56,10 @@ variablesBytes s (suc k) = variablesBytes s k ++ bytes4 (variableAt s k)
 -- the snapshot ("end picture"): the nodes in order, then the variables
 unfoldable pub snapshotBytes : Program → State → List ℕ
 snapshotBytes P s = nodesBytes s (P .nodes) ++ variablesBytes s (P .variables)
+
+-- where the variables begin: where the parts of all nodes end
+abbrev pub variablesStart : Program → State → ℕ
+variablesStart P s = partStart s (P .nodes)
 
 -- the trace of a run
 abbrev pub traceIn : Run → List ℕ

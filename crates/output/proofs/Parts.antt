@@ -1,85 +1,132 @@
 -- The bytes of the snapshot, part by part.
-use Prim.Native.Nat.{ℕ, zero, suc, _+_, _*_, _≤_, _<_}
+use Prim.Native.Nat.{ℕ, zero, suc, _+_, _*_, _%_, _≤_, _<_}
 use mathlib.Core.Path.{_≡_, refl, sym, ap, _∙_}
-use mathlib.Core.List.{List, _++_}
+use mathlib.Core.List.{List, [], _∷_, _++_}
+use native.Mathlib.Nat.{mod-eq-of-lt}
 use native.Mathlib.Numerals.{add-one}
 use native.Mathlib.Omega.{arith}
 use lib.ListN.{length, getD, take, drop, length-drop}
 use lib.Seq.{length-take-le}
-use Rattle.model.specs.State.{variableAt}
-use Rattle.model.specs.Output.{bytes4, numbersBytes, nodeBytes, nodesBytes, variablesBytes}
-use Rattle.model.proofs.Bounds.{length-numbers, length-variables, nodes-next}
+use Rattle.model.specs.State.{State, queueAt, waitingAt, variableAt}
+use Rattle.model.specs.Output.{bytes4, numbersBytes, nodeBytes, nodesBytes, partStart, variablesBytes}
+use Rattle.model.specs.Valid.{Bounded}
+use Rattle.model.proofs.Bounds.{length-numbers, length-nodes, length-variables, nodes-next}
+use Rattle.model.proofs.Parts.{start-next}
 use Rattle.memory.specs.Queues.{BoundedCounts}
 use Rattle.memory.proofs.Waiting.{queue-at, count-at}
-use Rattle.memory.specs.declared.Registers.{Registers}
-use Rattle.engine.specs.declared.State.{State}
+use Rattle.engine.specs.declared.State.{State as Held}
 use Rattle.engine.specs.Engine.{view}
 use Rattle.writing.specs.Writing.{Writes}
 use Rattle.writing.proofs.Placing.{writes-on, writes-nothing}
 use Rattle.writing.proofs.Words.{numbers-next}
-use Rattle.output.specs.Written.{partBytes, shownBytes}
+use Rattle.output.specs.Written.{nodesView, shownBytes}
 
--- how long the waiting messages are
-pub length-messages : (slots : List ℕ) (first waiting : ℕ) → first + waiting ≤ length slots
-    → length (numbersBytes (take waiting (drop first slots))) ≡ 4 * waiting
-length-messages slots first waiting h =
-    length-numbers (take waiting (drop first slots)) ∙ ap (λ (k : ℕ). 4 * k)
-    (length-take-le waiting (drop first slots) (omega (arith, length-drop first slots)))
+-- the part of node n is written, and the place of the next one is known
+pub record NodePut (s : State) (n : ℕ) (before after : List ℕ) (next : ℕ) : Type 0 where
+  pub part : Writes (nodeBytes s n) before (partStart s n) after next
+  pub place : next ≡ partStart s (n + 1)
 
--- the registers of a node in a state
-abbrev pub registersOf : State → ℕ → Registers
-registersOf s n = record { position = getD (s .position) n 0; accumulator = getD (s .accumulator) n 0; message = getD (s .message) n 0 }
+-- node n of the arrays of the code
+module _ (p a m w q : List ℕ) (n : ℕ) (narrow : getD p n 0 < 256) (few : getD w n 0 ≤ 16) (inside : n * 16 + 16 ≤ length q) where
+  abbrev s : State
+  s = nodesView p a m w q
 
--- the parts of the first nodes are written: what a loop over the nodes keeps
-pub record Shown (s : State) (before : List ℕ) (n : ℕ) (snapshot : List ℕ) (at : ℕ) : Type 0 where
-  pub writes : Writes (nodesBytes (view s) n) before 0 snapshot at
-  pub place : at ≤ 74 * n
+  -- its part, as it is put together
+  abbrev part : List ℕ
+  part =
+      (getD p n 0 % 256 ∷ []) ++ bytes4 (getD a n 0) ++ bytes4 (getD m n 0) ++ (getD w n 0 ∷ [])
+      ++ numbersBytes (take (getD w n 0) (drop (n * 16) q))
+
+  pub length-messages : length (numbersBytes (take (getD w n 0) (drop (n * 16) q))) ≡ 4 * getD w n 0
+  length-messages =
+      length-numbers (take (getD w n 0) (drop (n * 16) q)) ∙ ap (λ (k : ℕ). 4 * k)
+      (length-take-le (getD w n 0) (drop (n * 16) q) (omega (arith, length-drop (n * 16) q)))
+
+  messages : queueAt s n ≡ take (getD w n 0) (drop (n * 16) q)
+  messages = let e : n * 16 ≡ 16 * n = omega arith in rw (queue-at w q n, e)
+
+  waits : waitingAt s n ≡ getD w n 0
+  waits = ap length messages ∙ length-take-le (getD w n 0) (drop (n * 16) q) (omega (arith, length-drop (n * 16) q))
+
+  part-node : nodeBytes s n ≡ part
+  part-node = rw (mod-eq-of-lt narrow, waits, messages)
+
+  -- at the place where the parts before it end
+  pub node-put : (at : ℕ) → at ≡ partStart s n → (before after : List ℕ) (next : ℕ) → Writes part before at after next
+      → NodePut s n before after next
+  node-put at here before after next x =
+      let writes : Writes (nodeBytes s n) before (partStart s n) after next = rw (part-node, ← here) x in
+      record { part = writes; place = writes .place ∙ sym (start-next s n) ∙ ap (partStart s) (sym (add-one n)) }
+
+-- the parts of the first nodes are written, and the place of the next one is known: what a loop over the nodes keeps
+pub record Shown (s : Held) (before : List ℕ) (n : ℕ) (snapshot : List ℕ) (at : ℕ) : Type 0 where
+  pub parts : Writes (nodesBytes (view s) n) before 0 snapshot at
+  pub place : at ≡ partStart (view s) n
+  pub short : at ≤ 74 * n
   pub size : length snapshot ≡ length before
 
-pub none-shown : (s : State) (before : List ℕ) → Shown s before 0 before 0
+pub none-shown : (s : Held) (before : List ℕ) → Shown s before 0 before 0
 unfolding nodesBytes
-none-shown s before = record { writes = writes-nothing before 0; place = omega arith; size = refl }
+none-shown s before = record { parts = writes-nothing before 0; place = refl; short = omega arith; size = refl }
 
-module _ (s : State) (bounded : BoundedCounts (s .waiting)) (counts : length (s .waiting) ≡ 32) (slots : length (s .queue) ≡ 512) where
-  -- the part of a node by the slots
-  pub part-node : (n : ℕ) → nodeBytes (view s) n ≡ partBytes (registersOf s n) (getD (s .waiting) n 0) (s .queue) (n * 16)
-  part-node n =
-      let e : n * 16 ≡ 16 * n = omega arith in
-      rw (count-at (s .waiting) (s .queue) bounded (omega arith) n, queue-at (s .waiting) (s .queue) n, e)
+-- the nodes that the arrays of a state hold are those of the state
+abbrev pub nodesOf : Held → State
+nodesOf s = nodesView (s .position) (s .accumulator) (s .message) (s .waiting) (s .queue)
+
+nodes-same : (s : Held) (k : ℕ) → nodesBytes (nodesOf s) k ≡ nodesBytes (view s) k
+unfolding nodesBytes
+nodes-same s zero = refl
+nodes-same s (suc k) = ap (λ (l : List ℕ). l ++ nodeBytes (view s) k) (nodes-same s k)
+
+pub start-same : (s : Held) (n : ℕ) → partStart (nodesOf s) n ≡ partStart (view s) n
+start-same s n = ap length (nodes-same s n)
+
+module _ (s : Held) (bounded : BoundedCounts (s .waiting)) (counts : length (s .waiting) ≡ 32) (slots : length (s .queue) ≡ 512) where
+  few : Bounded (view s)
+  few n = rw (count-at (s .waiting) (s .queue) bounded (omega arith) n) (bounded n)
 
   pub one-shown :
-      (before : List ℕ) (n : ℕ) (snapshot : List ℕ) (at : ℕ) (after : List ℕ) (next : ℕ) → n < 32 → 74 * n + 74 ≤ length before
-      → length after ≡ length snapshot
-      → Shown s before n snapshot at → Writes (partBytes (registersOf s n) (getD (s .waiting) n 0) (s .queue) (n * 16)) snapshot at after
-      next
+      (before : List ℕ) (n : ℕ) (snapshot : List ℕ) (at : ℕ) (after : List ℕ) (next : ℕ) → 74 * n + 74 ≤ length before
+      → length after ≡ length snapshot → Shown s before n snapshot at
+      → NodePut (nodesOf s) n snapshot after next
       → Shown s before (n + 1) after next
-  one-shown before n snapshot at after next inside fits same w p =
-      let long = length-messages (s .queue) (n * 16) (getD (s .waiting) n 0) (omega (arith, bounded n)) in
-      let short : length (partBytes (registersOf s n) (getD (s .waiting) n 0) (s .queue) (n * 16)) ≤ 74 = omega (arith, long, bounded n) in
-      let e : nodesBytes (view s) (n + 1) ≡ nodesBytes (view s) n ++ partBytes (registersOf s n) (getD (s .waiting) n 0) (s .queue)
-      (n * 16) =
-      ap (nodesBytes (view s)) (add-one n) ∙ nodes-next (view s) n ∙ ap (λ (l : List ℕ). nodesBytes (view s) n ++ l) (part-node n) in
+  one-shown before n snapshot at after next fits same w x =
+      let e : nodesBytes (view s) (n + 1) ≡ nodesBytes (view s) n ++ nodeBytes (view s) n =
+      ap (nodesBytes (view s)) (add-one n) ∙ nodes-next (view s) n in
+      let part : Writes (nodeBytes (view s) n) snapshot at after next = rw (w .place, ← start-same s n) (x .part) in
+      let place = x .place ∙ start-same s (n + 1) in
+      let short = length-nodes (view s) few (n + 1) in
       record {
-        writes = rw e (writes-on _ _ before 0 snapshot at after next (omega (arith, w .place, w .writes .place)) (w .writes) p);
-        place = omega (arith, p .place, w .place);
+        parts = rw e (writes-on _ _ before 0 snapshot at after next (omega (arith, place, short, part .place)) (w .parts) part);
+        place = place;
+        short = omega (arith, place, short);
         size = same ∙ w .size;
       }
 
 -- the variables are numbers one after the other
-pub variables-numbers : (s : State) (k : ℕ) → k ≤ length (s .variable) → variablesBytes (view s) k ≡ numbersBytes (take k (s .variable))
+variables-numbers : (s : State) (k : ℕ) → k ≤ length (s .variable) → variablesBytes s k ≡ numbersBytes (take k (s .variable))
 unfolding variablesBytes numbersBytes
 variables-numbers s zero h = refl
 variables-numbers s (suc k) h =
-    ap (λ (l : List ℕ). l ++ bytes4 (variableAt (view s) k)) (variables-numbers s k (omega arith))
+    ap (λ (l : List ℕ). l ++ bytes4 (variableAt s k)) (variables-numbers s k (omega arith))
     ∙ sym (numbers-next (s .variable) k (omega arith)) ∙ ap (λ (i : ℕ). numbersBytes (take i (s .variable))) (add-one k)
 
--- nodes, and after them the variables
+-- they are written behind the parts of the nodes, where a snapshot ends with them
+pub variables-put :
+    (s : State) (nodes variables : ℕ) (values : List ℕ) → s .variable ≡ values → variables ≤ length values
+    → (at : ℕ) → at ≡ partStart s nodes → (before after : List ℕ) (next : ℕ)
+    → Writes (numbersBytes (take variables values)) before at after next
+    → Writes (variablesBytes s variables) before (partStart s nodes) after next
+variables-put s nodes variables values same inside at here before after next x =
+    let e : variablesBytes s variables ≡ numbersBytes (take variables (s .variable)) = variables-numbers s variables (rw same inside) in
+    rw (← here, e, same) x
+
+-- nodes, and behind them the variables
 pub all-shown :
-    (s : State) (before : List ℕ) (nodes variables : ℕ) (snapshot : List ℕ) (at : ℕ) (after : List ℕ) (next : ℕ)
-    → variables ≤ length (s .variable) → at + 4 * variables ≤ length before
-    → Writes (nodesBytes (view s) nodes) before 0 snapshot at → Writes (numbersBytes (take variables (s .variable))) snapshot at after next
-    → Writes (shownBytes (view s) nodes variables) before 0 after next
-all-shown s before nodes variables snapshot at after next inside fits w p =
-    let e = variables-numbers s variables inside in
-    let long = rw e at (length-variables (view s) variables) in
-    rw e (writes-on (nodesBytes (view s) nodes) _ before 0 snapshot at after next (omega (arith, w .place, long)) w p)
+    (s : State) (nodes variables : ℕ) (before snapshot : List ℕ) (at : ℕ) (after : List ℕ) (next : ℕ)
+    → partStart s nodes + 4 * variables ≤ length before
+    → Writes (nodesBytes s nodes) before 0 snapshot at → at ≡ partStart s nodes
+    → Writes (variablesBytes s variables) snapshot (partStart s nodes) after next
+    → Writes (shownBytes s nodes variables) before 0 after next
+all-shown s nodes variables before snapshot at after next fits w here p =
+    writes-on (nodesBytes s nodes) _ before 0 snapshot at after next (omega (arith, length-variables s variables)) w (rw here p)

@@ -1,11 +1,11 @@
 -- What the writers of trace and snapshot write.
 use Prim.Native.Nat.{ℕ, _<_}
-use mathlib.Core.List.{List, _∷_, _++_}
-use lib.ListN.{take, drop, getD}
+use mathlib.Core.List.{List, [], _++_}
+use lib.ListN.{getD}
 use Rattle.model.specs.State.{State}
 use Rattle.model.specs.Turn.{Entry, entry}
-use Rattle.model.specs.Output.{bytes4, numbersBytes, nodesBytes, variablesBytes}
-use Rattle.memory.specs.declared.Registers.{Registers}
+use Rattle.model.specs.Output.{nodesBytes, variablesBytes}
+use Rattle.memory.specs.Queues.{queues}
 use Rattle.engine.specs.declared.State.{State as Held}
 use Rattle.output.specs.declared.numbers.Numbers.{Numbers}
 
@@ -21,10 +21,10 @@ Narrow e = (e .node < 256) × (e .kind < 256) × (e .number < 256)
 abbrev pub NarrowPositions : Held → Type 0
 NarrowPositions s = (n : ℕ) → getD (s .position) n 0 < 256
 
--- the part of one node: its registers, how many messages wait, and these, in the slots from `first` on
-abbrev pub partBytes : Registers → ℕ → List ℕ → ℕ → List ℕ
-partBytes x waiting slots first =
-    x .position ∷ bytes4 (x .accumulator) ++ bytes4 (x .message) ++ (waiting ∷ numbersBytes (take waiting (drop first slots)))
+-- the model's state with nodes that have these positions, accumulators, messages, counts of waiting messages and slots, and no variables
+abbrev pub nodesView : List ℕ → List ℕ → List ℕ → List ℕ → List ℕ → State
+nodesView position accumulator message waiting slots =
+    record { position = position; accumulator = accumulator; message = message; queue = queues waiting slots; variable = [] }
 
 -- the first nodes of a state, then the first variables
 abbrev pub shownBytes : State → ℕ → ℕ → List ℕ

@@ -1,36 +1,57 @@
-// The bytes of the snapshot (01's "end picture"). The place of each node's part is carried along from part to part.
-ghost use Prim.Native.Nat.{_+_, _*_, _≤_, _<_};
-ghost use lib.ListN.{length};
+// The bytes of the snapshot (01's "end picture"). The place of each part is carried along from part to part (S-3).
+ghost use mathlib.Core.Path.{_≡_};
+ghost use Prim.Native.Nat.{ℕ, _+_, _*_, _≤_, _<_};
+ghost use lib.ListN.{length, getD};
 ghost use Rattle.model.specs.Table.{maxNodes, maxVariables};
+ghost use Rattle.model.specs.State.{State as Meant};
+ghost use Rattle.model.specs.Output.{nodeBytes, partStart, variablesBytes};
 ghost use Rattle.model.specs.Refusal.{snapshotSize};
 ghost use Rattle.writing.specs.Writing.{Writes};
 ghost use Rattle.memory.specs.Queues.{BoundedCounts};
 ghost use Rattle.engine.specs.Engine.{view};
-ghost use Rattle.output.specs.Written.{partBytes, NarrowPositions, shownBytes};
+ghost use Rattle.output.specs.Written.{nodesView, NarrowPositions, shownBytes};
 use engine::State;
-use memory::Registers;
 use writing::put_byte;
 use writing::put_word;
 use writing::put_words;
 
-// Writes the part of one node: position, accumulator, message, how many messages wait, and these, from their first slot on.
-fn put_node(
+// Writes the part of node n: position, accumulator, message, how many messages wait, and these. It is handed the place of this part, which
+// is the length of all parts before it, and answers that of the next.
+fn put_node<'a>(
     snapshot: &mut [u8],
     at: usize,
-    x: Registers,
-    waiting: u8,
-    queue: &[u32],
-    first: usize,
+    position: &'a [u32; 32],
+    accumulator: &'a [u32; 32],
+    message: &'a [u32; 32],
+    waiting: &'a [u8; 32],
+    queue: &'a [u32; 512],
+    n: usize,
 ) -> usize
-    requires { ⌜ (at + 74 ≤ length (now snapshot)) × (x .position < 256) ⌝ }
-    requires { ⌜ (waiting ≤ 16) × (first + 16 ≤ length (now queue)) ⌝ }
-    ensures { λ r. ⌜ Writes (partBytes x waiting (now (queue .entry)) first) (now (snapshot .entry)) at (now (snapshot .exit)) r ⌝ }
+    ghost { Meant }
+    requires { λ s. ⌜ nodesView (now position) (now accumulator) (now message) (now waiting) (now queue) ≡ s ⌝ }
+    requires { λ s. ⌜ at ≡ partStart s n ⌝ }
+    requires { λ s. ⌜ (n < maxNodes) × (at + 74 ≤ length (now snapshot)) ⌝ }
+    requires { λ s. ⌜ BoundedCounts (now waiting) × (getD (now position) n 0 < 256) ⌝ }
+    ensures part { λ s r. ⌜ Writes (nodeBytes s n) (now (snapshot .entry)) (partStart s n) (now (snapshot .exit)) r ⌝ }
+    ensures place { λ s r. ⌜ r ≡ partStart s (n + 1) ⌝ }
 {
-    let accumulator = put_byte(snapshot, at, (x.position % 256) as u8);
-    let message = put_word(snapshot, accumulator, x.accumulator);
-    let count = put_word(snapshot, message, x.message);
-    let messages = put_byte(snapshot, count, waiting);
-    put_words(snapshot, messages, queue, first, waiting as usize)
+    let count = waiting[n];
+    let second = put_byte(snapshot, at, (position[n] % 256) as u8);
+    let third = put_word(snapshot, second, accumulator[n]);
+    let fourth = put_word(snapshot, third, message[n]);
+    let messages = put_byte(snapshot, fourth, count);
+    put_words(snapshot, messages, queue, n * 16, count as usize)
+}
+
+// Writes the first variables. Of every state that has these: it is handed the place where the parts of its nodes end, and answers where its
+// snapshot ends.
+fn put_variables(snapshot: &mut [u8], at: usize, variable: &[u32; 64], variables: usize) -> usize
+    requires { ⌜ (at + 4 * variables ≤ length (now snapshot)) × (variables ≤ maxVariables) ⌝ }
+    ensures { λ r. ⌜ ((s : Meant) (nodes : ℕ) → s .variable ≡ now (variable .entry) → at ≡ partStart s nodes
+        → Writes (variablesBytes s variables) (now (snapshot .entry)) (partStart s nodes) (now (snapshot .exit)) r
+        × (r ≡ length (shownBytes s nodes variables))) ⌝ }
+{
+    put_words(snapshot, at, variable, 0, variables)
 }
 
 // Writes the snapshot of a state: its first nodes and its first variables, as many as are asked for.
@@ -43,17 +64,17 @@ pub fn put_snapshot(snapshot: &mut [u8], s: State, nodes: usize, variables: usiz
     let mut at: usize = 0;
     let mut n: usize = 0;
     while n < nodes {
-        let position = s.position[n];
-        let accumulator = s.accumulator[n];
-        let message = s.message[n];
-        let waiting = s.waiting[n];
-        let registers = Registers {
-            position: position,
-            accumulator: accumulator,
-            message: message,
-        };
-        at = put_node(snapshot, at, registers, waiting, &s.queue, n * 16);
+        at = put_node(
+            snapshot,
+            at,
+            &s.position,
+            &s.accumulator,
+            &s.message,
+            &s.waiting,
+            &s.queue,
+            n,
+        );
         n += 1;
     }
-    put_words(snapshot, at, &s.variable, 0, variables)
+    put_variables(snapshot, at, &s.variable, variables)
 }
