@@ -10,9 +10,7 @@ use lib.Dec.{eqb, ltb}
 use lib.ListN.{length, getD, set, take}
 use lib.Seq.{take-suc-set}
 use borrow.Author.Tests.{ltb-true, ltb-false, eq-eqb, ne-eqb}
-use Rattle.lines.specs.Lines.{partAt}
 use Rattle.model.specs.Refusal.{Decoded, accepted, rejected}
-use Rattle.model.proofs.Reading.{number-one}
 use Rattle.model.specs.Refusal.{commandsOf}
 use Rattle.tables.specs.Stands.{Stands}
 use Rattle.tables.proofs.Blank.{stands-blank}
@@ -87,15 +85,6 @@ module _ (buffer : List ℕ) (from seed : ℕ) where
   pub kept-all : (i : ℕ) → from ≤ i → i - from ≤ length buffer - from → length buffer ≤ i → allBelow test (i - from) ≡ true → isKept
       buffer from seed ≡ true
   kept-all i h m l all = let same : length buffer - from ≡ i - from = omega arith in rw same all
-
--- the parts of no node, and of one node more
-pub part-none : (snapshot : List ℕ) → partAt snapshot 0 ≡ 0
-unfolding partAt
-part-none snapshot = refl
-
-pub part-more : (snapshot : List ℕ) (n : ℕ) → partAt snapshot (n + 1) ≡ partAt snapshot n + 10 + 4 * getD snapshot (partAt snapshot n + 9) 0
-unfolding partAt
-part-more snapshot n = rw (add-one, number-one)
 
 -- the tables of any job
 pub stands-for : (d : Decoded) (t : List ℕ) (r : Verdict) → Decides d t r → Stands t (commandsOf d)

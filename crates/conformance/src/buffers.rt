@@ -4,6 +4,7 @@ use command::bytes;
 use declared::count_of;
 use job::buffers::WORK;
 use job::decode;
+use output::places::next_part;
 use run::answer::Answer;
 use std::num::wrapping_add_u8;
 use tables::cells::CELLS;
@@ -122,15 +123,14 @@ fn is_cleared(work: &[u8]) -> bool
     true
 }
 
-// The bytes of a snapshot (01's "picture") of these nodes and variables: 10 for each node with 4 for each message that waits, 4 for each
-// variable.
+// The bytes of a snapshot (01's "picture") of these nodes and variables.
 fn size_of(snapshot: &[u8], nodes: u32, variables: u32) -> usize
     ensures { λ r. ⌜ r ≡ lengthOf (now (snapshot .entry)) nodes variables ⌝ }
 {
     let mut place: usize = 0;
     let mut n: u32 = 0;
     while n < nodes {
-        place = place + 10 + 4 * byte_at(snapshot, place + 9);
+        place = next_part(snapshot, place);
         n += 1;
     }
     place + 4 * (variables as usize)

@@ -2,20 +2,15 @@
 use Prim.Native.Nat.{ℕ, zero, suc, _+_, _-_, _*_, _≤_, _<_}
 use mathlib.Core.Path.{_≡_, refl, ap, _∙_}
 use mathlib.Core.List.{List, _++_}
-use native.Mathlib.Numerals.{add-one}
 use native.Mathlib.Omega.{arith}
 use lib.ListN.{length}
 use Rattle.text.specs.Text.{joined}
 use Rattle.text.proofs.Putting.{Put, all-put, front-room, back-room, two-put, room-first, room-second, room-third, three-put}
 use Rattle.model.specs.Output.{Answer}
 use Rattle.writing.specs.Writing.{Writes}
-use Rattle.lines.specs.Lines.{entryLine, endLine, nextPart, partAt, nodeLine, variableLine, nodeLines, snapshotLines, runLines}
-
--- the next part
-pub part-next : (snapshot : List ℕ) (n place next : ℕ) → place ≡ partAt snapshot n → next ≡ nextPart snapshot place
-    → next ≡ partAt snapshot (n + 1)
-unfolding partAt
-part-next snapshot n place next e w = w ∙ rw (e, add-one)
+use Rattle.output.specs.Parts.{nextPart, partAt}
+use Rattle.output.proofs.Found.{part-next}
+use Rattle.lines.specs.Lines.{entryLine, endLine, partLine, variableLine, nodeLines, snapshotLines, runLines}
 
 -- a part and those before it lie inside the snapshot
 parts-grow : (snapshot : List ℕ) (k d n : ℕ) → n ≡ d + k → partAt snapshot k ≤ partAt snapshot n
@@ -35,10 +30,6 @@ part-inside snapshot nodes variables n place fits inside e =
       parts-grow snapshot (n + 1) (nodes - (n + 1)) nodes
           (omega arith),
     )
-
--- the line of node n
-abbrev pub partLine : List ℕ → ℕ → List ℕ
-partLine snapshot n = nodeLine snapshot (partAt snapshot n) n
 
 module _ (snapshot : List ℕ) (nodes variables : ℕ) (before : List ℕ) (at : ℕ)
     (fits : at + length (snapshotLines snapshot nodes variables) ≤ length before) where

@@ -8,7 +8,8 @@ use Rattle.text.specs.Text.{decimal, field, fields, line, joined}
 use Rattle.text.proofs.Putting.{fields-append, fields-first, front-room, back-room, two-put, room-first, room-second, room-third, three-put}
 use Rattle.model.specs.Command.{numberAt}
 use Rattle.writing.specs.Writing.{Writes}
-use Rattle.lines.specs.Lines.{nodeWord, varWord, entryLine, messagesAt, waitingIn, nodeLine, variableLine}
+use Rattle.output.specs.Parts.{waitingIn, partAt}
+use Rattle.lines.specs.Lines.{nodeWord, varWord, entryLine, messagesAt, nodeLine, partLine, variableLine}
 
 -- an entry
 pub entry-same :
@@ -30,10 +31,10 @@ messages-each snapshot place count = sym (fields-first (λ i. numberAt snapshot 
 
 -- a node: its word, five numbers, the messages with the line feed
 module _
-    (snapshot : List ℕ) (place n position accumulator message waiting : ℕ)
+    (snapshot : List ℕ) (place n : ℕ) (here : place ≡ partAt snapshot n) (position accumulator message waiting : ℕ)
     (e₁ : position ≡ numberAt snapshot place 1) (e₂ : accumulator ≡ numberAt snapshot (place + 1) 4)
     (e₃ : message ≡ numberAt snapshot (place + 5) 4) (e₄ : waiting ≡ waitingIn snapshot place)
-    (before : List ℕ) (at : ℕ) (room : at + length (nodeLine snapshot place n) ≤ length before)
+    (before : List ℕ) (at : ℕ) (room : at + length (partLine snapshot n) ≤ length before)
   where
     abbrev five : List ℕ
     five = n ∷ position ∷ accumulator ∷ message ∷ waiting ∷ []
@@ -44,10 +45,10 @@ module _
     abbrev back : List ℕ
     back = fields messages ++ (10 ∷ [])
 
-    same : nodeLine snapshot place n ≡ nodeWord ++ (fields five ++ back)
+    same : partLine snapshot n ≡ nodeWord ++ (fields five ++ back)
     unfolding nodeLine
     same =
-        rw (← e₁, ← e₂, ← e₃, ← e₄)
+        rw (← here, ← e₁, ← e₂, ← e₃, ← e₄)
         (ap (λ (l : List ℕ). nodeWord ++ (l ++ (10 ∷ []))) (fields-append five messages)
         ∙ ap (λ (l : List ℕ). nodeWord ++ l) (append-assoc (fields five) (fields messages) (10 ∷ [])))
 
@@ -73,7 +74,7 @@ module _
           end-room = omega (arith, back-room (fields messages) (10 ∷ []) third three rest fourth four r)
 
           pub node-put : (after : List ℕ) (last : ℕ) → Writes (10 ∷ []) fourth four after last
-              → Writes (nodeLine snapshot place n) before at after last
+              → Writes (partLine snapshot n) before at after last
           node-put after last w =
               rw same
               (three-put nodeWord (fields five) back before at fits second two p third three q after last

@@ -1,9 +1,10 @@
 -- The lines that a run prints ("Jobs worked by hand"), by the bytes that it left.
-use Prim.Native.Nat.{ℕ, zero, suc, _+_, _*_}
+use Prim.Native.Nat.{ℕ, _+_, _*_}
 use mathlib.Core.List.{List, [], _∷_, _++_}
 use Rattle.text.specs.Text.{decimal, line, joined}
 use Rattle.model.specs.Command.{numberAt}
 use Rattle.model.specs.Output.{Answer}
+use Rattle.output.specs.Parts.{waitingIn, partAt}
 
 -- the words `end`, `node`, `var` and `refused`
 abbrev pub endWord : List ℕ
@@ -34,18 +35,6 @@ endLine x =
 unfoldable pub messagesAt : List ℕ → ℕ → ℕ → List ℕ
 messagesAt snapshot place count = joined (λ i. numberAt snapshot (place + 4 * i) 4 ∷ []) count
 
--- how many messages wait at the node whose part begins at a place of the snapshot, and where the next part begins
-abbrev pub waitingIn : List ℕ → ℕ → ℕ
-waitingIn snapshot place = numberAt snapshot (place + 9) 1
-
-abbrev pub nextPart : List ℕ → ℕ → ℕ
-nextPart snapshot place = place + 10 + 4 * waitingIn snapshot place
-
--- where the part of node n begins
-unfoldable pub partAt : List ℕ → ℕ → ℕ
-partAt snapshot zero = 0
-partAt snapshot (suc n) = nextPart snapshot (partAt snapshot n)
-
 -- the node whose part begins at a place: `node`, number, position, accumulator ("hand"), message, waiting count, then the waiting messages
 unfoldable pub nodeLine : List ℕ → ℕ → ℕ → List ℕ
 nodeLine snapshot place n =
@@ -57,9 +46,13 @@ nodeLine snapshot place n =
 unfoldable pub variableLine : List ℕ → ℕ → ℕ → List ℕ
 variableLine snapshot place x = line varWord (x ∷ numberAt snapshot (place + 4 * x) 4 ∷ [])
 
+-- node n of the snapshot
+abbrev pub partLine : List ℕ → ℕ → List ℕ
+partLine snapshot n = nodeLine snapshot (partAt snapshot n) n
+
 -- the snapshot: its nodes, then its variables
 abbrev pub nodeLines : List ℕ → ℕ → List ℕ
-nodeLines snapshot nodes = joined (λ n. nodeLine snapshot (partAt snapshot n) n) nodes
+nodeLines snapshot nodes = joined (partLine snapshot) nodes
 
 unfoldable pub snapshotLines : List ℕ → ℕ → ℕ → List ℕ
 snapshotLines snapshot nodes variables =

@@ -4,8 +4,10 @@ ghost use Prim.Native.Nat.{_+_, _*_, _≤_};
 ghost use lib.ListN.{length};
 ghost use Rattle.writing.specs.Writing.{Writes};
 ghost use Rattle.text.specs.Text.{fields, joined};
-ghost use Rattle.lines.specs.Lines.{messagesAt, nextPart, partAt, nodeLine, variableLine, snapshotLines};
+ghost use Rattle.output.specs.Parts.{nextPart, partAt};
+ghost use Rattle.lines.specs.Lines.{messagesAt, partLine, variableLine, snapshotLines};
 use command::read::operand;
+use output::places::next_part;
 use text::put;
 use text::put_field;
 use text::put_fields;
@@ -28,11 +30,12 @@ fn put_messages(text: &mut [u8], at: usize, snapshot: &[u8], place: usize, count
     next
 }
 
-// Puts the line of node n, whose part begins at a place of the snapshot.
+// Puts the line of node n. The place of its part is handed over.
 fn put_node_line(text: &mut [u8], at: usize, snapshot: &[u8], place: usize, n: usize) -> usize
+    requires { ⌜ place ≡ partAt (now snapshot) n ⌝ }
     requires { ⌜ nextPart (now snapshot) place ≤ length (now snapshot) ⌝ }
-    requires { ⌜ at + length (nodeLine (now snapshot) place n) ≤ length (now text) ⌝ }
-    ensures { λ r. ⌜ Writes (nodeLine (now (snapshot .entry)) place n) (now (text .entry)) at (now (text .exit)) r ⌝ }
+    requires { ⌜ at + length (partLine (now snapshot) n) ≤ length (now text) ⌝ }
+    ensures { λ r. ⌜ Writes (partLine (now (snapshot .entry)) n) (now (text .entry)) at (now (text .exit)) r ⌝ }
 {
     let position = operand(snapshot, place, 1);
     let accumulator = operand(snapshot, place + 1, 4);
@@ -72,15 +75,6 @@ fn put_variable_lines(
         x += 1;
     }
     next
-}
-
-// Where the part after that at a place begins.
-fn next_part(snapshot: &[u8], place: usize) -> usize
-    requires { ⌜ nextPart (now snapshot) place ≤ length (now snapshot) ⌝ }
-    ensures { λ r. ⌜ r ≡ nextPart (now (snapshot .entry)) place ⌝ }
-{
-    let waiting = operand(snapshot, place + 9, 1);
-    place + 10 + 4 * (waiting as usize)
 }
 
 // Puts the lines of a snapshot. The place of each node's part is carried along from part to part.

@@ -19,7 +19,7 @@ module _ (s : State) where
   unfolding nodesBytes
   start-first = refl
 
-  nodes-behind : (k : ℕ) (rest : List ℕ) → nodesBytes s (suc k) ++ rest ≡ nodesBytes s k ++ (nodeBytes s k ++ rest)
+  pub nodes-behind : (k : ℕ) (rest : List ℕ) → nodesBytes s (suc k) ++ rest ≡ nodesBytes s k ++ (nodeBytes s k ++ rest)
   nodes-behind k rest = ap (λ (l : List ℕ). l ++ rest) (nodes-next s k) ∙ append-assoc (nodesBytes s k) (nodeBytes s k) rest
 
   -- the last part, whatever follows

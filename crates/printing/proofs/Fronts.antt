@@ -1,19 +1,15 @@
 -- What is printed of bytes depends on those alone that are named: bytes after them change no line.
 use Prim.Native.Nat.{ℕ, zero, suc, _+_, _*_, _≤_, _<_}
 use mathlib.Core.Path.{_≡_, refl, ap, _∙_}
-use mathlib.Core.List.{List, [], _∷_, _++_, append-assoc}
+use mathlib.Core.List.{List, [], _∷_, _++_}
 use native.Mathlib.Omega.{arith}
-use lib.ListN.{length, getD, length-append, List·getD-append}
-use lib.Seq.{getD-append-add}
+use lib.ListN.{length, getD, List·getD-append}
 use Rattle.text.specs.Text.{joined}
-use Rattle.lines.specs.Lines.{entryLine, messagesAt, waitingIn, nextPart, partAt}
-use Rattle.lines.specs.Lines.{nodeLine, variableLine, nodeLines, snapshotLines, runLines}
-use Rattle.lines.proofs.Parts.{part-inside, partLine}
+use Rattle.output.specs.Parts.{waitingIn, nextPart, partAt}
+use Rattle.lines.specs.Lines.{entryLine, messagesAt, nodeLine, partLine, variableLine, nodeLines, snapshotLines, runLines}
+use Rattle.lines.proofs.Parts.{part-inside}
 use Rattle.model.specs.Command.{numberAt}
-use Rattle.model.specs.Output.{Answer, nodeBytes, nodesBytes}
-use Rattle.model.specs.State.{State, waitingAt}
-use Rattle.model.proofs.Reading.{number-one}
-use Rattle.model.proofs.Bounds.{length-node}
+use Rattle.model.specs.Output.{Answer}
 
 -- texts that are the same one by one
 pub same-first : (f g : ℕ → List ℕ) (n : ℕ) → ((k : ℕ) → k < n → f k ≡ g k) → joined f n ≡ joined g n
@@ -101,17 +97,3 @@ pub run-front :
 unfolding runLines
 run-front a trace more snapshot rest nodes variables h i =
     rw (entries-front trace more (a .turns) h, snapshot-front snapshot rest nodes variables i)
-
--- the parts of the nodes of a state begin where the definition says
-pub parts-of : (s : State) (k : ℕ) (rest : List ℕ) → partAt (nodesBytes s k ++ rest) k ≡ length (nodesBytes s k)
-unfolding partAt nodesBytes
-parts-of s zero rest = refl
-parts-of s (suc k) rest =
-    let nodes = nodesBytes s k in
-    let all = nodes ++ (nodeBytes s k ++ rest) in
-    let size = length nodes in
-    let waits : waitingIn all size ≡ waitingAt s k = number-one all (size + 9) ∙ getD-append-add nodes (nodeBytes s k ++ rest) 9 0 in
-    ap (λ (l : List ℕ). partAt l (suc k)) (append-assoc nodes (nodeBytes s k) rest)
-    ∙ ap (λ (p : ℕ). nextPart all p) (parts-of s k (nodeBytes s k ++ rest))
-    ∙ ap (λ (w : ℕ). size + 10 + 4 * w) waits
-    ∙ omega (arith, length-append nodes (nodeBytes s k), length-node s k)

@@ -10,7 +10,9 @@ use lib.ListN.{length, getD, length-append, length-map, List·getD-eq-default}
 use lib.Seq.{getD-append-seam, getD-append-add}
 use Rattle.text.specs.Text.{joined}
 use Rattle.text.proofs.Putting.{bytes-each}
-use Rattle.lines.specs.Lines.{entryLine, messagesAt, waitingIn, nodeLine, variableLine, nodeLines, snapshotLines, runLines}
+use Rattle.output.specs.Parts.{waitingIn}
+use Rattle.output.proofs.Found.{parts-of}
+use Rattle.lines.specs.Lines.{entryLine, messagesAt, nodeLine, variableLine, nodeLines, snapshotLines, runLines}
 use Rattle.lines.proofs.Texts.{entry-same, variable-same}
 use Rattle.model.specs.Table.{GET, PUT, PLUS, SEND, CALL}
 use Rattle.model.specs.Command.{Command, numberAt}
@@ -38,7 +40,7 @@ use Rattle.turns.proofs.Narrow.{Makes}
 use Rattle.printing.specs.Printing.{resultLines}
 use Rattle.printing.specs.Meaning.{lineOfEntry, lineOfNode, lineOfVariable}
 use Rattle.printing.specs.Meaning.{linesOfEntries, linesOfState, linesOfRun, linesOfJob, LinesHold}
-use Rattle.printing.proofs.Fronts.{same-first, number-front, parts-of}
+use Rattle.printing.proofs.Fronts.{same-first, number-front}
 
 -- a number past the first bytes
 number-past : (xs ys : List ℕ) (at w : ℕ) → numberAt (xs ++ ys) (length xs + at) w ≡ numberAt ys at w

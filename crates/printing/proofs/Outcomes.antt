@@ -9,7 +9,9 @@ use Rattle.run.specs.declared.answer.Answer.{Answer}
 use Rattle.run.specs.declared.answer.Answer.the-variants as a
 use Rattle.run.specs.Answers.{resultFor, Delivers}
 use Rattle.writing.specs.Writing.{Writes, placed}
-use Rattle.lines.specs.Lines.{partAt, runLines}
+use Rattle.output.specs.Parts.{partAt}
+use Rattle.output.proofs.Found.{parts-of}
+use Rattle.lines.specs.Lines.{runLines}
 use Rattle.run.proofs.Delivering.{result-ran, result-refused}
 use Rattle.model.specs.Table.{NODE, VAR}
 use Rattle.model.specs.Command.{Command}
@@ -36,7 +38,7 @@ use Rattle.turns.specs.Endings.{answerOf}
 use Rattle.turns.specs.Runs.{runOf}
 use Rattle.printing.specs.declared.Printed.the-variants as p
 use Rattle.printing.specs.Printing.{nodesIn, variablesIn, resultLines, textSize, noRoom, saidBy, saidOf}
-use Rattle.printing.proofs.Fronts.{parts-end, run-front, parts-of}
+use Rattle.printing.proofs.Fronts.{parts-end, run-front}
 use Rattle.printing.proofs.Short.{run-short}
 
 -- the tables of an accepted job

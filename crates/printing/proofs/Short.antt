@@ -6,10 +6,10 @@ use native.Mathlib.Nat.{mul-suc}
 use native.Mathlib.Omega.{arith}
 use lib.ListN.{length, length-append}
 use Rattle.text.specs.Text.{decimal, field, fields, line, joined}
-use Rattle.lines.specs.Lines.{endWord, nodeWord, varWord, refusedWord, entryLine, endLine, messagesAt, waitingIn, partAt, nodeLine}
+use Rattle.output.specs.Parts.{waitingIn, partAt}
+use Rattle.lines.specs.Lines.{endWord, nodeWord, varWord, refusedWord, entryLine, endLine, messagesAt, nodeLine, partLine}
 use Rattle.lines.specs.Lines.{variableLine, nodeLines, snapshotLines, runLines, refusedLine}
 use Rattle.text.proofs.Decimals.{decimal-short, decimal-20}
-use Rattle.lines.proofs.Parts.{partLine}
 use Rattle.lines.proofs.Texts.{messageField, messages-each}
 use Rattle.model.specs.Command.{numberAt}
 use Rattle.model.specs.Output.{Answer}

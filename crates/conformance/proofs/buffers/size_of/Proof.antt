@@ -1,11 +1,10 @@
 -- `conformance::buffers::size_of` meets its contract. The place is where the part of the next node begins; a part has at most 1,030 bytes.
-use Prim.Native.Nat.{ℕ, _+_, _*_, _≤_, _-_}
-use mathlib.Core.Path.{_≡_, sym, ap, _∙_}
+use Prim.Native.Nat.{_*_, _≤_, _-_}
+use mathlib.Core.Path.{_≡_, sym, ap}
 use native.Mathlib.Omega.{arith}
-use lib.ListN.{getD}
 use borrow.Author.Needs.{needs}
-use Rattle.lines.specs.Lines.{partAt}
-use Rattle.conformance.proofs.Keeping.{part-none, part-more}
+use Rattle.output.specs.Parts.{partAt}
+use Rattle.output.proofs.Found.{part-first, part-next}
 use Rattle.conformance.proofs.buffers.size_of.Statement.{statement}
 use Rattle.conformance.proofs.buffers.size_of.Tie as tie
 
@@ -16,22 +15,10 @@ abbrev μ-loop : tie.MeasureT-loop
 μ-loop snapshot nodes variables place₀ n₀ place n = nodes - n
 
 loop-holds : tie.Need-loop-holds Inv-loop μ-loop
-loop-holds c = (search needs, sym (part-none (c .before .args .snapshot .now)), search needs)
+loop-holds c = (search needs, sym (part-first (c .before .args .snapshot .now)), search needs)
 
-add-place : tie.Need-add-place Inv-loop μ-loop
-add-place c = search needs
-
-add-byte-at : tie.Need-add-byte-at Inv-loop μ-loop
-add-byte-at c = search needs
-
-byte-at-requires : tie.Need-byte-at-requires Inv-loop μ-loop
-byte-at-requires c κs = search needs
-
-mul-place : tie.Need-mul-place Inv-loop μ-loop
-mul-place c = search needs
-
-add-place-2 : tie.Need-add-place-2 Inv-loop μ-loop
-add-place-2 c = search needs
+next-part-requires : tie.Need-next-part-requires Inv-loop μ-loop
+next-part-requires c κs = search needs
 
 add-n : tie.Need-add-n Inv-loop μ-loop
 add-n c = search needs
@@ -42,11 +29,7 @@ loop-less c = search needs
 loop-again : tie.Need-loop-again Inv-loop μ-loop
 loop-again c =
     let l = c .before .before .loop in
-    let snapshot = c .before .before .before .before .args .snapshot .now in
-    let more = part-more snapshot (l .n) in
-    let byte : c .byte-at .result ≡ getD snapshot (partAt snapshot (l .n) + 9) 0 = c .byte-at .ensures .0 ∙ ap (λ (p : ℕ). getD snapshot
-    (p + 9) 0) (l .inv .1) in
-    (search needs, omega (arith, more, byte, l .inv .1), omega (arith, c .byte-at .ensures .1))
+    (search needs, part-next _ (l .n) (l .place) _ (l .inv .1) (c .next-part .ensures .0), omega (arith, c .next-part .ensures .1))
 
 mul-result : tie.Need-mul-result Inv-loop μ-loop
 mul-result c = search needs
@@ -68,11 +51,7 @@ size-of-spec =
     Inv-loop
     μ-loop
     loop-holds
-    add-place
-    add-byte-at
-    byte-at-requires
-    mul-place
-    add-place-2
+    next-part-requires
     add-n
     loop-less
     loop-again

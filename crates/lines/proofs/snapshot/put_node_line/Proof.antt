@@ -47,10 +47,10 @@ slice-aggregate-put c = search needs
 put-requires : tie.Need-put-requires
 put-requires c κs =
     let z = c .before .before .before .before .before .before .before .before .args in
-    word-room (now (z .snapshot)) (z .place) (z .n) _ _ _ _ (c .before .before .before .before .before .operand .ensures)
+    word-room (now (z .snapshot)) (z .place) (z .n) (c .before .before .before .before .before .before .before .before .pre .0) _ _ _ _ (c .before .before .before .before .before .operand .ensures)
     (c .before .before .before .before .operand2 .ensures) (c .before .before .before .operand3 .ensures)
     (c .before .before .operand4 .ensures) (now (z .text)) (z .at)
-    (c .before .before .before .before .before .before .before .before .pre .1)
+    (c .before .before .before .before .before .before .before .before .pre .1 .1)
 
 slice-aggregate-put-fields : tie.Need-slice-aggregate-put-fields
 slice-aggregate-put-fields c = search needs
@@ -63,8 +63,8 @@ put-fields-requires c κs =
     let p10 = p9 .before in
     let p13 = p10 .before .before .before in
     let z = p13 .args in
-    five-room (now (z .snapshot)) (z .place) (z .n) _ _ _ _ (p10 .operand .ensures) (p9 .operand2 .ensures) (p8 .operand3 .ensures)
-    (p7 .operand4 .ensures) (now (z .text)) (z .at) (p13 .pre .1) _ _ (c .before .before .before .before .put .ensures)
+    five-room (now (z .snapshot)) (z .place) (z .n) (p13 .pre .0) _ _ _ _ (p10 .operand .ensures) (p9 .operand2 .ensures) (p8 .operand3 .ensures)
+    (p7 .operand4 .ensures) (now (z .text)) (z .at) (p13 .pre .1 .1) _ _ (c .before .before .before .before .put .ensures)
 
 add-put-messages : tie.Need-add-put-messages
 add-put-messages c = search needs
@@ -81,10 +81,10 @@ put-messages-requires c κs =
     let p14 = p13 .before in
     let p17 = p14 .before .before .before in
     let z = p17 .args in (
-      omega (arith, p17 .pre .0, p11 .operand4 .ensures),
-      messages-room (now (z .snapshot)) (z .place) (z .n) _ _ _ _
+      omega (arith, p17 .pre .1 .0, p11 .operand4 .ensures),
+      messages-room (now (z .snapshot)) (z .place) (z .n) (p17 .pre .0) _ _ _ _
           (p14 .operand .ensures) (p13 .operand2 .ensures) (p12 .operand3 .ensures) (p11 .operand4 .ensures) (now (z .text)) (z .at)
-          (p17 .pre .1) _ _ (p8 .put .ensures) _ _ (c .before .before .before .put-fields .ensures),
+          (p17 .pre .1 .1) _ _ (p8 .put .ensures) _ _ (c .before .before .before .put-fields .ensures),
     )
 
 put-byte-requires : tie.Need-put-byte-requires
@@ -97,8 +97,8 @@ put-byte-requires c κs =
     let p18 = p17 .before in
     let p21 = p18 .before .before .before in
     let z = p21 .args in
-    end-room (now (z .snapshot)) (z .place) (z .n) _ _ _ _ (p18 .operand .ensures) (p17 .operand2 .ensures) (p16 .operand3 .ensures)
-    (p15 .operand4 .ensures) (now (z .text)) (z .at) (p21 .pre .1) _ _ (p12 .put .ensures) _ _ (p7 .put-fields .ensures) _ _
+    end-room (now (z .snapshot)) (z .place) (z .n) (p21 .pre .0) _ _ _ _ (p18 .operand .ensures) (p17 .operand2 .ensures) (p16 .operand3 .ensures)
+    (p15 .operand4 .ensures) (now (z .text)) (z .at) (p21 .pre .1 .1) _ _ (p12 .put .ensures) _ _ (p7 .put-fields .ensures) _ _
     (c .before .before .before .put-messages .ensures)
 
 same-length : tie.Need-same-length
@@ -115,8 +115,8 @@ returns c =
     let p21 = p20 .before in
     let p24 = p21 .before .before .before in
     let z = p24 .args in
-    node-put (now (z .snapshot)) (z .place) (z .n) _ _ _ _ (p21 .operand .ensures) (p20 .operand2 .ensures) (p19 .operand3 .ensures)
-    (p18 .operand4 .ensures) (now (z .text)) (z .at) (p24 .pre .1) _ _ (p15 .put .ensures) _ _ (p10 .put-fields .ensures) _ _
+    node-put (now (z .snapshot)) (z .place) (z .n) (p24 .pre .0) _ _ _ _ (p21 .operand .ensures) (p20 .operand2 .ensures) (p19 .operand3 .ensures)
+    (p18 .operand4 .ensures) (now (z .text)) (z .at) (p24 .pre .1 .1) _ _ (p15 .put .ensures) _ _ (p10 .put-fields .ensures) _ _
     (p6 .put-messages .ensures) _ _ (c .before .before .put-byte .ensures)
 
 pub put-node-line-spec : {M : Type 1} → statement M

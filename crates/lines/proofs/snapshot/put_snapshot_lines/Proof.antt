@@ -5,8 +5,10 @@ use native.Mathlib.Omega.{arith}
 use denote.Ref.{now}
 use borrow.Author.Needs.{needs}
 use Rattle.text.proofs.Putting.{Put, none-put, room, one-put}
-use Rattle.lines.specs.Lines.{partAt}
-use Rattle.lines.proofs.Parts.{part-next, part-inside, partLine, nodes-room, variables-inside, variables-room, snapshot-put}
+use Rattle.output.specs.Parts.{partAt}
+use Rattle.output.proofs.Found.{part-next}
+use Rattle.lines.specs.Lines.{partLine}
+use Rattle.lines.proofs.Parts.{part-inside, nodes-room, variables-inside, variables-room, snapshot-put}
 use Rattle.lines.proofs.snapshot.put_snapshot_lines.Statement.{statement}
 use Rattle.lines.proofs.snapshot.put_snapshot_lines.Tie as tie
 
@@ -25,20 +27,22 @@ put-node-line-requires : tie.Need-put-node-line-requires Inv-loop μ-loop
 put-node-line-requires c κs =
     let z = c .before .before .before .before .before .args in
     let l = c .before .before .loop in (
-      part-inside (now (z .snapshot)) (z .nodes) (z .variables) (l .n) _ (c .before .before .before .before .before .pre .0)
-          (c .before .loop-test .taken) (l .inv .1),
-      rw (l .inv .1)
-          (room _ _ _ _ (nodes-room (now (z .snapshot)) (z .nodes) (z .variables) (now (z .text)) (z .at)
-          (c .before .before .before .before .before .pre .1)) (l .n) (c .before .loop-test .taken) _ _ (l .inv .2)),
+      l .inv .1,
+      (
+        part-inside (now (z .snapshot)) (z .nodes) (z .variables) (l .n) _ (c .before .before .before .before .before .pre .0)
+            (c .before .loop-test .taken) (l .inv .1),
+        room _ _ _ _ (nodes-room (now (z .snapshot)) (z .nodes) (z .variables) (now (z .text)) (z .at)
+            (c .before .before .before .before .before .pre .1)) (l .n) (c .before .loop-test .taken) _ _ (l .inv .2),
+      ),
     )
 
 next-part-requires : tie.Need-next-part-requires Inv-loop μ-loop
 next-part-requires c κs =
-    let z = c .before .before .before .before .before .before .before .before .args in
+    let z = c .before .before .before .before .before .before .before .before in
     let l = c .before .before .before .before .before .loop in
-    part-inside (now (z .snapshot)) (z .nodes) (z .variables) (l .n) _
-    (c .before .before .before .before .before .before .before .before .pre .0) (c .before .before .before .before .loop-test .taken)
-    (l .inv .1)
+    let inside = part-inside (now (z .args .snapshot)) (z .args .nodes) (z .args .variables) (l .n) _ (z .pre .0)
+    (c .before .before .before .before .loop-test .taken) (l .inv .1) in
+    omega (arith, inside)
 
 add-n : tie.Need-add-n Inv-loop μ-loop
 add-n c = search needs
@@ -54,10 +58,10 @@ loop-again c =
     let l = p6 .loop in (
       omega (arith, c .before .before .before .before .before .loop-test .taken),
       part-next (now (z .snapshot)) (l .n) (l .place) _
-          (l .inv .1) (c .next-part .ensures),
+          (l .inv .1) (c .next-part .ensures .0),
       one-put _ _ _ _ (nodes-room (now (z .snapshot)) (z .nodes) (z .variables) (now (z .text))
           (z .at) (p9 .pre .1)) (l .n) (c .before .before .before .before .before .loop-test .taken) _ _ (l .inv .2) _ _
-          (rw (l .inv .1) at (c .before .before .before .put-node-line .ensures)),
+          (c .before .before .before .put-node-line .ensures),
     )
 
 put-variable-lines-requires : tie.Need-put-variable-lines-requires Inv-loop μ-loop
