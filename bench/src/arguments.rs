@@ -16,11 +16,7 @@ spread-plain or single-plain (the same without REPLY), each of these four with -
 /// Reads the words: what to run, and how often.
 pub fn read(words: &[&str]) -> Option<(Bench, u32)> {
     let [engine, mode, case, runs] = words else { return None };
-    let engine = match *engine {
-        "proved" => Engine::Proved,
-        "reference" => Engine::Reference,
-        _ => return None,
-    };
+    let engine = Engine::named(engine)?;
     let mode = match *mode {
         "monitored" => Mode::Monitored,
         "bare" => Mode::Unmonitored,

@@ -1,17 +1,22 @@
 //! Runs a job, takes the time, compares both implementations, or tells what the script is, how many calls the
-//! jobs with long lists or replies make and how much stack the runs take.
+//! jobs with long lists or replies make, how many instructions of a trace write a snapshot and how much stack the
+//! runs take.
 
+use std::fs::File;
+use std::io::BufReader;
 use std::process::ExitCode;
 
 use flow_bench::compare::compare;
 use flow_bench::groups::{self, Group};
+use flow_bench::pictures::{self, Queues};
 use flow_bench::replies::FORMS;
 use flow_bench::runs::Engine;
 use flow_bench::script::Script;
-use flow_bench::{arguments, lists, stack};
+use flow_bench::{arguments, lists, stack, window};
 
 const USAGE: &str = "usage: bench ENGINE MODE CASE RUNS | bench time ENGINE MODE CASE RUNS |
-    bench compare | bench mix | bench calls | bench stack";
+    bench compare | bench mix | bench calls | bench stack |
+    bench picture ENGINE NODES empty|full | bench window MARK SNAPSHOT BYTES TRACE";
 
 /// The completed turns of all runs.
 fn print_turns(words: &[&str]) -> Option<()> {
@@ -44,6 +49,35 @@ fn print_calls() {
         FORMS.into_iter().filter(|(_, form)| form.replies && form.turns).map(|(_, form)| form.job());
     let jobs = [lists::spread(), lists::single()].into_iter().chain(replies);
     println!("{}", jobs.map(|job| lists::calls(&job).to_string()).collect::<Vec<_>>().join(" "));
+}
+
+/// Runs a job of the pictures: the addresses of mark and snapshot, in hexadecimal, and the snapshot's bytes.
+fn print_picture(words: &[&str]) -> Option<()> {
+    let [engine, nodes, word] = words else { return None };
+    let nodes = nodes.parse().ok().filter(|nodes| pictures::NODES.contains(nodes))?;
+    let (_, queues) = Queues::ALL.into_iter().find(|(name, _)| name == word)?;
+    let places = pictures::run_marked(Engine::named(engine)?, nodes, queues);
+    println!("{:x} {:x} {}", places.mark, places.snapshot, pictures::bytes(nodes, queues));
+    Some(())
+}
+
+/// The instructions that write the snapshot, by the numbers of `picture` and its trace.
+fn print_window(words: &[&str]) -> Option<ExitCode> {
+    let [mark, snapshot, bytes, trace] = words else { return None };
+    let [mark, snapshot] = [mark, snapshot].map(|word| usize::from_str_radix(word, 16).ok());
+    let (mark, snapshot, bytes): (_, _, usize) = (mark?, snapshot?, bytes.parse().ok()?);
+    let counted = File::open(trace)
+        .and_then(|file| window::instructions(BufReader::new(file), mark, snapshot..snapshot + bytes));
+    Some(match counted {
+        Ok(Some(count)) => {
+            println!("{count}");
+            ExitCode::SUCCESS
+        }
+        other => {
+            eprintln!("bench: {trace}: {other:?}");
+            ExitCode::FAILURE
+        }
+    })
 }
 
 /// Bytes of stack that a run by an engine takes: the most of all jobs, and of each group.
@@ -87,6 +121,8 @@ fn execute(words: &[&str]) -> Option<ExitCode> {
         ["calls"] => print_calls(),
         ["stack"] => return Some(print_stack()),
         ["time", words @ ..] => print_time(words)?,
+        ["picture", words @ ..] => print_picture(words)?,
+        ["window", words @ ..] => return print_window(words),
         _ => print_turns(words)?,
     }
     Some(ExitCode::SUCCESS)

@@ -17,6 +17,17 @@ pub enum Engine {
     Reference,
 }
 
+impl Engine {
+    /// The one that a word names.
+    pub fn named(word: &str) -> Option<Engine> {
+        match word {
+            "proved" => Some(Engine::Proved),
+            "reference" => Some(Engine::Reference),
+            _ => None,
+        }
+    }
+}
+
 /// Which job is run.
 #[derive(Clone, Copy, Debug, PartialEq, Eq)]
 pub enum Case {
