@@ -5,7 +5,7 @@ use mathlib.Core.List.{List, [], _∷_, _++_}
 use lib.Dec.{eqb}
 use lib.ListN.{length, getD, set}
 use Rattle.model.specs.Refusal.{workSize}
-use Rattle.output.specs.Parts.{partAt}
+use Rattle.output.specs.Finding.{partAt}
 use Rattle.run.specs.declared.answer.Answer.{Answer}
 use Rattle.run.specs.declared.answer.Answer.the-variants as a
 use Rattle.printing.specs.Printing.{nodesIn, variablesIn}

@@ -8,8 +8,8 @@ use Rattle.text.specs.Text.{joined}
 use Rattle.text.proofs.Putting.{Put, all-put, front-room, back-room, two-put, room-first, room-second, room-third, three-put}
 use Rattle.model.specs.Output.{Answer}
 use Rattle.writing.specs.Writing.{Writes}
-use Rattle.output.specs.Parts.{nextPart, partAt}
-use Rattle.output.proofs.Found.{part-next}
+use Rattle.output.specs.Finding.{nextPart, partAt}
+use Rattle.output.proofs.Finding.{part-next}
 use Rattle.lines.specs.Lines.{entryLine, endLine, partLine, variableLine, nodeLines, snapshotLines, runLines}
 
 -- a part and those before it lie inside the snapshot

@@ -8,7 +8,7 @@ use Rattle.text.specs.Text.{decimal, field, fields, line, joined}
 use Rattle.text.proofs.Putting.{fields-append, fields-first, front-room, back-room, two-put, room-first, room-second, room-third, three-put}
 use Rattle.model.specs.Command.{numberAt}
 use Rattle.writing.specs.Writing.{Writes}
-use Rattle.output.specs.Parts.{waitingIn, partAt}
+use Rattle.output.specs.Finding.{waitingIn, partAt}
 use Rattle.lines.specs.Lines.{nodeWord, varWord, entryLine, messagesAt, nodeLine, partLine, variableLine}
 
 -- an entry

@@ -4,7 +4,7 @@ use mathlib.Core.List.{List, [], _∷_, _++_}
 use Rattle.text.specs.Text.{decimal, line, joined}
 use Rattle.model.specs.Command.{numberAt}
 use Rattle.model.specs.Output.{Answer}
-use Rattle.output.specs.Parts.{waitingIn, partAt}
+use Rattle.output.specs.Finding.{waitingIn, partAt}
 
 -- the words `end`, `node`, `var` and `refused`
 abbrev pub endWord : List ℕ

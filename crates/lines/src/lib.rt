@@ -6,7 +6,7 @@ ghost use Prim.Native.Nat.{_+_, _*_, _≤_};
 ghost use lib.ListN.{length};
 ghost use Rattle.writing.specs.Writing.{Writes};
 ghost use Rattle.turns.specs.Endings.{answerOf};
-ghost use Rattle.output.specs.Parts.{partAt};
+ghost use Rattle.output.specs.Finding.{partAt};
 ghost use Rattle.lines.specs.Lines.{endLine, runLines, refusedLine};
 use command::refusal::Refusal;
 use snapshot::put_snapshot_lines;

@@ -4,7 +4,7 @@ ghost use Prim.Native.Nat.{_+_, _*_, _≤_};
 ghost use lib.ListN.{length};
 ghost use Rattle.writing.specs.Writing.{Writes};
 ghost use Rattle.text.specs.Text.{fields, joined};
-ghost use Rattle.output.specs.Parts.{nextPart, partAt};
+ghost use Rattle.output.specs.Finding.{nextPart, partAt};
 ghost use Rattle.lines.specs.Lines.{messagesAt, partLine, variableLine, snapshotLines};
 use command::read::operand;
 use output::places::next_part;

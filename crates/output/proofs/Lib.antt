@@ -1,3 +1,3 @@
 pub mod Entries
-pub mod Found
+pub mod Finding
 pub mod Parts

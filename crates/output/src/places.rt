@@ -1,7 +1,7 @@
 // Where the parts of a snapshot (01's "end picture") begin, for its readers: the place is carried along from part to part (S-3).
 ghost use mathlib.Core.Path.{_≡_};
 ghost use Prim.Native.Nat.{_+_, _^_, _≤_, _<_};
-ghost use Rattle.output.specs.Parts.{nextPart};
+ghost use Rattle.output.specs.Finding.{nextPart};
 
 // Where the part behind that at a place begins. A byte outside the snapshot reads 0.
 pub fn next_part(snapshot: &[u8], place: usize) -> usize

@@ -5,7 +5,7 @@ use mathlib.Core.List.{List, [], _∷_, _++_}
 use native.Mathlib.Omega.{arith}
 use lib.ListN.{length, getD, List·getD-append}
 use Rattle.text.specs.Text.{joined}
-use Rattle.output.specs.Parts.{waitingIn, nextPart, partAt}
+use Rattle.output.specs.Finding.{waitingIn, nextPart, partAt}
 use Rattle.lines.specs.Lines.{entryLine, messagesAt, nodeLine, partLine, variableLine, nodeLines, snapshotLines, runLines}
 use Rattle.lines.proofs.Parts.{part-inside}
 use Rattle.model.specs.Command.{numberAt}

@@ -10,8 +10,8 @@ use lib.ListN.{length, getD, length-append, length-map, List·getD-eq-default}
 use lib.Seq.{getD-append-seam, getD-append-add}
 use Rattle.text.specs.Text.{joined}
 use Rattle.text.proofs.Putting.{bytes-each}
-use Rattle.output.specs.Parts.{waitingIn}
-use Rattle.output.proofs.Found.{parts-of}
+use Rattle.output.specs.Finding.{waitingIn}
+use Rattle.output.proofs.Finding.{parts-of}
 use Rattle.lines.specs.Lines.{entryLine, messagesAt, nodeLine, variableLine, nodeLines, snapshotLines, runLines}
 use Rattle.lines.proofs.Texts.{entry-same, variable-same}
 use Rattle.model.specs.Table.{GET, PUT, PLUS, SEND, CALL}

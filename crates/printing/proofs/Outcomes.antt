@@ -9,8 +9,8 @@ use Rattle.run.specs.declared.answer.Answer.{Answer}
 use Rattle.run.specs.declared.answer.Answer.the-variants as a
 use Rattle.run.specs.Answers.{resultFor, Delivers}
 use Rattle.writing.specs.Writing.{Writes, placed}
-use Rattle.output.specs.Parts.{partAt}
-use Rattle.output.proofs.Found.{parts-of}
+use Rattle.output.specs.Finding.{partAt}
+use Rattle.output.proofs.Finding.{parts-of}
 use Rattle.lines.specs.Lines.{runLines}
 use Rattle.run.proofs.Delivering.{result-ran, result-refused}
 use Rattle.model.specs.Table.{NODE, VAR}

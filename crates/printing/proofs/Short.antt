@@ -6,7 +6,7 @@ use native.Mathlib.Nat.{mul-suc}
 use native.Mathlib.Omega.{arith}
 use lib.ListN.{length, length-append}
 use Rattle.text.specs.Text.{decimal, field, fields, line, joined}
-use Rattle.output.specs.Parts.{waitingIn, partAt}
+use Rattle.output.specs.Finding.{waitingIn, partAt}
 use Rattle.lines.specs.Lines.{endWord, nodeWord, varWord, refusedWord, entryLine, endLine, messagesAt, nodeLine, partLine}
 use Rattle.lines.specs.Lines.{variableLine, nodeLines, snapshotLines, runLines, refusedLine}
 use Rattle.text.proofs.Decimals.{decimal-short, decimal-20}

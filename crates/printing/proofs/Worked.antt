@@ -1,7 +1,7 @@
 -- The definitions agree with K1, by computation.
 use mathlib.Core.Path.{refl}
 use Rattle.text.specs.Text.{digitsWithin, decimal, field, fields, joined}
-use Rattle.output.specs.Parts.{partAt}
+use Rattle.output.specs.Finding.{partAt}
 use Rattle.lines.specs.Lines.{entryLine, endLine, messagesAt, nodeLine, variableLine, snapshotLines, runLines}
 use Rattle.model.specs.Table.{operandsIn, operandsOf, isAmong, largestIn, largestOf}
 use Rattle.model.specs.Command.{numberAt, readCommand}

@@ -8,7 +8,7 @@ ghost use Rattle.model.specs.Result.{traceAfter, snapshotAfter, workAfter};
 ghost use Rattle.run.specs.Answers.{resultWith};
 ghost use Rattle.writing.specs.Writing.{Writes, placed};
 ghost use Rattle.turns.specs.Endings.{answerOf};
-ghost use Rattle.output.specs.Parts.{partAt};
+ghost use Rattle.output.specs.Finding.{partAt};
 ghost use Rattle.lines.specs.Lines.{runLines};
 ghost use Rattle.printing.specs.Printing.{nodesIn, variablesIn, resultLines};
 ghost use Rattle.printing.specs.Printing.{textSize, hasRoom, noRoom, saidBy, saidOf, placeAfter};

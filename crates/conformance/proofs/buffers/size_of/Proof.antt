@@ -3,8 +3,8 @@ use Prim.Native.Nat.{_*_, _≤_, _-_}
 use mathlib.Core.Path.{_≡_, sym, ap}
 use native.Mathlib.Omega.{arith}
 use borrow.Author.Needs.{needs}
-use Rattle.output.specs.Parts.{partAt}
-use Rattle.output.proofs.Found.{part-first, part-next}
+use Rattle.output.specs.Finding.{partAt}
+use Rattle.output.proofs.Finding.{part-first, part-next}
 use Rattle.conformance.proofs.buffers.size_of.Statement.{statement}
 use Rattle.conformance.proofs.buffers.size_of.Tie as tie
 

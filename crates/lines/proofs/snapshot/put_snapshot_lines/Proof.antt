@@ -5,8 +5,8 @@ use native.Mathlib.Omega.{arith}
 use denote.Ref.{now}
 use borrow.Author.Needs.{needs}
 use Rattle.text.proofs.Putting.{Put, none-put, room, one-put}
-use Rattle.output.specs.Parts.{partAt}
-use Rattle.output.proofs.Found.{part-next}
+use Rattle.output.specs.Finding.{partAt}
+use Rattle.output.proofs.Finding.{part-next}
 use Rattle.lines.specs.Lines.{partLine}
 use Rattle.lines.proofs.Parts.{part-inside, nodes-room, variables-inside, variables-room, snapshot-put}
 use Rattle.lines.proofs.snapshot.put_snapshot_lines.Statement.{statement}

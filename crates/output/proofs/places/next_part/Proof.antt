@@ -5,7 +5,7 @@ use native.Mathlib.Omega.{arith}
 use denote.Ref.{now}
 use lib.ListN.{List·getD-eq-default}
 use borrow.Author.Needs.{needs}
-use Rattle.output.proofs.Found.{next-byte}
+use Rattle.output.proofs.Finding.{next-byte}
 use Rattle.output.proofs.places.next_part.Statement.{statement}
 use Rattle.output.proofs.places.next_part.Tie as tie
 

@@ -11,7 +11,7 @@ use Rattle.model.specs.Output.{nodeBytes, nodesBytes, partStart, variablesBytes
 use Rattle.model.proofs.Bounds.{length-node}
 use Rattle.model.proofs.Parts.{start-next, nodes-behind}
 use Rattle.model.proofs.Reading.{number-one}
-use Rattle.output.specs.Parts.{waitingIn, nextPart, partAt, PartsFound}
+use Rattle.output.specs.Finding.{waitingIn, nextPart, partAt, PartsFound}
 
 -- the next part, by the byte that says how many messages wait
 pub next-byte : (snapshot : List ℕ) (place : ℕ) → nextPart snapshot place ≡ place + 10 + 4 * getD snapshot (place + 9) 0
