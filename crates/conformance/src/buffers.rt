@@ -130,7 +130,7 @@ fn size_of(snapshot: &[u8], nodes: u32, variables: u32) -> usize
     let mut place: usize = 0;
     let mut n: u32 = 0;
     while n < nodes {
-        place = next_part(snapshot, place);
+        place = next_part(snapshot, place, n as usize);
         n += 1;
     }
     place + 4 * (variables as usize)

@@ -14,16 +14,14 @@ use Rattle.memory.specs.Queues.{queues, BoundedCounts, BringsOnly}
 use Rattle.engine.specs.declared.State.{State}
 use Rattle.engine.specs.declared.Turned.{Turned}
 
+-- the model's state that these arrays stand for: positions, accumulators, messages, how many messages wait, their slots, variables
+abbrev pub viewOf : List ℕ → List ℕ → List ℕ → List ℕ → List ℕ → List ℕ → Meant
+viewOf position accumulator message waiting slots variable =
+    record { position = position; accumulator = accumulator; message = message; queue = queues waiting slots; variable = variable }
+
 -- the model's state that a state of the code stands for
 abbrev pub view : State → Meant
-view s =
-    record {
-      position = s .position;
-      accumulator = s .accumulator;
-      message = s .message;
-      queue = queues (s .waiting) (s .queue);
-      variable = s .variable;
-    }
+view s = viewOf (s .position) (s .accumulator) (s .message) (s .waiting) (s .queue) (s .variable)
 
 -- no more messages wait at a node than it has slots; all slots, free ones too, hold first messages or 0; and the state stands for the start
 -- of the program in the tables, whatever its handlers are

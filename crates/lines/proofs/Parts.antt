@@ -1,6 +1,6 @@
 -- The parts of a snapshot, one after the other, and those of a run.
 use Prim.Native.Nat.{ℕ, zero, suc, _+_, _-_, _*_, _≤_, _<_}
-use mathlib.Core.Path.{_≡_, refl, ap, _∙_}
+use mathlib.Core.Path.{_≡_, refl, ap}
 use mathlib.Core.List.{List, _++_}
 use native.Mathlib.Omega.{arith}
 use lib.ListN.{length}
@@ -48,7 +48,7 @@ module _ (snapshot : List ℕ) (nodes variables : ℕ) (before : List ℕ) (at :
     nodes-put : Writes (nodeLines snapshot nodes) before at buffer next
     nodes-put = all-put (partLine snapshot) before at nodes n buffer next low high w
 
-    here : place ≡ partAt snapshot nodes
+    pub here : place ≡ partAt snapshot nodes
     here = let same : n ≡ nodes = omega arith in rw same at e
 
     pub variables-inside : partAt snapshot nodes + 4 * variables ≤ length snapshot → place + 4 * variables ≤ length snapshot

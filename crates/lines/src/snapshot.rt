@@ -54,14 +54,16 @@ fn put_node_line(text: &mut [u8], at: usize, snapshot: &[u8], place: usize, n: u
     put_byte(text, end, 10)
 }
 
-// Puts the lines of the variables that stand from a place of the snapshot on.
+// Puts the lines of the variables, which stand behind the parts of so many nodes. Their place is handed over.
 fn put_variable_lines(
     text: &mut [u8],
     at: usize,
     snapshot: &[u8],
     place: usize,
+    nodes: usize,
     variables: usize,
 ) -> usize
+    requires { ⌜ place ≡ partAt (now snapshot) nodes ⌝ }
     requires { ⌜ place + 4 * variables ≤ length (now snapshot) ⌝ }
     requires { ⌜ at + length (joined (variableLine (now snapshot) place) variables) ≤ length (now text) ⌝ }
     ensures { λ r. ⌜ Writes (joined (variableLine (now (snapshot .entry)) place) variables) (now (text .entry)) at (now (text .exit)) r ⌝ }
@@ -94,8 +96,8 @@ pub fn put_snapshot_lines(
     let mut n: usize = 0;
     while n < nodes {
         next = put_node_line(text, next, snapshot, place, n);
-        place = next_part(snapshot, place);
+        place = next_part(snapshot, place, n);
         n += 1;
     }
-    put_variable_lines(text, next, snapshot, place, variables)
+    put_variable_lines(text, next, snapshot, place, nodes, variables)
 }

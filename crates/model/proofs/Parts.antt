@@ -1,9 +1,9 @@
 -- The parts of a snapshot stand one behind the other (S-3).
-use Prim.Native.Nat.{ℕ, zero, suc, _+_, _-_, _<_}
+use Prim.Native.Nat.{ℕ, zero, suc, _+_, _-_}
 use mathlib.Core.Path.{_≡_, refl, ap, _∙_}
-use mathlib.Core.List.{List, [], _++_, append-assoc}
+use mathlib.Core.List.{List, _++_, append-assoc}
 use native.Mathlib.Omega.{arith}
-use lib.ListN.{length, take, drop, length-append}
+use lib.ListN.{length, drop, length-append}
 use lib.Seq.{slice, take-append-seam, drop-append-seam}
 use Rattle.model.specs.State.{State}
 use Rattle.model.specs.Output.{nodeBytes, nodesBytes, partStart, variablesBytes, snapshotBytes}
@@ -19,7 +19,7 @@ module _ (s : State) where
   unfolding nodesBytes
   start-first = refl
 
-  pub nodes-behind : (k : ℕ) (rest : List ℕ) → nodesBytes s (suc k) ++ rest ≡ nodesBytes s k ++ (nodeBytes s k ++ rest)
+  nodes-behind : (k : ℕ) (rest : List ℕ) → nodesBytes s (suc k) ++ rest ≡ nodesBytes s k ++ (nodeBytes s k ++ rest)
   nodes-behind k rest = ap (λ (l : List ℕ). l ++ rest) (nodes-next s k) ∙ append-assoc (nodesBytes s k) (nodeBytes s k) rest
 
   -- the last part, whatever follows
@@ -28,14 +28,12 @@ module _ (s : State) where
       ap (drop (partStart s n)) (take-append-seam (nodesBytes s (suc n)) rest ∙ nodes-next s n)
       ∙ drop-append-seam (nodesBytes s n) (nodeBytes s n)
 
-  -- a part with others behind it
-  part-stands : (n d k : ℕ) (rest : List ℕ) → k ≡ suc (d + n)
-      → slice (partStart s n) (partStart s (suc n)) (nodesBytes s k ++ rest) ≡ nodeBytes s n
-  part-stands n zero k rest e = let same : k ≡ suc n = omega arith in rw same (last-stands n rest)
-  part-stands n (suc d) zero rest e = absurd (omega arith)
-  part-stands n (suc d) (suc k) rest e =
-      ap (slice (partStart s n) (partStart s (suc n))) (nodes-behind k rest)
-      ∙ part-stands n d k (nodeBytes s k ++ rest) (omega arith)
+  -- what holds of the first n parts, whatever follows them, holds if further parts do
+  pub with-more : {A : Type 0} (f : List ℕ → A) (v : A) (n : ℕ) → ((rest : List ℕ) → f (nodesBytes s n ++ rest) ≡ v)
+      → (d k : ℕ) (rest : List ℕ) → k ≡ d + n → f (nodesBytes s k ++ rest) ≡ v
+  with-more f v n h zero k rest e = let same : k ≡ n = omega arith in rw same (h rest)
+  with-more f v n h (suc d) zero rest e = absurd (omega arith)
+  with-more f v n h (suc d) (suc k) rest e = ap f (nodes-behind k rest) ∙ with-more f v n h d k (nodeBytes s k ++ rest) (omega arith)
 
 pub parts-hold : PartsHold
 unfolding snapshotBytes
@@ -43,6 +41,7 @@ parts-hold P s =
     record {
       first = start-first s;
       next = start-next s;
-      part = λ n h. part-stands s n (P .nodes - suc n) (P .nodes) (variablesBytes s (P .variables)) (omega arith);
+      part = λ n h. with-more s (slice (partStart s n) (partStart s (suc n))) (nodeBytes s n) (suc n) (last-stands s n)
+          (P .nodes - suc n) (P .nodes) (variablesBytes s (P .variables)) (omega arith);
       variables = drop-append-seam (nodesBytes s (P .nodes)) (variablesBytes s (P .variables));
     }

@@ -44,7 +44,7 @@ unfoldable pub nodesBytes : State → ℕ → List ℕ
 nodesBytes s zero = []
 nodesBytes s (suc k) = nodesBytes s k ++ nodeBytes s k
 
--- where the part of node n begins: where the parts of all nodes before it end
+-- where the part of node n begins: the length of all parts before it
 abbrev pub partStart : State → ℕ → ℕ
 partStart s n = length (nodesBytes s n)
 
@@ -57,7 +57,7 @@ variablesBytes s (suc k) = variablesBytes s k ++ bytes4 (variableAt s k)
 unfoldable pub snapshotBytes : Program → State → List ℕ
 snapshotBytes P s = nodesBytes s (P .nodes) ++ variablesBytes s (P .variables)
 
--- where the variables begin: where the parts of all nodes end
+-- where the variables begin: the length of the parts of all nodes
 abbrev pub variablesStart : Program → State → ℕ
 variablesStart P s = partStart s (P .nodes)
 

@@ -1,15 +1,15 @@
 -- Where the parts of a snapshot begin, by its bytes.
-use Prim.Native.Nat.{ℕ, zero, suc, _+_, _-_, _*_, _≤_}
+use Prim.Native.Nat.{ℕ, zero, suc, _+_, _-_, _*_}
 use mathlib.Core.Path.{_≡_, refl, ap, _∙_}
 use mathlib.Core.List.{List, _++_, append-assoc}
 use native.Mathlib.Numerals.{add-one}
 use native.Mathlib.Omega.{arith}
-use lib.ListN.{length, getD}
+use lib.ListN.{getD}
 use lib.Seq.{getD-append-add}
 use Rattle.model.specs.State.{State, waitingAt}
 use Rattle.model.specs.Output.{nodeBytes, nodesBytes, partStart, variablesBytes, snapshotBytes}
 use Rattle.model.proofs.Bounds.{length-node}
-use Rattle.model.proofs.Parts.{start-next, nodes-behind}
+use Rattle.model.proofs.Parts.{start-next, with-more}
 use Rattle.model.proofs.Reading.{number-one}
 use Rattle.output.specs.Finding.{waitingIn, nextPart, partAt, PartsFound}
 
@@ -27,31 +27,23 @@ pub part-next : (snapshot : List ℕ) (n place next : ℕ) → place ≡ partAt 
 unfolding partAt
 part-next snapshot n place next e w = w ∙ rw (e, add-one)
 
--- the parts of a state
-module _ (s : State) where
-  -- behind the parts of the first k nodes
-  pub parts-of : (k : ℕ) (rest : List ℕ) → partAt (nodesBytes s k ++ rest) k ≡ partStart s k
-  unfolding partAt nodesBytes
-  parts-of zero rest = refl
-  parts-of (suc k) rest =
-      let all = nodesBytes s k ++ (nodeBytes s k ++ rest) in
-      let size = partStart s k in
-      let waits : waitingIn all size ≡ waitingAt s k =
-      number-one all (size + 9) ∙ getD-append-add (nodesBytes s k) (nodeBytes s k ++ rest) 9 0 in
-      ap (λ (l : List ℕ). partAt l (suc k)) (append-assoc (nodesBytes s k) (nodeBytes s k) rest)
-      ∙ ap (nextPart all) (parts-of k (nodeBytes s k ++ rest))
-      ∙ ap (λ (w : ℕ). size + 10 + 4 * w) waits
-      ∙ omega (arith, start-next s k, length-node s k)
-
-  -- with further parts behind them
-  part-found : (n d k : ℕ) (rest : List ℕ) → k ≡ d + n → partAt (nodesBytes s k ++ rest) n ≡ partStart s n
-  part-found n zero k rest e = let same : k ≡ n = omega arith in rw same (parts-of n rest)
-  part-found n (suc d) zero rest e = absurd (omega arith)
-  part-found n (suc d) (suc k) rest e =
-      ap (λ (l : List ℕ). partAt l n) (nodes-behind s k rest) ∙ part-found n d k (nodeBytes s k ++ rest) (omega arith)
+-- behind the parts of the first k nodes of a state
+pub parts-of : (s : State) (k : ℕ) (rest : List ℕ) → partAt (nodesBytes s k ++ rest) k ≡ partStart s k
+unfolding partAt nodesBytes
+parts-of s zero rest = refl
+parts-of s (suc k) rest =
+    let all = nodesBytes s k ++ (nodeBytes s k ++ rest) in
+    let size = partStart s k in
+    let waits : waitingIn all size ≡ waitingAt s k =
+    number-one all (size + 9) ∙ getD-append-add (nodesBytes s k) (nodeBytes s k ++ rest) 9 0 in
+    ap (λ (l : List ℕ). partAt l (suc k)) (append-assoc (nodesBytes s k) (nodeBytes s k) rest)
+    ∙ ap (nextPart all) (parts-of s k (nodeBytes s k ++ rest))
+    ∙ ap (λ (w : ℕ). size + 10 + 4 * w) waits
+    ∙ omega (arith, start-next s k, length-node s k)
 
 pub parts-found : PartsFound
 unfolding snapshotBytes
 parts-found P s rest n h =
     ap (λ (l : List ℕ). partAt l n) (append-assoc (nodesBytes s (P .nodes)) (variablesBytes s (P .variables)) rest)
-    ∙ part-found s n (P .nodes - n) (P .nodes) (variablesBytes s (P .variables) ++ rest) (omega arith)
+    ∙ with-more s (λ l. partAt l n) (partStart s n) n (parts-of s n) (P .nodes - n) (P .nodes) (variablesBytes s (P .variables) ++ rest)
+    (omega arith)

@@ -5,7 +5,7 @@ use mathlib.Core.List.{List, [], _∷_, _++_}
 use native.Mathlib.Nat.{mod-eq-of-lt}
 use native.Mathlib.Numerals.{add-one}
 use native.Mathlib.Omega.{arith}
-use lib.ListN.{length, getD, take, drop, length-drop}
+use lib.ListN.{length, getD, take, drop, length-drop, length-append}
 use lib.Seq.{length-take-le}
 use Rattle.model.specs.State.{State, queueAt, waitingAt, variableAt}
 use Rattle.model.specs.Output.{bytes4, numbersBytes, nodeBytes, nodesBytes, partStart, variablesBytes}
@@ -15,11 +15,11 @@ use Rattle.model.proofs.Parts.{start-next}
 use Rattle.memory.specs.Queues.{BoundedCounts}
 use Rattle.memory.proofs.Waiting.{queue-at, count-at}
 use Rattle.engine.specs.declared.State.{State as Held}
-use Rattle.engine.specs.Engine.{view}
+use Rattle.engine.specs.Engine.{viewOf, view}
 use Rattle.writing.specs.Writing.{Writes}
 use Rattle.writing.proofs.Placing.{writes-on, writes-nothing}
 use Rattle.writing.proofs.Words.{numbers-next}
-use Rattle.output.specs.Written.{nodesView, shownBytes}
+use Rattle.output.specs.Written.{shownBytes}
 
 -- the part of node n is written, and the place of the next one is known
 pub record NodePut (s : State) (n : ℕ) (before after : List ℕ) (next : ℕ) : Type 0 where
@@ -27,9 +27,9 @@ pub record NodePut (s : State) (n : ℕ) (before after : List ℕ) (next : ℕ) 
   pub place : next ≡ partStart s (n + 1)
 
 -- node n of the arrays of the code
-module _ (p a m w q : List ℕ) (n : ℕ) (narrow : getD p n 0 < 256) (few : getD w n 0 ≤ 16) (inside : n * 16 + 16 ≤ length q) where
+module _ (p a m w q v : List ℕ) (n : ℕ) (narrow : getD p n 0 < 256) (few : getD w n 0 ≤ 16) (inside : n * 16 + 16 ≤ length q) where
   abbrev s : State
-  s = nodesView p a m w q
+  s = viewOf p a m w q v
 
   -- its part, as it is put together
   abbrev part : List ℕ
@@ -69,18 +69,6 @@ pub none-shown : (s : Held) (before : List ℕ) → Shown s before 0 before 0
 unfolding nodesBytes
 none-shown s before = record { parts = writes-nothing before 0; place = refl; short = omega arith; size = refl }
 
--- the nodes that the arrays of a state hold are those of the state
-abbrev pub nodesOf : Held → State
-nodesOf s = nodesView (s .position) (s .accumulator) (s .message) (s .waiting) (s .queue)
-
-nodes-same : (s : Held) (k : ℕ) → nodesBytes (nodesOf s) k ≡ nodesBytes (view s) k
-unfolding nodesBytes
-nodes-same s zero = refl
-nodes-same s (suc k) = ap (λ (l : List ℕ). l ++ nodeBytes (view s) k) (nodes-same s k)
-
-pub start-same : (s : Held) (n : ℕ) → partStart (nodesOf s) n ≡ partStart (view s) n
-start-same s n = ap length (nodes-same s n)
-
 module _ (s : Held) (bounded : BoundedCounts (s .waiting)) (counts : length (s .waiting) ≡ 32) (slots : length (s .queue) ≡ 512) where
   few : Bounded (view s)
   few n = rw (count-at (s .waiting) (s .queue) bounded (omega arith) n) (bounded n)
@@ -88,18 +76,17 @@ module _ (s : Held) (bounded : BoundedCounts (s .waiting)) (counts : length (s .
   pub one-shown :
       (before : List ℕ) (n : ℕ) (snapshot : List ℕ) (at : ℕ) (after : List ℕ) (next : ℕ) → 74 * n + 74 ≤ length before
       → length after ≡ length snapshot → Shown s before n snapshot at
-      → NodePut (nodesOf s) n snapshot after next
+      → NodePut (view s) n snapshot after next
       → Shown s before (n + 1) after next
   one-shown before n snapshot at after next fits same w x =
       let e : nodesBytes (view s) (n + 1) ≡ nodesBytes (view s) n ++ nodeBytes (view s) n =
       ap (nodesBytes (view s)) (add-one n) ∙ nodes-next (view s) n in
-      let part : Writes (nodeBytes (view s) n) snapshot at after next = rw (w .place, ← start-same s n) (x .part) in
-      let place = x .place ∙ start-same s (n + 1) in
+      let part : Writes (nodeBytes (view s) n) snapshot at after next = rw (w .place) (x .part) in
       let short = length-nodes (view s) few (n + 1) in
       record {
-        parts = rw e (writes-on _ _ before 0 snapshot at after next (omega (arith, place, short, part .place)) (w .parts) part);
-        place = place;
-        short = omega (arith, place, short);
+        parts = rw e (writes-on _ _ before 0 snapshot at after next (omega (arith, x .place, short, part .place)) (w .parts) part);
+        place = x .place;
+        short = omega (arith, x .place, short);
         size = same ∙ w .size;
       }
 
@@ -111,22 +98,26 @@ variables-numbers s (suc k) h =
     ap (λ (l : List ℕ). l ++ bytes4 (variableAt s k)) (variables-numbers s k (omega arith))
     ∙ sym (numbers-next (s .variable) k (omega arith)) ∙ ap (λ (i : ℕ). numbersBytes (take i (s .variable))) (add-one k)
 
--- they are written behind the parts of the nodes, where a snapshot ends with them
+-- they are written behind the parts of so many nodes, and the end of the snapshot is known
+pub record VariablesPut (s : State) (nodes variables : ℕ) (before after : List ℕ) (next : ℕ) : Type 0 where
+  pub part : Writes (variablesBytes s variables) before (partStart s nodes) after next
+  pub place : next ≡ length (shownBytes s nodes variables)
+
 pub variables-put :
-    (s : State) (nodes variables : ℕ) (values : List ℕ) → s .variable ≡ values → variables ≤ length values
+    (s : State) (nodes variables : ℕ) → variables ≤ length (s .variable)
     → (at : ℕ) → at ≡ partStart s nodes → (before after : List ℕ) (next : ℕ)
-    → Writes (numbersBytes (take variables values)) before at after next
-    → Writes (variablesBytes s variables) before (partStart s nodes) after next
-variables-put s nodes variables values same inside at here before after next x =
-    let e : variablesBytes s variables ≡ numbersBytes (take variables (s .variable)) = variables-numbers s variables (rw same inside) in
-    rw (← here, e, same) x
+    → Writes (numbersBytes (take variables (s .variable))) before at after next
+    → VariablesPut s nodes variables before after next
+variables-put s nodes variables inside at here before after next x =
+    let writes : Writes (variablesBytes s variables) before (partStart s nodes) after next =
+    rw (variables-numbers s variables inside, ← here) x in
+    record { part = writes; place = writes .place ∙ sym (length-append (nodesBytes s nodes) (variablesBytes s variables)) }
 
 -- nodes, and behind them the variables
 pub all-shown :
     (s : State) (nodes variables : ℕ) (before snapshot : List ℕ) (at : ℕ) (after : List ℕ) (next : ℕ)
-    → partStart s nodes + 4 * variables ≤ length before
-    → Writes (nodesBytes s nodes) before 0 snapshot at → at ≡ partStart s nodes
+    → at + 4 * variables ≤ length before → at ≡ partStart s nodes → Writes (nodesBytes s nodes) before 0 snapshot at
     → Writes (variablesBytes s variables) snapshot (partStart s nodes) after next
     → Writes (shownBytes s nodes variables) before 0 after next
-all-shown s nodes variables before snapshot at after next fits w here p =
-    writes-on (nodesBytes s nodes) _ before 0 snapshot at after next (omega (arith, length-variables s variables)) w (rw here p)
+all-shown s nodes variables before snapshot at after next fits here w x =
+    writes-on (nodesBytes s nodes) _ before 0 snapshot at after next (omega (arith, w .place, length-variables s variables)) w (rw here x)

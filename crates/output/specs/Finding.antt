@@ -1,4 +1,4 @@
--- A snapshot ("end picture") read part by part: where the part of each node begins, found from one part to the next (S-3).
+-- A snapshot ("end picture") read part by part (S-3).
 use Prim.Native.Nat.{ℕ, zero, suc, _+_, _*_, _≤_}
 use mathlib.Core.Path.{_≡_}
 use mathlib.Core.List.{List, _++_}
@@ -7,14 +7,15 @@ use Rattle.model.specs.State.{State}
 use Rattle.model.specs.Command.{numberAt}
 use Rattle.model.specs.Output.{partStart, snapshotBytes}
 
--- how many messages wait at the node whose part begins at a place of the snapshot, and where the next part begins
+-- how many messages wait at the node whose part begins at a place of the snapshot
 abbrev pub waitingIn : List ℕ → ℕ → ℕ
 waitingIn snapshot place = numberAt snapshot (place + 9) 1
 
+-- where the part behind that one begins
 abbrev pub nextPart : List ℕ → ℕ → ℕ
 nextPart snapshot place = place + 10 + 4 * waitingIn snapshot place
 
--- where the part of node n begins: the first at 0, each next one behind the one before
+-- where a reader finds the part of node n, by the bytes before it: the first at 0, each next one behind the one before
 unfoldable pub partAt : List ℕ → ℕ → ℕ
 partAt snapshot zero = 0
 partAt snapshot (suc n) = nextPart snapshot (partAt snapshot n)

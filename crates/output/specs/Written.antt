@@ -1,11 +1,10 @@
 -- What the writers of trace and snapshot write.
 use Prim.Native.Nat.{ℕ, _<_}
-use mathlib.Core.List.{List, [], _++_}
+use mathlib.Core.List.{List, _++_}
 use lib.ListN.{getD}
 use Rattle.model.specs.State.{State}
 use Rattle.model.specs.Turn.{Entry, entry}
 use Rattle.model.specs.Output.{nodesBytes, variablesBytes}
-use Rattle.memory.specs.Queues.{queues}
 use Rattle.engine.specs.declared.State.{State as Held}
 use Rattle.output.specs.declared.numbers.Numbers.{Numbers}
 
@@ -20,11 +19,6 @@ Narrow e = (e .node < 256) × (e .kind < 256) × (e .number < 256)
 -- positions are bytes
 abbrev pub NarrowPositions : Held → Type 0
 NarrowPositions s = (n : ℕ) → getD (s .position) n 0 < 256
-
--- the model's state with nodes that have these positions, accumulators, messages, counts of waiting messages and slots, and no variables
-abbrev pub nodesView : List ℕ → List ℕ → List ℕ → List ℕ → List ℕ → State
-nodesView position accumulator message waiting slots =
-    record { position = position; accumulator = accumulator; message = message; queue = queues waiting slots; variable = [] }
 
 -- the first nodes of a state, then the first variables
 abbrev pub shownBytes : State → ℕ → ℕ → List ℕ

@@ -1,12 +1,14 @@
 // Where the parts of a snapshot (01's "end picture") begin, for its readers: the place is carried along from part to part (S-3).
 ghost use mathlib.Core.Path.{_≡_};
 ghost use Prim.Native.Nat.{_+_, _^_, _≤_, _<_};
-ghost use Rattle.output.specs.Finding.{nextPart};
+ghost use Rattle.output.specs.Finding.{partAt};
 
-// Where the part behind that at a place begins. A byte outside the snapshot reads 0.
-pub fn next_part(snapshot: &[u8], place: usize) -> usize
+// Where the part behind that of node n begins, by the place of that one. A byte outside the snapshot reads 0, and a part has at most
+// 10 + 4 * 255 bytes, by the byte that tells how many messages wait; no snapshot has 2^63 bytes.
+pub fn next_part(snapshot: &[u8], place: usize, n: usize) -> usize
+    requires { ⌜ place ≡ partAt (now snapshot) n ⌝ }
     requires { ⌜ place < 2 ^ 63 ⌝ }
-    ensures { λ r. ⌜ r ≡ nextPart (now (snapshot .entry)) place ⌝ }
+    ensures { λ r. ⌜ r ≡ partAt (now (snapshot .entry)) (n + 1) ⌝ }
     ensures { λ r. ⌜ r ≤ place + 1030 ⌝ }
 {
     let count = place + 9;

@@ -1,22 +1,22 @@
 // The bytes of the snapshot (01's "end picture"). The place of each part is carried along from part to part (S-3).
 ghost use mathlib.Core.Path.{_≡_};
-ghost use Prim.Native.Nat.{ℕ, _+_, _*_, _≤_, _<_};
-ghost use lib.ListN.{length, getD};
+ghost use Prim.Native.Nat.{_+_, _*_, _≤_, _<_};
+ghost use lib.ListN.{length};
 ghost use Rattle.model.specs.Table.{maxNodes, maxVariables};
-ghost use Rattle.model.specs.State.{State as Meant};
+ghost use Rattle.model.specs.State.{State as Meant, positionAt};
 ghost use Rattle.model.specs.Output.{nodeBytes, partStart, variablesBytes};
 ghost use Rattle.model.specs.Refusal.{snapshotSize};
 ghost use Rattle.writing.specs.Writing.{Writes};
 ghost use Rattle.memory.specs.Queues.{BoundedCounts};
-ghost use Rattle.engine.specs.Engine.{view};
-ghost use Rattle.output.specs.Written.{nodesView, NarrowPositions, shownBytes};
+ghost use Rattle.engine.specs.Engine.{viewOf, view};
+ghost use Rattle.output.specs.Written.{NarrowPositions, shownBytes};
 use engine::State;
 use writing::put_byte;
 use writing::put_word;
 use writing::put_words;
 
 // Writes the part of node n: position, accumulator, message, how many messages wait, and these. It is handed the place of this part, which
-// is the length of all parts before it, and answers that of the next.
+// is the length of all parts before it, and answers that of the next. (All arrays of a state are lent, so that the contract speaks of it.)
 fn put_node<'a>(
     snapshot: &mut [u8],
     at: usize,
@@ -25,13 +25,14 @@ fn put_node<'a>(
     message: &'a [u32; 32],
     waiting: &'a [u8; 32],
     queue: &'a [u32; 512],
+    variable: &'a [u32; 64],
     n: usize,
 ) -> usize
     ghost { Meant }
-    requires { λ s. ⌜ nodesView (now position) (now accumulator) (now message) (now waiting) (now queue) ≡ s ⌝ }
+    requires { λ s. ⌜ viewOf (now position) (now accumulator) (now message) (now waiting) (now queue) (now variable) ≡ s ⌝ }
     requires { λ s. ⌜ at ≡ partStart s n ⌝ }
     requires { λ s. ⌜ (n < maxNodes) × (at + 74 ≤ length (now snapshot)) ⌝ }
-    requires { λ s. ⌜ BoundedCounts (now waiting) × (getD (now position) n 0 < 256) ⌝ }
+    requires { λ s. ⌜ BoundedCounts (now waiting) × (positionAt s n < 256) ⌝ }
     ensures part { λ s r. ⌜ Writes (nodeBytes s n) (now (snapshot .entry)) (partStart s n) (now (snapshot .exit)) r ⌝ }
     ensures place { λ s r. ⌜ r ≡ partStart s (n + 1) ⌝ }
 {
@@ -43,13 +44,26 @@ fn put_node<'a>(
     put_words(snapshot, messages, queue, n * 16, count as usize)
 }
 
-// Writes the first variables. Of every state that has these: it is handed the place where the parts of its nodes end, and answers where its
-// snapshot ends.
-fn put_variables(snapshot: &mut [u8], at: usize, variable: &[u32; 64], variables: usize) -> usize
-    requires { ⌜ (at + 4 * variables ≤ length (now snapshot)) × (variables ≤ maxVariables) ⌝ }
-    ensures { λ r. ⌜ ((s : Meant) (nodes : ℕ) → s .variable ≡ now (variable .entry) → at ≡ partStart s nodes
-        → Writes (variablesBytes s variables) (now (snapshot .entry)) (partStart s nodes) (now (snapshot .exit)) r
-        × (r ≡ length (shownBytes s nodes variables))) ⌝ }
+// Writes the first variables. It is handed their place, which is the length of the parts of so many nodes, and answers that of the
+// snapshot's end.
+fn put_variables<'a>(
+    snapshot: &mut [u8],
+    at: usize,
+    position: &'a [u32; 32],
+    accumulator: &'a [u32; 32],
+    message: &'a [u32; 32],
+    waiting: &'a [u8; 32],
+    queue: &'a [u32; 512],
+    variable: &'a [u32; 64],
+    nodes: usize,
+    variables: usize,
+) -> usize
+    ghost { Meant }
+    requires { λ s. ⌜ viewOf (now position) (now accumulator) (now message) (now waiting) (now queue) (now variable) ≡ s ⌝ }
+    requires { λ s. ⌜ at ≡ partStart s nodes ⌝ }
+    requires { λ s. ⌜ (variables ≤ maxVariables) × (at + 4 * variables ≤ length (now snapshot)) ⌝ }
+    ensures part { λ s r. ⌜ Writes (variablesBytes s variables) (now (snapshot .entry)) (partStart s nodes) (now (snapshot .exit)) r ⌝ }
+    ensures place { λ s r. ⌜ r ≡ length (shownBytes s nodes variables) ⌝ }
 {
     put_words(snapshot, at, variable, 0, variables)
 }
@@ -72,9 +86,21 @@ pub fn put_snapshot(snapshot: &mut [u8], s: State, nodes: usize, variables: usiz
             &s.message,
             &s.waiting,
             &s.queue,
+            &s.variable,
             n,
         );
         n += 1;
     }
-    put_variables(snapshot, at, &s.variable, variables)
+    put_variables(
+        snapshot,
+        at,
+        &s.position,
+        &s.accumulator,
+        &s.message,
+        &s.waiting,
+        &s.queue,
+        &s.variable,
+        nodes,
+        variables,
+    )
 }

@@ -4,7 +4,7 @@ use mathlib.Core.Path.{_≡_, sym, ap}
 use native.Mathlib.Omega.{arith}
 use borrow.Author.Needs.{needs}
 use Rattle.output.specs.Finding.{partAt}
-use Rattle.output.proofs.Finding.{part-first, part-next}
+use Rattle.output.proofs.Finding.{part-first}
 use Rattle.conformance.proofs.buffers.size_of.Statement.{statement}
 use Rattle.conformance.proofs.buffers.size_of.Tie as tie
 
@@ -17,8 +17,11 @@ abbrev μ-loop : tie.MeasureT-loop
 loop-holds : tie.Need-loop-holds Inv-loop μ-loop
 loop-holds c = (search needs, sym (part-first (c .before .args .snapshot .now)), search needs)
 
+cast-next-part : tie.Need-cast-next-part Inv-loop μ-loop
+cast-next-part c = search needs
+
 next-part-requires : tie.Need-next-part-requires Inv-loop μ-loop
-next-part-requires c κs = search needs
+next-part-requires c κs = (c .before .loop .inv .1, search needs)
 
 add-n : tie.Need-add-n Inv-loop μ-loop
 add-n c = search needs
@@ -29,7 +32,7 @@ loop-less c = search needs
 loop-again : tie.Need-loop-again Inv-loop μ-loop
 loop-again c =
     let l = c .before .before .loop in
-    (search needs, part-next _ (l .n) (l .place) _ (l .inv .1) (c .next-part .ensures .0), omega (arith, c .next-part .ensures .1))
+    (search needs, c .next-part .ensures .0, omega (arith, c .next-part .ensures .1))
 
 mul-result : tie.Need-mul-result Inv-loop μ-loop
 mul-result c = search needs
@@ -51,6 +54,7 @@ size-of-spec =
     Inv-loop
     μ-loop
     loop-holds
+    cast-next-part
     next-part-requires
     add-n
     loop-less

@@ -6,9 +6,8 @@ use denote.Ref.{now}
 use borrow.Author.Needs.{needs}
 use Rattle.text.proofs.Putting.{Put, none-put, room, one-put}
 use Rattle.output.specs.Finding.{partAt}
-use Rattle.output.proofs.Finding.{part-next}
 use Rattle.lines.specs.Lines.{partLine}
-use Rattle.lines.proofs.Parts.{part-inside, nodes-room, variables-inside, variables-room, snapshot-put}
+use Rattle.lines.proofs.Parts.{part-inside, nodes-room, here, variables-inside, variables-room, snapshot-put}
 use Rattle.lines.proofs.snapshot.put_snapshot_lines.Statement.{statement}
 use Rattle.lines.proofs.snapshot.put_snapshot_lines.Tie as tie
 
@@ -42,7 +41,7 @@ next-part-requires c κs =
     let l = c .before .before .before .before .before .loop in
     let inside = part-inside (now (z .args .snapshot)) (z .args .nodes) (z .args .variables) (l .n) _ (z .pre .0)
     (c .before .before .before .before .loop-test .taken) (l .inv .1) in
-    omega (arith, inside)
+    (l .inv .1, omega (arith, inside))
 
 add-n : tie.Need-add-n Inv-loop μ-loop
 add-n c = search needs
@@ -57,8 +56,7 @@ loop-again c =
     let z = p9 .args in
     let l = p6 .loop in (
       omega (arith, c .before .before .before .before .before .loop-test .taken),
-      part-next (now (z .snapshot)) (l .n) (l .place) _
-          (l .inv .1) (c .next-part .ensures .0),
+      c .next-part .ensures .0,
       one-put _ _ _ _ (nodes-room (now (z .snapshot)) (z .nodes) (z .variables) (now (z .text))
           (z .at) (p9 .pre .1)) (l .n) (c .before .before .before .before .before .loop-test .taken) _ _ (l .inv .2) _ _
           (c .before .before .before .put-node-line .ensures),
@@ -66,14 +64,18 @@ loop-again c =
 
 put-variable-lines-requires : tie.Need-put-variable-lines-requires Inv-loop μ-loop
 put-variable-lines-requires c κs =
-    let z = c .before .before .before .before .before .args in
-    let l = c .before .before .loop in (
-      variables-inside (now (z .snapshot)) (z .nodes) (z .variables) (now (z .text)) (z .at)
-          (c .before .before .before .before .before .pre .1) (l .n) (l .place) (l .inv .0) (c .before .loop-test .left) (l .inv .1) _ _
-          (l .inv .2) (c .before .before .before .before .before .pre .0),
-      variables-room (now (z .snapshot)) (z .nodes) (z .variables)
-          (now (z .text)) (z .at) (c .before .before .before .before .before .pre .1) (l .n) (l .place) (l .inv .0)
-          (c .before .loop-test .left) (l .inv .1) _ _ (l .inv .2),
+    let p5 = c .before .before .before .before .before in
+    let z = p5 .args in
+    let l = c .before .before .loop in
+    let left = c .before .loop-test .left in (
+      here (now (z .snapshot)) (z .nodes) (z .variables) (now (z .text)) (z .at) (p5 .pre .1) (l .n) (l .place) (l .inv .0) left (l .inv .1) _ _
+          (l .inv .2),
+      (
+        variables-inside (now (z .snapshot)) (z .nodes) (z .variables) (now (z .text)) (z .at) (p5 .pre .1) (l .n) (l .place) (l .inv .0) left
+            (l .inv .1) _ _ (l .inv .2) (p5 .pre .0),
+        variables-room (now (z .snapshot)) (z .nodes) (z .variables) (now (z .text)) (z .at) (p5 .pre .1) (l .n) (l .place) (l .inv .0) left
+            (l .inv .1) _ _ (l .inv .2),
+      ),
     )
 
 same-length : tie.Need-same-length Inv-loop μ-loop

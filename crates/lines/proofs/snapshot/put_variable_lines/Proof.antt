@@ -11,11 +11,11 @@ use Rattle.lines.proofs.snapshot.put_variable_lines.Statement.{statemen
 use Rattle.lines.proofs.snapshot.put_variable_lines.Tie as tie
 
 abbrev Inv-loop : tie.InvT-loop
-Inv-loop text₀ at snapshot place variables next₀ x₀ t10 text next x = (x ≤ variables) × Put
+Inv-loop text₀ at snapshot place nodes variables next₀ x₀ t11 text next x = (x ≤ variables) × Put
     (variableLine snapshot place) text₀ at x text next
 
 abbrev μ-loop : tie.MeasureT-loop
-μ-loop text₀ at snapshot place variables next₀ x₀ t10 text next x = variables - x
+μ-loop text₀ at snapshot place nodes variables next₀ x₀ t11 text next x = variables - x
 
 loop-holds : tie.Need-loop-holds Inv-loop μ-loop
 loop-holds c = (omega arith, none-put _ _ _)
@@ -29,8 +29,8 @@ add-operand c = search needs
 operand-requires : tie.Need-operand-requires Inv-loop μ-loop
 operand-requires c κs = (search needs, inl refl)
 
-cast-t15 : tie.Need-cast-t15 Inv-loop μ-loop
-cast-t15 c = search needs
+cast-t16 : tie.Need-cast-t16 Inv-loop μ-loop
+cast-t16 c = search needs
 
 slice-aggregate-put-line : tie.Need-slice-aggregate-put-line Inv-loop μ-loop
 slice-aggregate-put-line c = search needs
@@ -42,7 +42,7 @@ put-line-requires : tie.Need-put-line-requires Inv-loop μ-loop
 put-line-requires c κs =
     let l = c .before .before .before .before .before .loop in
     rw (variable-same _ _ (l .x) _ (c .before .before .before .operand .ensures)) at
-    (room _ _ _ _ (c .before .before .before .before .before .before .before .before .pre .1) (l .x)
+    (room _ _ _ _ (c .before .before .before .before .before .before .before .before .pre .1 .1) (l .x)
     (c .before .before .before .before .loop-test .taken) _ _ (l .inv .1))
 
 add-x : tie.Need-add-x Inv-loop μ-loop
@@ -59,7 +59,7 @@ loop-again c =
     let p11 = p8 .before .before .before in
     let l = p8 .loop in (
       search needs,
-      one-put _ _ _ _ (p11 .pre .1) (l .x) (p7 .loop-test .taken) _ _ (l .inv .1) _ _
+      one-put _ _ _ _ (p11 .pre .1 .1) (l .x) (p7 .loop-test .taken) _ _ (l .inv .1) _ _
           (rw (variable-same _ _ (l .x) _ (p6 .operand .ensures)) (c .before .before .put-line .ensures)),
     )
 
@@ -81,7 +81,7 @@ put-variable-lines-spec =
     mul-operand
     add-operand
     operand-requires
-    cast-t15
+    cast-t16
     slice-aggregate-put-line
     slice-aggregate-put-line-2
     put-line-requires

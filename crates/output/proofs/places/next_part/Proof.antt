@@ -5,7 +5,7 @@ use native.Mathlib.Omega.{arith}
 use denote.Ref.{now}
 use lib.ListN.{List·getD-eq-default}
 use borrow.Author.Needs.{needs}
-use Rattle.output.proofs.Finding.{next-byte}
+use Rattle.output.proofs.Finding.{next-byte, part-next}
 use Rattle.output.proofs.places.next_part.Statement.{statement}
 use Rattle.output.proofs.places.next_part.Tie as tie
 
@@ -25,12 +25,14 @@ mul-result : tie.Need-mul-result
 mul-result c = omega (arith, c .shared-slice-known .given (c .before .before .args .place + 9))
 
 add-result-2 : tie.Need-add-result-2
-add-result-2 c = omega (arith, c .shared-slice-known .given (c .before .before .args .place + 9), c .before .before .pre)
+add-result-2 c = omega (arith, c .shared-slice-known .given (c .before .before .args .place + 9), c .before .before .pre .1)
 
 returns : tie.Need-returns
 returns c =
-    let x = c .before .before .args in
-    (sym (next-byte (now (x .snapshot)) (x .place)), omega (arith, c .shared-slice-known .given (x .place + 9)))
+    let z = c .before .before in
+    let x = z .args in
+    let next = part-next (now (x .snapshot)) (x .n) (x .place) _ (z .pre .0) (sym (next-byte (now (x .snapshot)) (x .place))) in
+    (next, omega (arith, c .shared-slice-known .given (x .place + 9)))
 
 add-result-3 : tie.Need-add-result-3
 add-result-3 c = search needs
@@ -39,7 +41,9 @@ returns-2 : tie.Need-returns-2
 returns-2 c =
     let x = c .before .args in
     let none = List·getD-eq-default (now (x .snapshot)) 0 {n = x .place + 9} (c .if1 .left) in
-    (omega (arith, none, next-byte (now (x .snapshot)) (x .place)), omega arith)
+    let next = part-next (now (x .snapshot)) (x .n) (x .place) (x .place + 10) (c .before .pre .0)
+    (omega (arith, none, next-byte (now (x .snapshot)) (x .place))) in
+    (next, omega arith)
 
 pub next-part-spec : {M : Type 1} → statement M
 next-part-spec =

@@ -1,11 +1,11 @@
 -- `output::snapshot::put_snapshot` meets its contract.
 use Prim.Native.Nat.{_-_, _≤_}
-use mathlib.Core.Path.{_≡_, refl, sym, _∙_}
+use mathlib.Core.Path.{_≡_}
 use native.Mathlib.Omega.{arith}
 use lib.ListN.{length}
 use borrow.Author.Needs.{needs}
 use Rattle.engine.specs.Engine.{view}
-use Rattle.output.proofs.Parts.{Shown, none-shown, start-same, one-shown, all-shown}
+use Rattle.output.proofs.Parts.{Shown, none-shown, one-shown, all-shown}
 use Rattle.output.proofs.snapshot.put_snapshot.Statement.{statement}
 use Rattle.output.proofs.snapshot.put_snapshot.Tie as tie
 
@@ -20,13 +20,16 @@ loop-holds c = (omega arith, none-shown _ _)
 
 put-node-requires : tie.Need-put-node-requires Inv-loop μ-loop
 put-node-requires c κs =
-    let z = c .before .before .before .before .before .before .before .before .before .before in
-    let l = c .before .before .before .before .before .before .before .before .loop in
-    let inside = c .before .before .before .before .before .before .before .loop-test .taken in
+    let p8 = c .before .before .before .before .before .before .before .before in
+    let z = c .before .before .before .before .before .before .before .before .before .before .before in
+    let l = c .before .before .before .before .before .before .before .before .before .loop in
     let h = z .pre .0 in (
-      l .inv .1 .place ∙ sym (start-same (z .args .t2) (l .n)),
+      l .inv .1 .place,
       (
-        (omega (arith, inside, h .1), omega (arith, inside, h .0, h .1, l .inv .1 .short, l .inv .1 .size)),
+        (
+          omega (arith, p8 .loop-test .taken, h .1),
+          omega (arith, p8 .loop-test .taken, h .0, h .1, l .inv .1 .short, l .inv .1 .size),
+        ),
         (z .pre .1 .0, z .pre .1 .1 (l .n)),
       ),
     )
@@ -39,37 +42,37 @@ loop-less c = search needs
 
 loop-again : tie.Need-loop-again Inv-loop μ-loop
 loop-again c =
-    let z = c .before .before .before .before .before .before .before .before .before .before .before .before .before in
-    let l = c .before .before .before .before .before .before .before .before .before .before .before .loop in
-    let s = z .args .t2 in
-    let counts : length (s .waiting) ≡ 32 = search needs in
-    let slots : length (s .queue) ≡ 512 = search needs in
+    let z = c .before .before .before .before .before .before .before .before .before .before .before .before .before .before in
+    let l = c .before .before .before .before .before .before .before .before .before .before .before .before .loop in
+    let counts : length (z .args .t2 .waiting) ≡ 32 = search needs in
+    let slots : length (z .args .t2 .queue) ≡ 512 = search needs in
+    let inside = c .before .before .before .before .before .before .before .before .before .before .before .loop-test .taken in
     let put = c .before .before .put-node .ensures in (
-      omega (arith, c .before .before .before .before .before .before .before .before .before .before .loop-test .taken),
-      one-shown s (z .pre .1 .0) counts slots _ (l .n) (l .snapshot) (l .at) _ _
-          (omega (arith, c .before .before .before .before .before .before .before .before .before .before .loop-test .taken, z .pre .0 .0, z .pre .0 .1)) (search needs) (l .inv .1)
-          (record { part = put .0; place = put .1 }),
+      omega (arith, inside),
+      one-shown (z .args .t2) (z .pre .1 .0) counts slots _ (l .n) (l .snapshot) (l .at) _ _
+          (omega (arith, inside, z .pre .0 .0, z .pre .0 .1)) (search needs) (l .inv .1) (record { part = put .0; place = put .1 }),
     )
 
 put-variables-requires : tie.Need-put-variables-requires Inv-loop μ-loop
 put-variables-requires c κs =
-    let w = c .before .before .before .before .loop .inv in
-    let h = c .before .before .before .before .before .before .pre .0 in
-    (omega (arith, w .1 .short, w .1 .size, w .0, h .0, h .1, h .2), h .2)
+    let l = c .before .before .before .before .before .before .before .before .before .loop in
+    let z = c .before .before .before .before .before .before .before .before .before .before .before in
+    let h = z .pre .0 in
+    let e : l .n ≡ z .args .nodes = omega (arith, l .inv .0, c .before .before .before .before .before .before .before .before .loop-test .left) in
+    (rw e at (l .inv .1 .place), (h .2, omega (arith, l .inv .1 .short, l .inv .1 .size, l .inv .0, h .0, h .1, h .2)))
 
 same-length : tie.Need-same-length Inv-loop μ-loop
 same-length c = search needs
 
 returns : tie.Need-returns Inv-loop μ-loop
 returns c =
-    let z = c .before .before .before .before .before .before .before .before .before in
-    let l = c .before .before .before .before .before .before .before .loop in
+    let l = c .before .before .before .before .before .before .before .before .before .before .before .before .loop in
+    let z = c .before .before .before .before .before .before .before .before .before .before .before .before .before .before in
     let h = z .pre .0 in
-    let e : l .n ≡ z .args .nodes = omega (arith, l .inv .0, c .before .before .before .before .before .before .loop-test .left) in
-    let here = rw e at (l .inv .1 .place) in
+    let e : l .n ≡ z .args .nodes = omega (arith, l .inv .0, c .before .before .before .before .before .before .before .before .before .before .before .loop-test .left) in
     all-shown (view (z .args .t2)) (z .args .nodes) (z .args .variables) _ (l .snapshot) (l .at) _ _
-    (omega (arith, here, l .inv .1 .short, l .inv .0, h .0, h .1, h .2)) (rw e at (l .inv .1 .parts)) here
-    (c .before .before .put-variables .ensures (view (z .args .t2)) (z .args .nodes) refl here .0)
+    (omega (arith, l .inv .1 .short, l .inv .0, h .0, h .1, h .2)) (rw e at (l .inv .1 .place)) (rw e at (l .inv .1 .parts))
+    (c .before .before .put-variables .ensures .0)
 
 pub put-snapshot-spec : {M : Type 1} → statement M
 put-snapshot-spec =
