@@ -5,7 +5,7 @@ use std::{fs, io};
 use flow_reference::{decode, Mode};
 
 use crate::runs::{cases, Case, MODES};
-use crate::{largest, pictures};
+use crate::{largest, snapshots};
 
 /// The folder of the repository's examples.
 const EXAMPLES: &str = concat!(env!("CARGO_MANIFEST_DIR"), "/../examples");
@@ -23,11 +23,11 @@ impl Group {
     }
 }
 
-/// The accepted example jobs, those of the cases and of the pictures, which the tables are about, and the largest.
+/// The accepted example jobs, those of the cases and of the snapshots, which the tables are about, and the largest.
 pub fn all() -> io::Result<[Group; 3]> {
     Ok([
         Group { name: "examples", jobs: examples()? },
-        Group { name: "tables", jobs: cases().into_iter().map(Case::job).chain(pictures::jobs()).collect() },
+        Group { name: "tables", jobs: cases().into_iter().map(Case::job).chain(snapshots::jobs()).collect() },
         Group { name: "largest job", jobs: vec![largest::job()] },
     ])
 }

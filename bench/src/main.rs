@@ -8,15 +8,15 @@ use std::process::ExitCode;
 
 use flow_bench::compare::compare;
 use flow_bench::groups::{self, Group};
-use flow_bench::pictures::{self, Queues};
 use flow_bench::replies::FORMS;
 use flow_bench::runs::Engine;
 use flow_bench::script::Script;
+use flow_bench::snapshots::{self, Queues};
 use flow_bench::{arguments, lists, stack, window};
 
 const USAGE: &str = "usage: bench ENGINE MODE CASE RUNS | bench time ENGINE MODE CASE RUNS |
     bench compare | bench mix | bench calls | bench stack |
-    bench picture ENGINE NODES empty|full | bench window MARK SNAPSHOT BYTES TRACE";
+    bench snapshot ENGINE NODES empty|full | bench window MARK SNAPSHOT BYTES TRACE";
 
 /// The completed turns of all runs.
 fn print_turns(words: &[&str]) -> Option<()> {
@@ -51,17 +51,17 @@ fn print_calls() {
     println!("{}", jobs.map(|job| lists::calls(&job).to_string()).collect::<Vec<_>>().join(" "));
 }
 
-/// Runs a job of the pictures: the addresses of mark and snapshot, in hexadecimal, and the snapshot's bytes.
-fn print_picture(words: &[&str]) -> Option<()> {
+/// Runs a job of the snapshots: the addresses of mark and snapshot, in hexadecimal, and the snapshot's bytes.
+fn print_snapshot(words: &[&str]) -> Option<()> {
     let [engine, nodes, word] = words else { return None };
-    let nodes = nodes.parse().ok().filter(|nodes| pictures::NODES.contains(nodes))?;
+    let nodes = nodes.parse().ok().filter(|nodes| snapshots::NODES.contains(nodes))?;
     let (_, queues) = Queues::ALL.into_iter().find(|(name, _)| name == word)?;
-    let places = pictures::run_marked(Engine::named(engine)?, nodes, queues);
-    println!("{:x} {:x} {}", places.mark, places.snapshot, pictures::bytes(nodes, queues));
+    let addresses = snapshots::run_marked(Engine::named(engine)?, nodes, queues);
+    println!("{:x} {:x} {}", addresses.mark, addresses.snapshot, snapshots::bytes(nodes, queues));
     Some(())
 }
 
-/// The instructions that write the snapshot, by the numbers of `picture` and its trace.
+/// The instructions that write the snapshot, by the numbers of `snapshot` and its trace.
 fn print_window(words: &[&str]) -> Option<ExitCode> {
     let [mark, snapshot, bytes, trace] = words else { return None };
     let [mark, snapshot] = [mark, snapshot].map(|word| usize::from_str_radix(word, 16).ok());
@@ -121,7 +121,7 @@ fn execute(words: &[&str]) -> Option<ExitCode> {
         ["calls"] => print_calls(),
         ["stack"] => return Some(print_stack()),
         ["time", words @ ..] => print_time(words)?,
-        ["picture", words @ ..] => print_picture(words)?,
+        ["snapshot", words @ ..] => print_snapshot(words)?,
         ["window", words @ ..] => return print_window(words),
         _ => print_turns(words)?,
     }

@@ -91,9 +91,10 @@ pub fn put_snapshot(snapshot: &mut [u8], s: State, nodes: usize, variables: usiz
         );
         n += 1;
     }
+    let first = at;
     put_variables(
         snapshot,
-        at,
+        first,
         &s.position,
         &s.accumulator,
         &s.message,

@@ -60,17 +60,17 @@ pub fn bytes(nodes: u32, queues: Queues) -> usize {
 /// Written before and after a run.
 static MARK: AtomicU8 = AtomicU8::new(0);
 
-/// Where a marked run stores: one byte before and one after it, and its snapshot.
-pub struct Places {
+/// Where a marked run stores: a byte before and after it, and its snapshot.
+pub struct Addresses {
     pub mark: usize,
     pub snapshot: usize,
 }
 
 /// Runs such a job once, bare, between two stores to the mark.
-pub fn run_marked(engine: Engine, nodes: u32, queues: Queues) -> Places {
+pub fn run_marked(engine: Engine, nodes: u32, queues: Queues) -> Addresses {
     let mut bench = Bench::of(engine, Mode::Unmonitored, job(nodes, queues), 0);
     MARK.store(1, Relaxed);
     black_box(bench.run());
     MARK.store(2, Relaxed);
-    Places { mark: MARK.as_ptr() as usize, snapshot: bench.buffers.snapshot.as_ptr() as usize }
+    Addresses { mark: MARK.as_ptr() as usize, snapshot: bench.buffers.snapshot.as_ptr() as usize }
 }

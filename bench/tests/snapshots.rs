@@ -1,6 +1,6 @@
-//! The jobs of the pictures leave the snapshots that are meant, and a trace is read as lackey writes it.
+//! The jobs of the snapshots leave the snapshots that are meant, and a trace is read as lackey writes it.
 
-use flow_bench::pictures::{bytes, job, Queues, NODES};
+use flow_bench::snapshots::{bytes, job, Queues, NODES};
 use flow_bench::window::instructions;
 use flow_reference::outcome::stop;
 use flow_reference::output::snapshot;
