@@ -5,7 +5,7 @@ use mathlib.Core.List.{List, [], _∷_, _++_}
 use native.Mathlib.Nat.{mod-eq-of-lt}
 use native.Mathlib.Numerals.{add-one}
 use native.Mathlib.Omega.{arith}
-use lib.ListN.{length, getD, take, drop, length-drop, length-append}
+use lib.ListN.{length, getD, take, drop, length-drop, length-append, length-take}
 use lib.Seq.{length-take-le}
 use Rattle.model.specs.State.{State, queueAt, waitingAt, variableAt}
 use Rattle.model.specs.Output.{bytes4, numbersBytes, nodeBytes, nodesBytes, partStart, variablesBytes}
@@ -13,9 +13,8 @@ use Rattle.model.specs.Valid.{Bounded}
 use Rattle.model.proofs.Bounds.{length-numbers, length-nodes, length-variables, nodes-next}
 use Rattle.model.proofs.Parts.{start-next}
 use Rattle.memory.specs.Queues.{BoundedCounts}
-use Rattle.memory.proofs.Waiting.{queue-at, count-at}
-use Rattle.engine.specs.declared.State.{State as Held}
-use Rattle.engine.specs.Engine.{viewOf, view}
+use Rattle.memory.proofs.Waiting.{queue-at}
+use Rattle.engine.specs.Engine.{viewOf}
 use Rattle.writing.specs.Writing.{Writes}
 use Rattle.writing.proofs.Placing.{writes-on, writes-nothing}
 use Rattle.writing.proofs.Words.{numbers-next}
@@ -59,36 +58,35 @@ module _ (p a m w q v : List ℕ) (n : ℕ) (narrow : getD p n 0 < 256) (few : g
       record { part = writes; place = writes .place ∙ sym (start-next s n) ∙ ap (partStart s) (sym (add-one n)) }
 
 -- the parts of the first nodes are written, and the place of the next one is known: what a loop over the nodes keeps
-pub record Shown (s : Held) (before : List ℕ) (n : ℕ) (snapshot : List ℕ) (at : ℕ) : Type 0 where
-  pub parts : Writes (nodesBytes (view s) n) before 0 snapshot at
-  pub place : at ≡ partStart (view s) n
+pub record Shown (s : State) (before : List ℕ) (n : ℕ) (snapshot : List ℕ) (at : ℕ) : Type 0 where
+  pub parts : Writes (nodesBytes s n) before 0 snapshot at
+  pub place : at ≡ partStart s n
   pub short : at ≤ 74 * n
   pub size : length snapshot ≡ length before
 
-pub none-shown : (s : Held) (before : List ℕ) → Shown s before 0 before 0
+pub none-shown : (s : State) (before : List ℕ) → Shown s before 0 before 0
 unfolding nodesBytes
 none-shown s before = record { parts = writes-nothing before 0; place = refl; short = omega arith; size = refl }
 
-module _ (s : Held) (bounded : BoundedCounts (s .waiting)) (counts : length (s .waiting) ≡ 32) (slots : length (s .queue) ≡ 512) where
-  few : Bounded (view s)
-  few n = rw (count-at (s .waiting) (s .queue) bounded (omega arith) n) (bounded n)
+-- no more messages wait than the counts say
+pub view-bounded : (p a m w q v : List ℕ) → BoundedCounts w → Bounded (viewOf p a m w q v)
+view-bounded p a m w q v bounded n =
+    omega (arith, ap length (queue-at w q n), length-take (getD w n 0) (drop (16 * n) q), bounded n)
 
-  pub one-shown :
-      (before : List ℕ) (n : ℕ) (snapshot : List ℕ) (at : ℕ) (after : List ℕ) (next : ℕ) → 74 * n + 74 ≤ length before
-      → length after ≡ length snapshot → Shown s before n snapshot at
-      → NodePut (view s) n snapshot after next
-      → Shown s before (n + 1) after next
-  one-shown before n snapshot at after next fits same w x =
-      let e : nodesBytes (view s) (n + 1) ≡ nodesBytes (view s) n ++ nodeBytes (view s) n =
-      ap (nodesBytes (view s)) (add-one n) ∙ nodes-next (view s) n in
-      let part : Writes (nodeBytes (view s) n) snapshot at after next = rw (w .place) (x .part) in
-      let short = length-nodes (view s) few (n + 1) in
-      record {
-        parts = rw e (writes-on _ _ before 0 snapshot at after next (omega (arith, x .place, short, part .place)) (w .parts) part);
-        place = x .place;
-        short = omega (arith, x .place, short);
-        size = same ∙ w .size;
-      }
+pub one-shown :
+    (s : State) → Bounded s → (before : List ℕ) (n : ℕ) (snapshot : List ℕ) (at : ℕ) (after : List ℕ) (next : ℕ)
+    → 74 * n + 74 ≤ length before → length after ≡ length snapshot → Shown s before n snapshot at → NodePut s n snapshot after next
+    → Shown s before (n + 1) after next
+one-shown s few before n snapshot at after next fits same w x =
+    let e : nodesBytes s (n + 1) ≡ nodesBytes s n ++ nodeBytes s n = ap (nodesBytes s) (add-one n) ∙ nodes-next s n in
+    let part : Writes (nodeBytes s n) snapshot at after next = rw (w .place) (x .part) in
+    let short = length-nodes s few (n + 1) in
+    record {
+      parts = rw e (writes-on _ _ before 0 snapshot at after next (omega (arith, x .place, short, part .place)) (w .parts) part);
+      place = x .place;
+      short = omega (arith, x .place, short);
+      size = same ∙ w .size;
+    }
 
 -- the variables are numbers one after the other
 variables-numbers : (s : State) (k : ℕ) → k ≤ length (s .variable) → variablesBytes s k ≡ numbersBytes (take k (s .variable))

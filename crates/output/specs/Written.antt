@@ -1,11 +1,9 @@
 -- What the writers of trace and snapshot write.
 use Prim.Native.Nat.{ℕ, _<_}
 use mathlib.Core.List.{List, _++_}
-use lib.ListN.{getD}
-use Rattle.model.specs.State.{State}
+use Rattle.model.specs.State.{State, positionAt}
 use Rattle.model.specs.Turn.{Entry, entry}
 use Rattle.model.specs.Output.{nodesBytes, variablesBytes}
-use Rattle.engine.specs.declared.State.{State as Held}
 use Rattle.output.specs.declared.numbers.Numbers.{Numbers}
 
 -- the entry with these numbers
@@ -17,8 +15,8 @@ abbrev pub Narrow : Entry → Type 0
 Narrow e = (e .node < 256) × (e .kind < 256) × (e .number < 256)
 
 -- positions are bytes
-abbrev pub NarrowPositions : Held → Type 0
-NarrowPositions s = (n : ℕ) → getD (s .position) n 0 < 256
+abbrev pub NarrowPositions : State → Type 0
+NarrowPositions s = (n : ℕ) → positionAt s n < 256
 
 -- the first nodes of a state, then the first variables
 abbrev pub shownBytes : State → ℕ → ℕ → List ℕ

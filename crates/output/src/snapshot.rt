@@ -3,14 +3,13 @@ ghost use mathlib.Core.Path.{_≡_};
 ghost use Prim.Native.Nat.{_+_, _*_, _≤_, _<_};
 ghost use lib.ListN.{length};
 ghost use Rattle.model.specs.Table.{maxNodes, maxVariables};
-ghost use Rattle.model.specs.State.{State as Meant, positionAt};
+ghost use Rattle.model.specs.State.{State, positionAt};
 ghost use Rattle.model.specs.Output.{nodeBytes, partStart, variablesBytes};
 ghost use Rattle.model.specs.Refusal.{snapshotSize};
 ghost use Rattle.writing.specs.Writing.{Writes};
 ghost use Rattle.memory.specs.Queues.{BoundedCounts};
-ghost use Rattle.engine.specs.Engine.{viewOf, view};
+ghost use Rattle.engine.specs.Engine.{viewOf};
 ghost use Rattle.output.specs.Written.{NarrowPositions, shownBytes};
-use engine::State;
 use writing::put_byte;
 use writing::put_word;
 use writing::put_words;
@@ -28,7 +27,7 @@ fn put_node<'a>(
     variable: &'a [u32; 64],
     n: usize,
 ) -> usize
-    ghost { Meant }
+    ghost { State }
     requires { λ s. ⌜ viewOf (now position) (now accumulator) (now message) (now waiting) (now queue) (now variable) ≡ s ⌝ }
     requires { λ s. ⌜ at ≡ partStart s n ⌝ }
     requires { λ s. ⌜ (n < maxNodes) × (at + 74 ≤ length (now snapshot)) ⌝ }
@@ -58,7 +57,7 @@ fn put_variables<'a>(
     nodes: usize,
     variables: usize,
 ) -> usize
-    ghost { Meant }
+    ghost { State }
     requires { λ s. ⌜ viewOf (now position) (now accumulator) (now message) (now waiting) (now queue) (now variable) ≡ s ⌝ }
     requires { λ s. ⌜ at ≡ partStart s nodes ⌝ }
     requires { λ s. ⌜ (variables ≤ maxVariables) × (at + 4 * variables ≤ length (now snapshot)) ⌝ }
@@ -68,12 +67,24 @@ fn put_variables<'a>(
     put_words(snapshot, at, variable, 0, variables)
 }
 
-// Writes the snapshot of a state: its first nodes and its first variables, as many as are asked for.
-pub fn put_snapshot(snapshot: &mut [u8], s: State, nodes: usize, variables: usize) -> usize
-    requires { ⌜ (snapshotSize ≤ length (now snapshot)) × (nodes ≤ maxNodes) × (variables ≤ maxVariables) ⌝ }
-    requires { ⌜ BoundedCounts (s .waiting) ⌝ }
-    requires { ⌜ NarrowPositions s ⌝ }
-    ensures { λ r. ⌜ Writes (shownBytes (view s) nodes variables) (now (snapshot .entry)) 0 (now (snapshot .exit)) r ⌝ }
+// Writes the snapshot of a state, whose arrays are lent: its first nodes and its first variables, as many as are asked for.
+pub fn put_snapshot<'a>(
+    snapshot: &mut [u8],
+    position: &'a [u32; 32],
+    accumulator: &'a [u32; 32],
+    message: &'a [u32; 32],
+    waiting: &'a [u8; 32],
+    queue: &'a [u32; 512],
+    variable: &'a [u32; 64],
+    nodes: usize,
+    variables: usize,
+) -> usize
+    ghost { State }
+    requires { λ s. ⌜ viewOf (now position) (now accumulator) (now message) (now waiting) (now queue) (now variable) ≡ s ⌝ }
+    requires { λ s. ⌜ (snapshotSize ≤ length (now snapshot)) × (nodes ≤ maxNodes) × (variables ≤ maxVariables) ⌝ }
+    requires { λ s. ⌜ BoundedCounts (now waiting) ⌝ }
+    requires { λ s. ⌜ NarrowPositions s ⌝ }
+    ensures { λ s r. ⌜ Writes (shownBytes s nodes variables) (now (snapshot .entry)) 0 (now (snapshot .exit)) r ⌝ }
 {
     let mut at: usize = 0;
     let mut n: usize = 0;
@@ -81,12 +92,12 @@ pub fn put_snapshot(snapshot: &mut [u8], s: State, nodes: usize, variables: usiz
         at = put_node(
             snapshot,
             at,
-            &s.position,
-            &s.accumulator,
-            &s.message,
-            &s.waiting,
-            &s.queue,
-            &s.variable,
+            position,
+            accumulator,
+            message,
+            waiting,
+            queue,
+            variable,
             n,
         );
         n += 1;
@@ -95,12 +106,12 @@ pub fn put_snapshot(snapshot: &mut [u8], s: State, nodes: usize, variables: usiz
     put_variables(
         snapshot,
         first,
-        &s.position,
-        &s.accumulator,
-        &s.message,
-        &s.waiting,
-        &s.queue,
-        &s.variable,
+        position,
+        accumulator,
+        message,
+        waiting,
+        queue,
+        variable,
         nodes,
         variables,
     )

@@ -7,30 +7,25 @@ use mathlib.Core.Option.{none}
 use native.Mathlib.Omega.{arith}
 use lib.ListN.{length, getD, drop, replicate, length-drop, length-replicate}
 use lib.Seq.{ext-getD, getD-drop}
-use Rattle.model.specs.Table.{NODE, VAR, TURN}
+use Rattle.model.specs.Table.{TURN}
 use Rattle.model.specs.Command.{Command}
 use Rattle.model.specs.Program.{programOf}
-use Rattle.model.specs.State.{State}
 use Rattle.model.specs.Run.{monitoredRun, unmonitoredRun}
-use Rattle.model.specs.Output.{snapshotBytes}
 use Rattle.model.specs.Refusal.{Refusal, Decoded, accepted, rejected, decodeJob, Sizes, workSize, shortBuffer, decodeFor}
 use Rattle.model.specs.Result.{Result, refused, report, monitored, unmonitored, Buffers, sizesOf, written}
 use Rattle.model.specs.Result.{traceAfter, snapshotAfter, workAfter}
 use Rattle.model.specs.Valid.{ValidJob}
 use Rattle.model.proofs.Results.{and-then-accepted, buffers-fit}
-use Rattle.model.proofs.Valid.{job-valid, limits}
+use Rattle.model.proofs.Valid.{job-valid}
 use Rattle.command.specs.declared.refusal.Refusal.{Refusal as Refused}
 use Rattle.command.specs.Reading.{refusalOf}
 use Rattle.handlers.specs.Loading.{loaded}
 use Rattle.model.specs.Refusal.{commandsOf, IsAccepted}
 use Rattle.handlers.proofs.Slots.{length-loaded, beyond-loaded}
 use Rattle.tables.specs.Tables.{countIn}
-use Rattle.engine.specs.Engine.{view}
 use Rattle.writing.specs.Writing.{Writes}
 use Rattle.writing.proofs.Placing.{placed-front}
-use Rattle.output.specs.Written.{shownBytes}
 use Rattle.turns.specs.declared.ending.Ending.{Ending}
-use Rattle.turns.specs.declared.Ran.{Ran}
 use Rattle.turns.specs.Runs.{runOf, Loaded, RunsAs}
 use Rattle.run.specs.declared.answer.Answer.{Answer}
 use Rattle.run.specs.declared.answer.Answer.the-variants as a
@@ -57,9 +52,6 @@ module _ (job t : List ℕ) (b : Sizes) (f : AcceptedWith job t b) where
   unfolding decodeFor
   both = and-then-accepted (shortBuffer job b) (decodeJob job) past (f .decoded)
 
-  pub job-decoded : decodeJob job ≡ accepted (f .past)
-  job-decoded = both .0
-
   valid : ValidJob past
   valid = job-valid job past (both .0)
 
@@ -79,13 +71,6 @@ module _ (job t : List ℕ) (b : Sizes) (f : AcceptedWith job t b) where
   pub work-fits : workSize ≤ b .work
   work-fits = buffers-fit job b past (both .1) .2
 
-  -- the snapshot shows what is declared
-  pub nodes-fit : countIn t NODE ≤ 32
-  nodes-fit = omega (arith, f .stands .counts NODE (omega arith), limits past (valid .commands) .nodes)
-
-  pub variables-fit : countIn t VAR ≤ 64
-  variables-fit = omega (arith, f .stands .counts VAR (omega arith), limits past (valid .commands) .variables)
-
   pub is-ready : (w after : List ℕ) → workSize ≤ length w → after ≡ loaded w (commandsOf (decodeJob job)) → Loaded job t after
   is-ready w after long e =
       record { past = past; decoded = both .0; stands = f .stands; before = w; long = long; holds = e ∙ loads w }
@@ -94,38 +79,30 @@ module _ (job t : List ℕ) (b : Sizes) (f : AcceptedWith job t b) where
   zeros-over : (w : List ℕ) → written (replicate workSize 0) (loaded w past) ≡ written (replicate workSize 0) w
   zeros-over w = over-same workSize (loaded w past) w (length-loaded w past) (beyond-loaded w past (valid .commands))
 
-  shown-snapshot : (s : State) → shownBytes s (countIn t NODE) (countIn t VAR) ≡ snapshotBytes (programOf past) s
-  unfolding snapshotBytes programOf
-  shown-snapshot s = rw (f .stands .counts NODE (omega arith), f .stands .counts VAR (omega arith))
-
 -- what is handed over
 module _ (job t : List ℕ) (before : Buffers) (f : AcceptedWith job t (sizesOf before)) (m : Bool) where
   pub hands-over :
-      (trace : List ℕ) (x : Ran) → ((past : List Command) → decodeJob job ≡ accepted past → RunsAs (runOf m past) (before .trace) trace x)
-      → (snapshot : List ℕ) (next : ℕ) → Writes (shownBytes (view (x .state)) (countIn t NODE) (countIn t VAR))
-      (before .snapshot) 0 snapshot next
+      (trace snapshot : List ℕ) (x : Ending)
+      → ((past : List Command) → decodeJob job ≡ accepted past
+      → RunsAs (programOf past) (runOf m past) (before .trace) (before .snapshot) trace snapshot x)
       → (work : List ℕ) (last : ℕ) → Writes (replicate workSize 0) (loaded (before .work) (commandsOf (decodeJob job))) 0 work last
-      → DeliversRun m job before (buffers trace snapshot work) (x .ending)
+      → DeliversRun m job before (buffers trace snapshot work) x
   unfolding report
-  hands-over trace x runs snapshot next shows work last zeros past e =
+  hands-over trace snapshot x runs work last zeros past e =
       let d = f .decoded in
       let same : f .past ≡ past = cc in
-      let r : RunsAs (runOf m (f .past)) (before .trace) trace x = runs (f .past) (both job t (sizesOf before) f .0) in
-      let shown = ap (λ (s : State). shownBytes s (countIn t NODE) (countIn t VAR)) (r .state)
-      ∙ shown-snapshot job t (sizesOf before) f (runOf m (f .past) .final) in
-      let given : Delivers (report (programOf (f .past)) (runOf m (f .past))) before (buffers trace snapshot work)
-      (a.Ended (x .ending)) = record {
+      let r = runs (f .past) (both job t (sizesOf before) f .0) in
+      let given : Delivers (report (programOf (f .past)) (runOf m (f .past))) before (buffers trace snapshot work) (a.Ended x) = record {
         told = ap answer (r .answer);
         left = record {
           trace = r .trace;
-          snapshot = shows .buffer ∙ placed-front (before .snapshot) _ ∙ ap (λ (l : List ℕ). written l (before .snapshot)) shown;
+          snapshot = r .snapshot;
           work = zeros .buffer ∙ placed-front _ (replicate workSize 0)
               ∙ ap (written (replicate workSize 0)) (loads job t (sizesOf before) f (before .work))
               ∙ zeros-over job t (sizesOf before) f (before .work);
         };
       } in
-      subst (λ (p : List Command). Delivers (report (programOf p) (runOf m p)) before (buffers trace snapshot work) (a.Ended (x .ending)))
-      same given
+      subst (λ (p : List Command). Delivers (report (programOf p) (runOf m p)) before (buffers trace snapshot work) (a.Ended x)) same given
 
 -- the model's result of a job that is accepted, and of one that is refused
 pub result-ran : (m : Bool) (job : List ℕ) (b : Sizes) (past : List Command) → decodeFor job b ≡ accepted past

@@ -7,13 +7,10 @@ ghost use Rattle.model.specs.Result.{sizesOf, traceAfter, snapshotAfter, workAf
 ghost use Rattle.run.specs.Answers.{toldBy, toldIn, buffers, resultWith, monitoredWith, unmonitoredWith};
 ghost use Rattle.run.specs.Delivered.{AcceptedWith, DeliversRun};
 use answer::Answer;
-use command::bytes;
-use declared::count_of;
 use handlers::load::load;
 use job::Verdict;
 use job::buffers::WORK;
 use job::buffers::judge;
-use output::snapshot::put_snapshot;
 use tables::cells::CELLS;
 use turns::ending::Ending;
 use turns::run_turns;
@@ -35,12 +32,7 @@ fn run_accepted(
         (buffers (now (trace .exit)) (now (snapshot .exit)) (now (work .exit))) r ⌝ }
 {
     load(job, work);
-    let ran = run_turns(job, tables, work, trace, monitored);
-    let state = ran.state;
-    let ending = ran.ending;
-    let nodes = count_of(tables, bytes::NODE) as usize;
-    let variables = count_of(tables, bytes::VAR) as usize;
-    put_snapshot(snapshot, state, nodes, variables);
+    let ending = run_turns(job, tables, work, trace, snapshot, monitored);
     put_zeros(work, WORK);
     ending
 }

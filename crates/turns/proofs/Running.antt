@@ -5,14 +5,15 @@ use mathlib.Core.Bool.{Bool, true, false}
 use mathlib.Core.List.{List, [], _∷_, _++_}
 use native.Mathlib.Omega.{arith}
 use lib.ListN.{length, getD, drop, length-append, length-map}
-use Rattle.model.specs.Table.{TURN}
+use Rattle.model.specs.Table.{NODE, VAR, TURN}
 use Rattle.model.specs.Command.{Command}
 use Rattle.model.specs.Declared.{turnsOf}
 use Rattle.model.specs.Program.{Program, programOf}
 use Rattle.model.specs.State.{State as Meant, positionAt}
 use Rattle.model.specs.Turn.{Entry as Numbered, entry, Turned as Rule, completed, stopped}
-use Rattle.model.specs.Run.{Step, runFrom, entriesOf}
-use Rattle.model.specs.Output.{entryBytes, traceBytes}
+use Rattle.model.specs.Run.{Run, Step, runFrom, entriesOf}
+use Rattle.model.specs.Output.{answerIn, entryBytes, traceBytes, traceIn, snapshotBytes}
+use Rattle.model.specs.Result.{written}
 use Rattle.model.specs.Valid.{ValidJob}
 use Rattle.model.proofs.Bounds.{length-trace}
 use Rattle.model.proofs.Positions.{Placed, initial-placed, turn-placed, monitored-placed, program-jumps}
@@ -38,8 +39,7 @@ use Rattle.engine.specs.Accepted.{EngineMeets}
 use Rattle.engine.proofs.Accepted.{engine-holds}
 use Rattle.writing.specs.Writing.{Writes}
 use Rattle.writing.proofs.Placing.{writes-on, writes-nothing, placed-front}
-use Rattle.output.specs.Written.{Narrow}
-use Rattle.turns.specs.declared.Ran.{Ran}
+use Rattle.output.specs.Written.{Narrow, NarrowPositions, shownBytes}
 use Rattle.turns.specs.declared.ending.Ending.{Ending}
 use Rattle.turns.specs.declared.ending.Halt.{Halt}
 use Rattle.turns.specs.declared.ending.Halt.the-variants as v
@@ -58,6 +58,14 @@ pub record Underway (monitored : Bool) (past : List Command) (before : List ℕ)
   pub bounded : BoundedCounts (s .waiting)
   pub placed : Placed (programOf past) (view s)
 
+-- the run is over: how it ended, the trace, and the last state
+pub record Over (r : Run) (before after : List ℕ) (s : State) (x : Ending) : Type 0 where
+  pub answer : answerOf x ≡ answerIn r
+  pub trace : after ≡ written (traceIn r) before
+  pub state : view s ≡ r .final
+  pub bounded : BoundedCounts (s .waiting)
+  pub positions : NarrowPositions (view s)
+
 -- what the loop keeps: while it goes on, the run after k turns; when it is left, the run that is over
 pub record Reached (monitored : Bool) (past : List Command) (before : List ℕ) (turns : ℕ) (trace : List ℕ) (s : State) (halt : Halt)
     (last at k : ℕ) : Type 0 where
@@ -66,7 +74,7 @@ pub record Reached (monitored : Bool) (past : List Command) (before : List ℕ) 
   pub never : k < last → halt ≡ v.RanOut
   pub going : k < last → Underway monitored past before s trace at k
   pub ended : last ≤ k → (x : Ending) → answerOf x ≡ answerAt k halt
-      → RunsAs (runOf monitored past) before trace (record { state = s; ending = x })
+      → Over (runOf monitored past) before trace s x
 
 module _ (monitored : Bool) (job t w : List ℕ) (ready : Loaded job t w) where
   abbrev past : List Command
@@ -114,12 +122,12 @@ module _ (monitored : Bool) (job t w : List ℕ) (ready : Loaded job t w) where
 
   -- the run is over
   over :
-      {before : List ℕ} {s : State} {trace : List ℕ} {at k : ℕ} (u : Underway monitored past before s trace at k) (x : Ran) (j : ℕ)
-      (e : Numbered)
+      {before : List ℕ} {s : State} {trace : List ℕ} {at k : ℕ} (u : Underway monitored past before s trace at k) (s′ : State) (x : Ending)
+      (j : ℕ) (e : Numbered)
       → runOf monitored past ≡ record { steps = u .done; stop = j; attempted = e; final = view s }
-      → view (x .state) ≡ view s → BoundedCounts (x .state .waiting) → answerOf (x .ending) ≡ record { stop = j; turns = k; attempted = e }
-      → RunsAs (runOf monitored past) before trace x
-  over {before} {s} {trace} {at} {k} u x j e is same bounded told =
+      → view s′ ≡ view s → BoundedCounts (s′ .waiting) → answerOf x ≡ record { stop = j; turns = k; attempted = e }
+      → Over (runOf monitored past) before trace s′ x
+  over {before} {s} {trace} {at} {k} u s′ x j e is same bounded told =
       let count = u .count in
       record {
         answer = rw (is, count) told;
@@ -188,11 +196,11 @@ module _ (monitored : Bool) (job t w : List ℕ) (ready : Loaded job t w) where
     -- it was stopped
     pub underway-stopped :
         (stop : Stop) → turned .outcome ≡ o.Stopped stop → (x : Ending) → answerOf x ≡ answerAt k (v.Stopped stop)
-        → RunsAs (runOf monitored past) before trace (record { state = turned .state; ending = x })
+        → Over (runOf monitored past) before trace (turned .state) x
     underway-stopped stop is x told =
         let e : rule (view s) n ≡ stopped (stopNumber stop) (attemptedBy stop) = sym (comes .tells)
         ∙ ap (λ (y : Outcome). turnedBy y (view (turned .state))) is in
-        over u (record { state = turned .state; ending = x }) (stopNumber stop) (attemptedBy stop)
+        over u (turned .state) x (stopNumber stop) (attemptedBy stop)
         (u .same ∙ behind-stopped rule (turnsOf past) (u .done) k (view s) (stopNumber stop) (attemptedBy stop) inside
         (ap (rule (view s)) (sym named) ∙ e))
         (comes .leaves ∙ ap (stateAfter (view s)) e) (turns .bounded) told
@@ -210,16 +218,40 @@ module _ (monitored : Bool) (job t w : List ℕ) (ready : Loaded job t w) where
         never = λ h. none;
         going = λ h. u;
         ended = λ h x told.
-            over u (record { state = s; ending = x }) 0 (entry 0 0 0 0)
+            over u s x 0 (entry 0 0 0 0)
             (u .same ∙ behind-ended rule (turnsOf past) (u .done) k (view s) (omega (arith, prepares .turns)))
             refl (u .bounded) (told ∙ ap (answerAt k) none);
+      }
+
+  -- the snapshot shows what is declared
+  pub nodes-few : countIn t NODE ≤ 32
+  nodes-few = omega (arith, ready .stands .counts NODE (omega arith), limits past (valid .commands) .nodes)
+
+  pub variables-few : countIn t VAR ≤ 64
+  variables-few = omega (arith, ready .stands .counts VAR (omega arith), limits past (valid .commands) .variables)
+
+  shown-snapshot : (s : Meant) → shownBytes s (countIn t NODE) (countIn t VAR) ≡ snapshotBytes P s
+  unfolding snapshotBytes programOf
+  shown-snapshot s = rw (ready .stands .counts NODE (omega arith), ready .stands .counts VAR (omega arith))
+
+  -- the snapshot of the last state is written
+  pub runs-as :
+      (trace₀ trace₁ : List ℕ) (s : State) (x : Ending) → Over (runOf monitored past) trace₀ trace₁ s x
+      → (snapshot₀ snapshot₁ : List ℕ) (next : ℕ) → Writes (shownBytes (view s) (countIn t NODE) (countIn t VAR)) snapshot₀ 0 snapshot₁ next
+      → RunsAs P (runOf monitored past) trace₀ snapshot₀ trace₁ snapshot₁ x
+  runs-as trace₀ trace₁ s x o snapshot₀ snapshot₁ next shows =
+      record {
+        answer = o .answer;
+        trace = o .trace;
+        snapshot = shows .buffer ∙ placed-front snapshot₀ _
+            ∙ ap (λ (l : List ℕ). written l snapshot₀) (shown-snapshot (view s) ∙ ap (snapshotBytes P) (o .state));
       }
 
 -- the run is over at a stop
 pub halted :
     (monitored : Bool) (past : List Command) (before : List ℕ) (turns : ℕ) (trace : List ℕ) (s : State) (halt : Halt) (at k : ℕ)
     → length trace ≡ length before
-    → ((x : Ending) → answerOf x ≡ answerAt k halt → RunsAs (runOf monitored past) before trace (record { state = s; ending = x }))
+    → ((x : Ending) → answerOf x ≡ answerAt k halt → Over (runOf monitored past) before trace s x)
     → Reached monitored past before turns trace s halt k at k
 halted monitored past before turns trace s halt at k size r =
     record {

@@ -6,19 +6,16 @@ use mathlib.Core.List.{List}
 use lib.ListN.{length}
 use Rattle.model.specs.Command.{Command}
 use Rattle.model.specs.Declared.{turnsOf}
-use Rattle.model.specs.Program.{programOf}
+use Rattle.model.specs.Program.{Program, programOf}
 use Rattle.model.specs.State.{initialState}
 use Rattle.model.specs.Run.{Run, runFrom}
-use Rattle.model.specs.Output.{answerIn, traceIn}
+use Rattle.model.specs.Output.{answerIn, traceIn, snapshotBytes}
 use Rattle.model.specs.Refusal.{accepted, decodeJob, workSize}
 use Rattle.model.specs.Result.{written}
 use Rattle.handlers.specs.Loading.{loaded}
 use Rattle.tables.specs.Stands.{Stands}
-use Rattle.memory.specs.Queues.{BoundedCounts}
 use Rattle.entries.specs.Entries.{ruleOf}
-use Rattle.engine.specs.Engine.{view}
-use Rattle.output.specs.Written.{NarrowPositions}
-use Rattle.turns.specs.declared.Ran.{Ran}
+use Rattle.turns.specs.declared.ending.Ending.{Ending}
 use Rattle.turns.specs.Endings.{answerOf}
 
 -- the run of a job's commands, monitored ("watched") or not ("bare")
@@ -34,10 +31,8 @@ pub record Loaded (job t w : List ℕ) : Type 0 where
   pub long : workSize ≤ length before
   pub holds : w ≡ loaded before past
 
--- the code's run is the model's: how it ended, the trace, and the last state, of which the snapshot can be written
-pub record RunsAs (r : Run) (before after : List ℕ) (x : Ran) : Type 0 where
-  pub answer : answerOf (x .ending) ≡ answerIn r
-  pub trace : after ≡ written (traceIn r) before
-  pub state : view (x .state) ≡ r .final
-  pub bounded : BoundedCounts (x .state .waiting)
-  pub positions : NarrowPositions (x .state)
+-- the code's run of a program is the model's: how it ended, and what is in trace and snapshot buffer, before and after
+pub record RunsAs (P : Program) (r : Run) (trace₀ snapshot₀ trace₁ snapshot₁ : List ℕ) (x : Ending) : Type 0 where
+  pub answer : answerOf x ≡ answerIn r
+  pub trace : trace₁ ≡ written (traceIn r) trace₀
+  pub snapshot : snapshot₁ ≡ written (snapshotBytes P (r .final)) snapshot₀

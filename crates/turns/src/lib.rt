@@ -7,7 +7,8 @@ ghost use Prim.Native.Nat.{_*_, _≤_};
 ghost use lib.ListN.{length};
 ghost use Rattle.model.specs.Table.{TURN};
 ghost use Rattle.model.specs.Command.{Command};
-ghost use Rattle.model.specs.Refusal.{accepted, decodeJob};
+ghost use Rattle.model.specs.Program.{programOf};
+ghost use Rattle.model.specs.Refusal.{accepted, decodeJob, snapshotSize};
 ghost use Rattle.tables.specs.Tables.{countIn};
 ghost use Rattle.turns.specs.Runs.{Loaded, runOf, RunsAs};
 use command::bytes;
@@ -15,26 +16,29 @@ use declared::count_of;
 use ending::Ending;
 use ending::Halt;
 use ending::ending_of;
-use engine::State;
 use engine::start;
 use entries::Outcome;
 use handlers::fetch::fetch;
 use job::schedule::turn_at;
 use output::numbers::numbers_of;
+use output::snapshot::put_snapshot;
 use output::trace::put_entry;
 
-// A run that is over: its last state, and how it ended.
-pub struct Ran {
-    pub state: State,
-    pub ending: Ending,
-}
-
-// The run of an accepted job from the start to its last turn or a stop, its entries written to the trace.
-pub fn run_turns(job: &[u8], tables: &[u32], work: &[u8], trace: &mut [u8], monitored: bool) -> Ran
+// The run of an accepted job from the start to its last turn or a stop: how it ended, its entries in the trace, and the snapshot (01's
+// "picture") of its last state.
+pub fn run_turns(
+    job: &[u8],
+    tables: &[u32],
+    work: &[u8],
+    trace: &mut [u8],
+    snapshot: &mut [u8],
+    monitored: bool,
+) -> Ending
     requires { ⌜ Loaded (now job) (now tables) (now work) ⌝ }
-    requires { ⌜ 7 * countIn (now tables) TURN ≤ length (now trace) ⌝ }
+    requires { ⌜ (7 * countIn (now tables) TURN ≤ length (now trace)) × (snapshotSize ≤ length (now snapshot)) ⌝ }
     ensures { λ r. ⌜ ((past : List Command) → decodeJob (now (job .entry)) ≡ accepted past
-        → RunsAs (runOf monitored past) (now (trace .entry)) (now (trace .exit)) r) ⌝ }
+        → RunsAs (programOf past) (runOf monitored past) (now (trace .entry)) (now (snapshot .entry))
+        (now (trace .exit)) (now (snapshot .exit)) r) ⌝ }
 {
     let turns = count_of(tables, bytes::TURN);
     let mut s = start(tables);
@@ -60,8 +64,19 @@ pub fn run_turns(job: &[u8], tables: &[u32], work: &[u8], trace: &mut [u8], moni
             }
         }
     }
-    Ran {
-        state: s,
-        ending: ending_of(halt, k),
-    }
+    let ending = ending_of(halt, k);
+    let nodes = count_of(tables, bytes::NODE) as usize;
+    let variables = count_of(tables, bytes::VAR) as usize;
+    put_snapshot(
+        snapshot,
+        &s.position,
+        &s.accumulator,
+        &s.message,
+        &s.waiting,
+        &s.queue,
+        &s.variable,
+        nodes,
+        variables,
+    );
+    ending
 }

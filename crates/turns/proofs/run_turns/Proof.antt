@@ -7,21 +7,22 @@ use denote.Ref.{now}
 use borrow.Author.Needs.{needs}
 use Rattle.model.specs.Table.{TURN}
 use Rattle.model.specs.Command.{Command}
+use Rattle.model.specs.Program.{programOf}
 use Rattle.tables.specs.Tables.{countIn}
 use Rattle.output.specs.Written.{entryWith, Narrow}
 use Rattle.turns.specs.Runs.{Loaded, runOf, RunsAs}
 use Rattle.turns.proofs.Running.{Reached, underway-none, node-inside, turns-few, made-narrow, underway-next}
 use Rattle.turns.proofs.Running.{underway-stopped}
-use Rattle.turns.proofs.Running.{reached, halted}
+use Rattle.turns.proofs.Running.{reached, halted, nodes-few, variables-few, runs-as}
 use Rattle.turns.proofs.run_turns.Statement.{statement}
 use Rattle.turns.proofs.run_turns.Tie as tie
 
 abbrev Inv-loop : tie.InvT-loop
-Inv-loop job t work trace₀ monitored turns s₀ halt₀ last₀ at₀ k₀ trace s halt last at k =
+Inv-loop job t work trace₀ snapshot monitored turns s₀ halt₀ last₀ at₀ k₀ trace s halt last at k =
     (ready : Loaded job t work) → Reached monitored (ready .past) trace₀ turns trace s halt last at k
 
 abbrev μ-loop : tie.MeasureT-loop
-μ-loop job t work trace₀ monitored turns s₀ halt₀ last₀ at₀ k₀ trace s halt last at k = last - k
+μ-loop job t work trace₀ snapshot monitored turns s₀ halt₀ last₀ at₀ k₀ trace s halt last at k = last - k
 
 count-of-requires : tie.Need-count-of-requires Inv-loop μ-loop
 count-of-requires c κs = search needs
@@ -31,7 +32,7 @@ start-requires c κs = search needs
 
 loop-holds : tie.Need-loop-holds Inv-loop μ-loop
 loop-holds c =
-    let a = c .before .before .before .before .before .before .args in
+    let a = c .before .before .before .before .before .before .before .args in
     λ ready.
     reached (a .monitored) (now (a .job)) (now (a .tables)) (now (a .work)) ready _ _ _ 0 0 _ _ refl (c .before .count-of .ensures)
     (omega arith)
@@ -48,9 +49,9 @@ mul-fetch c = search needs
 
 element-copy-out-fetch : tie.Need-element-copy-out-fetch Inv-loop μ-loop
 element-copy-out-fetch c =
-    let p10 = c .before .before .before .before .before .before .before .before .before .before in
-    let a = p10 .args in
-    let ready = p10 .pre .0 in
+    let p11 = c .before .before .before .before .before .before .before .before .before .before .before in
+    let a = p11 .args in
+    let ready = p11 .pre .0 in
     let l = c .before .before .before .loop in
     let h : l .k < l .last = omega (arith, c .before .before .loop-test .taken) in
     omega (
@@ -66,9 +67,9 @@ fetch-requires c κs = search needs
 turn-requires : tie.Need-turn-requires Inv-loop μ-loop
 turn-requires c κs =
     let p7 = c .before .before .before .before .before .before .before in
-    let p12 = p7 .before .before .before .before .before in
-    let a = p12 .args in
-    let ready = p12 .pre .0 in
+    let p13 = p7 .before .before .before .before .before .before in
+    let a = p13 .args in
+    let ready = p13 .pre .0 in
     let l = c .before .before .before .before .before .loop in
     let h : l .k < l .last = omega (arith, c .before .before .before .before .loop-test .taken) in
     let inside = node-inside (a .monitored) (now (a .job)) (now (a .tables)) (now (a .work)) ready (l .k)
@@ -89,14 +90,14 @@ put-entry-requires c κs =
     let p11 = p10 .before in
     let p12 = p11 .before in
     let p14 = p12 .before .before in
-    let p19 = p14 .before .before .before .before .before in
-    let a = p19 .args in
-    let ready = p19 .pre .0 in
+    let p20 = p14 .before .before .before .before .before .before in
+    let a = p20 .args in
+    let ready = p20 .pre .0 in
     let l = p12 .loop in
     let h : l .k < l .last = omega (arith, p11 .loop-test .taken) in
     let u = l .inv ready .going h in
     let more : l .k < countIn (now (a .tables)) TURN = omega (arith, h, l .inv ready .all h, p14 .count-of .ensures) in (
-      omega (arith, more, u .place, u .size, p19 .pre .1),
+      omega (arith, more, u .place, u .size, p20 .pre .1 .0),
       subst Narrow (sym (c .numbers-of .ensures))
           (made-narrow (a .monitored) (now (a .job)) (now (a .tables)) (now (a .work)) ready _ (l .s) (l .trace) (l .at) (l .k) u more _
           (p10 .turn-at .ensures) (p7 .fetch .result) (p7 .fetch .ensures .0) (p6 .turn .result) (p6 .turn .ensures) _
@@ -108,9 +109,9 @@ add-k c =
     let p14 = c .before .before .before .before .before .before .before .before .before .before .before .before .before .before in
     let p15 = p14 .before in
     let p17 = p15 .before .before in
-    let p22 = p17 .before .before .before .before .before in
-    let a = p22 .args in
-    let ready = p22 .pre .0 in
+    let p23 = p17 .before .before .before .before .before .before in
+    let a = p23 .args in
+    let ready = p23 .pre .0 in
     let l = p15 .loop in
     let h : l .k < l .last = omega (arith, p14 .loop-test .taken) in
     omega (
@@ -134,8 +135,8 @@ loop-again c =
     let p14 = p13 .before in
     let p15 = p14 .before in
     let p17 = p15 .before .before in
-    let p22 = p17 .before .before .before .before .before in
-    let a = p22 .args in
+    let p23 = p17 .before .before .before .before .before .before in
+    let a = p23 .args in
     let l = p15 .loop in
     let h : l .k < l .last = omega (arith, p14 .loop-test .taken) in
     let counted = p17 .count-of .ensures in
@@ -147,7 +148,7 @@ loop-again c =
     (underway-next (a .monitored) (now (a .job)) (now (a .tables)) (now (a .work)) ready _ (l .s) (l .trace) (l .at) (l .k)
     (r .going h) more _ (p13 .turn-at .ensures)
     (p10 .fetch .result) (p10 .fetch .ensures .0) (p9 .turn .result) (p9 .turn .ensures) _ (p6 .outcome .given .1)
-    (entryWith (c .before .before .before .numbers-of .result)) (c .before .before .before .numbers-of .ensures) _ _ (p22 .pre .1)
+    (entryWith (c .before .before .before .numbers-of .result)) (c .before .before .before .numbers-of .ensures) _ _ (p23 .pre .1 .0)
     (search needs) (c .before .before .put-entry .ensures)) _ (r .never h)
 
 enum-known-outcome-2 : tie.Need-enum-known-outcome-2 Inv-loop μ-loop
@@ -162,8 +163,8 @@ loop-again-2 c =
     let p9 = p8 .before in
     let p10 = p9 .before in
     let p12 = p10 .before .before in
-    let p17 = p12 .before .before .before .before .before in
-    let a = p17 .args in
+    let p18 = p12 .before .before .before .before .before .before in
+    let a = p18 .args in
     let l = p10 .loop in
     let h : l .k < l .last = omega (arith, p9 .loop-test .taken) in
     λ ready.
@@ -179,19 +180,56 @@ loop-again-2 c =
 ending-of-requires : tie.Need-ending-of-requires Inv-loop μ-loop
 ending-of-requires c κs = search needs
 
+count-of-requires-2 : tie.Need-count-of-requires-2 Inv-loop μ-loop
+count-of-requires-2 c κs = search needs
+
+cast-nodes : tie.Need-cast-nodes Inv-loop μ-loop
+cast-nodes c = search needs
+
+count-of-requires-3 : tie.Need-count-of-requires-3 Inv-loop μ-loop
+count-of-requires-3 c κs = search needs
+
+cast-variables : tie.Need-cast-variables Inv-loop μ-loop
+cast-variables c = search needs
+
+put-snapshot-requires : tie.Need-put-snapshot-requires Inv-loop μ-loop
+put-snapshot-requires c κs =
+    let p10 = c .before .before .before .before .before .before .before .before .before .before in
+    let p12 = p10 .before .before in
+    let z = p12 .before .before .before .before .before .before .before .before in
+    let a = z .args in
+    let ready = z .pre .0 in
+    let l = p12 .loop in
+    let o = l .inv ready .ended (omega (arith, p10 .before .loop-test .left)) _ (p10 .ending-of .ensures) in (
+      (
+        z .pre .1 .1,
+        omega (arith, c .before .before .before .before .before .before .before .before .before .count-of2 .ensures, nodes-few (a .monitored) (now (a .job)) (now (a .tables)) (now (a .work)) ready),
+        omega (arith, c .before .before .before .before .before .before .before .before .count-of3 .ensures, variables-few (a .monitored) (now (a .job)) (now (a .tables)) (now (a .work)) ready),
+      ),
+      (o .bounded, o .positions),
+    )
+
 same-length : tie.Need-same-length Inv-loop μ-loop
-same-length c = c .before .before .loop .inv (c .before .before .before .before .before .before .before .before .before .pre .0) .size
+same-length c = c .before .before .before .before .before .before .before .before .before .before .before .before .before .before .before .loop .inv (c .before .before .before .before .before .before .before .before .before .before .before .before .before .before .before .before .before .before .before .before .before .before .before .pre .0) .size
+
+same-length-2 : tie.Need-same-length-2 Inv-loop μ-loop
+same-length-2 c = search needs
 
 returns : tie.Need-returns Inv-loop μ-loop
 returns c past e =
-    let a = c .before .before .before .before .before .before .before .before .before .args in
-    let ready = c .before .before .before .before .before .before .before .before .before .pre .0 in
-    let l = c .before .before .loop in
+    let p13 = c .before .before .before .before .before .before .before .before .before .before .before .before .before in
+    let p15 = p13 .before .before in
+    let z = p15 .before .before .before .before .before .before .before .before in
+    let a = z .args in
+    let ready = z .pre .0 in
+    let l = p15 .loop in
     let d = ready .decoded in
     let same : ready .past ≡ past = cc in
-    subst (λ (x : List Command). RunsAs (runOf (a .monitored) x) (now (a .trace)) (l .trace)
-    (record { state = l .s; ending = c .ending-of .result })) same
-    (l .inv ready .ended (omega (arith, c .before .loop-test .left)) _ (c .ending-of .ensures))
+    subst (λ (x : List Command). RunsAs (programOf x) (runOf (a .monitored) x) (now (a .trace)) (now (a .snapshot)) (l .trace)
+    (c .before .before .put-snapshot .last .0) (p13 .ending-of .result)) same
+    (runs-as (a .monitored) (now (a .job)) (now (a .tables)) (now (a .work)) ready _ _ (l .s) _
+    (l .inv ready .ended (omega (arith, p13 .before .loop-test .left)) _ (p13 .ending-of .ensures)) _ _ _
+    (rw (c .before .before .before .before .before .before .before .before .before .before .before .before .count-of2 .ensures, c .before .before .before .before .before .before .before .before .before .before .before .count-of3 .ensures) at (c .before .before .put-snapshot .ensures)))
 
 pub run-turns-spec : {M : Type 1} → statement M
 run-turns-spec =
@@ -218,5 +256,11 @@ run-turns-spec =
     loop-less-2
     loop-again-2
     ending-of-requires
+    count-of-requires-2
+    cast-nodes
+    count-of-requires-3
+    cast-variables
+    put-snapshot-requires
     same-length
+    same-length-2
     returns)
