@@ -36,16 +36,17 @@ module _ (p a m w q v : List ℕ) (n : ℕ) (narrow : getD p n 0 < 256) (few : g
       (getD p n 0 % 256 ∷ []) ++ bytes4 (getD a n 0) ++ bytes4 (getD m n 0) ++ (getD w n 0 ∷ [])
       ++ numbersBytes (take (getD w n 0) (drop (n * 16) q))
 
+  all-there : length (take (getD w n 0) (drop (n * 16) q)) ≡ getD w n 0
+  all-there = length-take-le (getD w n 0) (drop (n * 16) q) (omega (arith, length-drop (n * 16) q))
+
   pub length-messages : length (numbersBytes (take (getD w n 0) (drop (n * 16) q))) ≡ 4 * getD w n 0
-  length-messages =
-      length-numbers (take (getD w n 0) (drop (n * 16) q)) ∙ ap (λ (k : ℕ). 4 * k)
-      (length-take-le (getD w n 0) (drop (n * 16) q) (omega (arith, length-drop (n * 16) q)))
+  length-messages = length-numbers (take (getD w n 0) (drop (n * 16) q)) ∙ ap (λ (k : ℕ). 4 * k) all-there
 
   messages : queueAt s n ≡ take (getD w n 0) (drop (n * 16) q)
   messages = let e : n * 16 ≡ 16 * n = omega arith in rw (queue-at w q n, e)
 
   waits : waitingAt s n ≡ getD w n 0
-  waits = ap length messages ∙ length-take-le (getD w n 0) (drop (n * 16) q) (omega (arith, length-drop (n * 16) q))
+  waits = ap length messages ∙ all-there
 
   part-node : nodeBytes s n ≡ part
   part-node = rw (mod-eq-of-lt narrow, waits, messages)

@@ -194,30 +194,36 @@ cast-variables c = search needs
 
 put-snapshot-requires : tie.Need-put-snapshot-requires Inv-loop μ-loop
 put-snapshot-requires c κs =
-    let p10 = c .before .before .before .before .before .before .before .before .before .before in
+    let p8 = c .before .before .before .before .before .before .before .before in
+    let p9 = p8 .before in
+    let p10 = p9 .before in
     let p12 = p10 .before .before in
     let z = p12 .before .before .before .before .before .before .before .before in
     let a = z .args in
     let ready = z .pre .0 in
-    let l = p12 .loop in
-    let o = l .inv ready .ended (omega (arith, p10 .before .loop-test .left)) _ (p10 .ending-of .ensures) in (
+    let o = p12 .loop .inv ready .ended (omega (arith, p10 .before .loop-test .left)) _ (p10 .ending-of .ensures) in (
       (
         z .pre .1 .1,
-        omega (arith, c .before .before .before .before .before .before .before .before .before .count-of2 .ensures, nodes-few (a .monitored) (now (a .job)) (now (a .tables)) (now (a .work)) ready),
-        omega (arith, c .before .before .before .before .before .before .before .before .count-of3 .ensures, variables-few (a .monitored) (now (a .job)) (now (a .tables)) (now (a .work)) ready),
+        omega (arith, p9 .count-of2 .ensures, nodes-few (a .monitored) (now (a .job)) (now (a .tables)) (now (a .work)) ready),
+        omega (arith, p8 .count-of3 .ensures, variables-few (a .monitored) (now (a .job)) (now (a .tables)) (now (a .work)) ready),
       ),
       (o .bounded, o .positions),
     )
 
 same-length : tie.Need-same-length Inv-loop μ-loop
-same-length c = c .before .before .before .before .before .before .before .before .before .before .before .before .before .before .before .loop .inv (c .before .before .before .before .before .before .before .before .before .before .before .before .before .before .before .before .before .before .before .before .before .before .before .pre .0) .size
+same-length c =
+    let p15 = c .before .before .before .before .before .before .before .before .before .before .before .before .before .before .before in
+    let z = p15 .before .before .before .before .before .before .before .before in
+    p15 .loop .inv (z .pre .0) .size
 
 same-length-2 : tie.Need-same-length-2 Inv-loop μ-loop
 same-length-2 c = search needs
 
 returns : tie.Need-returns Inv-loop μ-loop
 returns c past e =
-    let p13 = c .before .before .before .before .before .before .before .before .before .before .before .before .before in
+    let p11 = c .before .before .before .before .before .before .before .before .before .before .before in
+    let p12 = p11 .before in
+    let p13 = p12 .before in
     let p15 = p13 .before .before in
     let z = p15 .before .before .before .before .before .before .before .before in
     let a = z .args in
@@ -229,7 +235,7 @@ returns c past e =
     (c .before .before .put-snapshot .last .0) (p13 .ending-of .result)) same
     (runs-as (a .monitored) (now (a .job)) (now (a .tables)) (now (a .work)) ready _ _ (l .s) _
     (l .inv ready .ended (omega (arith, p13 .before .loop-test .left)) _ (p13 .ending-of .ensures)) _ _ _
-    (rw (c .before .before .before .before .before .before .before .before .before .before .before .before .count-of2 .ensures, c .before .before .before .before .before .before .before .before .before .before .before .count-of3 .ensures) at (c .before .before .put-snapshot .ensures)))
+    (rw (p12 .count-of2 .ensures, p11 .count-of3 .ensures) at (c .before .before .put-snapshot .ensures)))
 
 pub run-turns-spec : {M : Type 1} → statement M
 run-turns-spec =

@@ -46,11 +46,11 @@ slice-aggregate-put c = search needs
 
 put-requires : tie.Need-put-requires
 put-requires c κs =
-    let z = c .before .before .before .before .before .before .before .before .args in
-    word-room (now (z .snapshot)) (z .place) (z .n) (c .before .before .before .before .before .before .before .before .pre .0) _ _ _ _ (c .before .before .before .before .before .operand .ensures)
+    let p8 = c .before .before .before .before .before .before .before .before in
+    let z = p8 .args in
+    word-room (now (z .snapshot)) (z .place) (z .n) (p8 .pre .0) _ _ _ _ (c .before .before .before .before .before .operand .ensures)
     (c .before .before .before .before .operand2 .ensures) (c .before .before .before .operand3 .ensures)
-    (c .before .before .operand4 .ensures) (now (z .text)) (z .at)
-    (c .before .before .before .before .before .before .before .before .pre .1 .1)
+    (c .before .before .operand4 .ensures) (now (z .text)) (z .at) (p8 .pre .1 .1)
 
 slice-aggregate-put-fields : tie.Need-slice-aggregate-put-fields
 slice-aggregate-put-fields c = search needs
@@ -63,7 +63,8 @@ put-fields-requires c κs =
     let p10 = p9 .before in
     let p13 = p10 .before .before .before in
     let z = p13 .args in
-    five-room (now (z .snapshot)) (z .place) (z .n) (p13 .pre .0) _ _ _ _ (p10 .operand .ensures) (p9 .operand2 .ensures) (p8 .operand3 .ensures)
+    five-room (now (z .snapshot)) (z .place) (z .n) (p13 .pre .0) _ _ _ _
+    (p10 .operand .ensures) (p9 .operand2 .ensures) (p8 .operand3 .ensures)
     (p7 .operand4 .ensures) (now (z .text)) (z .at) (p13 .pre .1 .1) _ _ (c .before .before .before .before .put .ensures)
 
 add-put-messages : tie.Need-add-put-messages
@@ -97,7 +98,8 @@ put-byte-requires c κs =
     let p18 = p17 .before in
     let p21 = p18 .before .before .before in
     let z = p21 .args in
-    end-room (now (z .snapshot)) (z .place) (z .n) (p21 .pre .0) _ _ _ _ (p18 .operand .ensures) (p17 .operand2 .ensures) (p16 .operand3 .ensures)
+    end-room (now (z .snapshot)) (z .place) (z .n) (p21 .pre .0) _ _ _ _
+    (p18 .operand .ensures) (p17 .operand2 .ensures) (p16 .operand3 .ensures)
     (p15 .operand4 .ensures) (now (z .text)) (z .at) (p21 .pre .1 .1) _ _ (p12 .put .ensures) _ _ (p7 .put-fields .ensures) _ _
     (c .before .before .before .put-messages .ensures)
 
@@ -115,7 +117,8 @@ returns c =
     let p21 = p20 .before in
     let p24 = p21 .before .before .before in
     let z = p24 .args in
-    node-put (now (z .snapshot)) (z .place) (z .n) (p24 .pre .0) _ _ _ _ (p21 .operand .ensures) (p20 .operand2 .ensures) (p19 .operand3 .ensures)
+    node-put (now (z .snapshot)) (z .place) (z .n) (p24 .pre .0) _ _ _ _
+    (p21 .operand .ensures) (p20 .operand2 .ensures) (p19 .operand3 .ensures)
     (p18 .operand4 .ensures) (now (z .text)) (z .at) (p24 .pre .1 .1) _ _ (p15 .put .ensures) _ _ (p10 .put-fields .ensures) _ _
     (p6 .put-messages .ensures) _ _ (c .before .before .put-byte .ensures)
 
