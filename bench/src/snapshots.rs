@@ -1,5 +1,5 @@
-//! Jobs for what it takes to write a snapshot (01: end picture), and runs that can be told apart in a trace of
-//! instructions: of 1 to 32 nodes, whose queues are all empty or all full.
+//! Jobs of 1 to 32 nodes, whose queues end all empty or all full, for what it takes to write a snapshot (01: end picture);
+//! and runs of them that are marked in a trace of instructions.
 
 use std::hint::black_box;
 use std::sync::atomic::{AtomicU8, Ordering::Relaxed};

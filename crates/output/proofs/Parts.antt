@@ -69,7 +69,7 @@ pub none-shown : (s : State) (before : List ℕ) → Shown s before 0 before 0
 unfolding nodesBytes
 none-shown s before = record { parts = writes-nothing before 0; place = refl; short = omega arith; size = refl }
 
--- no more messages wait than the counts say
+-- where the counts are bounded, so are the queues of the model's state
 pub view-bounded : (p a m w q v : List ℕ) → BoundedCounts w → Bounded (viewOf p a m w q v)
 view-bounded p a m w q v bounded n =
     omega (arith, ap length (queue-at w q n), length-take (getD w n 0) (drop (16 * n) q), bounded n)

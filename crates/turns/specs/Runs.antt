@@ -31,7 +31,7 @@ pub record Loaded (job t w : List ℕ) : Type 0 where
   pub long : workSize ≤ length before
   pub holds : w ≡ loaded before past
 
--- the code's run of a program is the model's: how it ended, and what is in trace and snapshot buffer, before and after
+-- the code's run of a program is the model's: how it ended, and what trace and snapshot buffer hold afterwards, by what they held before
 pub record RunsAs (P : Program) (r : Run) (trace₀ snapshot₀ trace₁ snapshot₁ : List ℕ) (x : Ending) : Type 0 where
   pub answer : answerOf x ≡ answerIn r
   pub trace : trace₁ ≡ written (traceIn r) trace₀
