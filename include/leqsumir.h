@@ -1,8 +1,8 @@
 /* Running a job, monitored or not: the C functions of the static library librun.a.
  *
- * Document 01, with requests S-1, S-5, S-7 and S-9 of document 02, says what a job is, what a run does and when a job is refused.
+ * Document 01, with requests S-1, S-5, S-7, S-9 and S-11 of document 02, says what a job is, what a run does and when a job is refused.
  * "Monitored" is 01's "watched", "unmonitored" its "bare", "snapshot" its "end picture". Both functions are proved to do what the
- * definitions of 01, S-1, S-5, S-7 and S-9 say, for any bytes and any lengths. */
+ * definitions of 01, S-1, S-5, S-7, S-9 and S-11 say, for any bytes and any lengths. */
 #ifndef LEQSUMIR_H
 #define LEQSUMIR_H
 
@@ -17,14 +17,14 @@ extern "C" {
 #define LEQSUMIR_JOB_BYTES 16384     /* the longest job that is accepted */
 #define LEQSUMIR_ENTRY_BYTES 7       /* an entry: node 1 byte, kind 1, number 1, value 4, lowest first */
 #define LEQSUMIR_TRACE_BYTES 28672   /* 4,096 turns of 7 bytes */
-#define LEQSUMIR_SNAPSHOT_BYTES 2624 /* asked of every job; the snapshot is 01's "end picture" */
+#define LEQSUMIR_SNAPSHOT_BYTES 3136 /* asked of every job; the snapshot is 01's "end picture" */
 #define LEQSUMIR_WORK_BYTES 4096     /* asked of every job: 2 bytes for each of 64 handler commands of 32 nodes */
 
 /* What a caller must have:
  *
  *   job       the job's bytes, at most 16,384; the turns read the handler commands there, so nothing may write them during the call
  *   trace     7 bytes for each TURN of the job, at most 28,672
- *   snapshot  2,624 bytes
+ *   snapshot  3,136 bytes
  *   work      4,096 bytes
  *   answer    64 bytes
  *   stack     a call takes less than 20,000 bytes of stack; 16,960 were measured, on x86-64, with less than 300 of the caller. The tables
@@ -57,9 +57,10 @@ enum {
 /* Runs a job and stops before the first turn whose entry its lists do not permit.
  *
  *   job, job_len            the job's bytes; only read
- *   trace, trace_len        gets 7 bytes for each completed turn
+ *   trace, trace_len        gets 7 bytes for each completed turn; the number of kind 1, a message taken, is its sender, 255 for START
  *   snapshot, snapshot_len  gets the state that the run left: each node in order with position (1 byte, 255 idle), accumulator (4),
- *                           message (4), waiting count (1), waiting messages, oldest first (4 each); then each variable (4)
+ *                           message (4), waiting count (1), waiting messages, oldest first, each with its sender's node number behind
+ *                           it (4 and 1; the sender is 255 for START); then each variable (4)
  *   work, work_len          during the run, for each handler command, its place in the job; after a run its first 4,096 bytes are 0
  *   answer                  gets the eight numbers: for a refusal the last six are 0, for a run the first two
  *

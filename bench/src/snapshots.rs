@@ -51,10 +51,10 @@ pub fn jobs() -> impl Iterator<Item = Vec<u8>> {
     Queues::ALL.into_iter().flat_map(|(_, queues)| NODES.map(|nodes| job(nodes, queues)))
 }
 
-/// The bytes of the snapshot that the run of such a job leaves.
+/// The bytes of the snapshot that the run of such a job leaves: 10 for a node, 4 for a waiting message and 1 for its sender.
 pub fn bytes(nodes: u32, queues: Queues) -> usize {
     let messages = if queues == Queues::Full { QUEUE_CAPACITY } else { 0 };
-    nodes as usize * (10 + 4 * messages)
+    nodes as usize * (10 + 5 * messages)
 }
 
 /// Written before and after a run.

@@ -27,7 +27,7 @@ fn queues_are_empty_or_full() {
             assert_eq!(bytes_left.len(), bytes(nodes, queues), "{nodes} {word}");
         }
     }
-    assert_eq!((bytes(32, Queues::Empty), bytes(32, Queues::Full)), (320, 2_368));
+    assert_eq!((bytes(32, Queues::Empty), bytes(32, Queues::Full)), (320, 2_880));
 }
 
 const TRACE: &str = "==1== Lackey

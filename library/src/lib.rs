@@ -1,7 +1,7 @@
 //! Running a job, monitored or not, from Rust: the functions of the proved static library librun.a.
 //!
-//! Document 01, with requests S-1, S-5, S-7 and S-9 of document 02, says what a job is, what a run does and when a
-//! job is refused; `include/leqsumir.h` says what the functions promise. The lengths below are enough for
+//! Document 01, with requests S-1, S-5, S-7, S-9 and S-11 of document 02, says what a job is, what a run does and
+//! when a job is refused; `include/leqsumir.h` says what the functions promise. The lengths below are enough for
 //! every job.
 
 /// The longest job that is accepted.
@@ -13,8 +13,9 @@ pub const ENTRY_BYTES: usize = 7;
 /// 4,096 entries. A trace needs only an entry for each TURN of its job.
 pub const TRACE_BYTES: usize = 28_672;
 
-/// Asked of every job. The snapshot is 01's "end picture".
-pub const SNAPSHOT_BYTES: usize = 2_624;
+/// Asked of every job: the longest snapshot, of 32 nodes with 16 waiting messages and their senders, and 64 variables.
+/// The snapshot is 01's "end picture".
+pub const SNAPSHOT_BYTES: usize = 3_136;
 
 /// Asked of every job: two bytes for each of 64 handler commands of 32 nodes.
 pub const WORK_BYTES: usize = 4_096;

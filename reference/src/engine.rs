@@ -2,7 +2,7 @@
 
 use crate::outcome::{kind, stop, Entry, Mode};
 use crate::program::{Instruction, Program, Reference};
-use crate::state::{NodeState, State, IDLE};
+use crate::state::{Message, NodeState, State, IDLE};
 
 /// Why a turn was not completed, and the entry it attempted.
 #[derive(Clone, Copy, Debug, PartialEq, Eq)]
@@ -57,14 +57,14 @@ impl Turn<'_> {
 
     #[inline]
     fn begin(&mut self) -> Result<Entry, Halt> {
-        let Some(message) = self.state.pop(self.node) else {
+        let Some(Message { value, sender }) = self.state.pop(self.node) else {
             return Err(Halt { stop: stop::NOT_READY, attempted: self.plain(0) });
         };
         let own = self.own();
         own.position = 0;
         own.accumulator = 0;
-        own.message = message;
-        Ok(Entry { value: message, ..self.plain(kind::BEGIN) })
+        own.message = value;
+        Ok(Entry { node: self.node, kind: kind::BEGIN, number: sender, value })
     }
 
     #[inline]
@@ -164,7 +164,7 @@ impl Turn<'_> {
             return Err(Halt { stop: stop::QUEUE_FULL, attempted: entry });
         }
         for target in members(targets) {
-            self.state.push(target, value);
+            self.state.push(target, Message { value, sender: self.node });
         }
         Ok(entry)
     }

@@ -7,7 +7,7 @@ use crate::state::State;
 /// Bytes of a trace entry: node 1, kind 1, number 1, value 4.
 pub const ENTRY_BYTES: usize = 7;
 /// The longest snapshot: 32 nodes with full queues and 64 variables.
-pub const SNAPSHOT_BYTES: usize = 2_624;
+pub const SNAPSHOT_BYTES: usize = 3_136;
 /// What a run asks of the work buffer, and clears: two bytes for each of 64 commands of 32 nodes.
 pub const WORK_BYTES: usize = 4_096;
 
@@ -49,7 +49,8 @@ pub fn write_snapshot(program: &Program, state: &State, buffer: &mut [u8]) -> us
         writer.number(own.message);
         writer.byte(state.waiting(node) as u8);
         for message in state.messages(node) {
-            writer.number(message);
+            writer.number(message.value);
+            writer.byte(message.sender);
         }
     }
     for &value in &state.variables[..program.variables.len()] {
@@ -63,7 +64,7 @@ pub fn snapshot_length(program: &Program, bytes: &[u8]) -> usize {
     let mut length = 0;
     for _ in &program.nodes {
         let waiting = usize::from(bytes[length + 9]);
-        length += 10 + 4 * waiting;
+        length += 10 + 5 * waiting;
     }
     length + 4 * program.variables.len()
 }

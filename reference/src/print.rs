@@ -68,7 +68,8 @@ fn push_snapshot(text: &mut String, program: &Program, snapshot: &[u8]) {
         let waiting = reader.byte();
         let _ = write!(text, "node {node} {position} {accumulator} {message} {waiting}");
         for _ in 0..waiting {
-            let _ = write!(text, " {}", reader.number());
+            let (value, sender) = (reader.number(), reader.byte());
+            let _ = write!(text, " {value} {sender}");
         }
         text.push('\n');
     }

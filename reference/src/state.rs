@@ -5,6 +5,15 @@ use crate::table::{MAX_NODES, MAX_VARIABLES, QUEUE_CAPACITY};
 
 /// Position of an idle node.
 pub const IDLE: u8 = 255;
+/// Sender of the messages of START.
+pub const FROM_START: u8 = 255;
+
+/// A waiting message: its value and the number of the node that sent it.
+#[derive(Clone, Copy, Debug, Default, PartialEq, Eq)]
+pub struct Message {
+    pub value: u32,
+    pub sender: u8,
+}
 
 #[derive(Clone, Copy, Debug)]
 pub struct NodeState {
@@ -14,7 +23,7 @@ pub struct NodeState {
     waiting: u8,
     /// The node's working value. 01: hand.
     pub accumulator: u32,
-    /// The message being handled.
+    /// The value of the message being handled.
     pub message: u32,
 }
 
@@ -23,7 +32,7 @@ pub struct State {
     pub nodes: [NodeState; MAX_NODES],
     pub variables: [u32; MAX_VARIABLES],
     /// One ring of 16 slots a node.
-    queues: [u32; MAX_NODES * QUEUE_CAPACITY],
+    queues: [Message; MAX_NODES * QUEUE_CAPACITY],
 }
 
 impl State {
@@ -33,13 +42,13 @@ impl State {
         let mut state = State {
             nodes: [idle; MAX_NODES],
             variables: [0; MAX_VARIABLES],
-            queues: [0; MAX_NODES * QUEUE_CAPACITY],
+            queues: [Message::default(); MAX_NODES * QUEUE_CAPACITY],
         };
         for (value, variable) in state.variables.iter_mut().zip(&program.variables) {
             *value = variable.start;
         }
         for &(node, value) in &program.starts {
-            state.push(node, value);
+            state.push(node, Message { value, sender: FROM_START });
         }
         state
     }
@@ -60,26 +69,26 @@ impl State {
     }
 
     /// Puts a message at the back of a queue that is not full.
-    pub fn push(&mut self, node: u8, value: u32) {
+    pub fn push(&mut self, node: u8, message: Message) {
         let slot = self.slot(node, self.waiting(node));
-        self.queues[slot] = value;
+        self.queues[slot] = message;
         self.nodes[usize::from(node)].waiting += 1;
     }
 
     /// Takes the oldest message.
-    pub fn pop(&mut self, node: u8) -> Option<u32> {
+    pub fn pop(&mut self, node: u8) -> Option<Message> {
         if self.waiting(node) == 0 {
             return None;
         }
-        let value = self.queues[self.slot(node, 0)];
+        let message = self.queues[self.slot(node, 0)];
         let node = &mut self.nodes[usize::from(node)];
         node.head = (node.head + 1) % QUEUE_CAPACITY as u8;
         node.waiting -= 1;
-        Some(value)
+        Some(message)
     }
 
     /// The waiting messages, oldest first.
-    pub fn messages(&self, node: u8) -> impl Iterator<Item = u32> + '_ {
+    pub fn messages(&self, node: u8) -> impl Iterator<Item = Message> + '_ {
         (0..self.waiting(node)).map(move |age| self.queues[self.slot(node, age)])
     }
 

@@ -10,7 +10,7 @@ use flow_reference::output::snapshot_length;
 use flow_reference::{decode, Mode, Outcome, Refusal};
 
 /// K1 has 9 turns and 65 bytes.
-const EXACT: [usize; 3] = [63, 2_624, 4_096];
+const EXACT: [usize; 3] = [63, 3_136, 4_096];
 
 fn refusal(job: &[u8], lengths: [usize; 3]) -> Option<(u8, usize)> {
     match run_dirty(job, Mode::Monitored, lengths, 0).outcome {
@@ -24,31 +24,31 @@ fn short_exact_and_longer() {
     let job = k1();
     assert_eq!(refusal(&job, EXACT), None);
     assert_eq!(refusal(&job, EXACT.map(|length| length + 1)), None);
-    assert_eq!(refusal(&job, [62, 2_624, 4_096]), Some((10, 65)));
-    assert_eq!(refusal(&job, [63, 2_623, 4_096]), Some((11, 65)));
-    assert_eq!(refusal(&job, [63, 2_624, 4_095]), Some((12, 65)));
+    assert_eq!(refusal(&job, [62, 3_136, 4_096]), Some((10, 65)));
+    assert_eq!(refusal(&job, [63, 3_135, 4_096]), Some((11, 65)));
+    assert_eq!(refusal(&job, [63, 3_136, 4_095]), Some((12, 65)));
 }
 
 #[test]
 fn refusals_by_number() {
     let job = k1();
-    assert_eq!(refusal(&job, [62, 2_623, 4_095]), Some((10, 65)));
+    assert_eq!(refusal(&job, [62, 3_135, 4_095]), Some((10, 65)));
     assert_eq!(refusal(&job, [0, 0, 0]), Some((10, 65)));
     assert_eq!(refusal(&job, [63, 0, 0]), Some((11, 65)));
     // The job's own refusals come first.
     assert_eq!(refusal(&bytes("02"), [0, 0, 0]), Some((6, 0)));
     assert_eq!(refusal(&bytes("01 02 40 00 48 02"), [0, 0, 0]), Some((9, 4)));
     // No turns, no trace; the other two are always asked for in full.
-    assert_eq!(refusal(&bytes("01"), [0, 2_624, 4_096]), None);
-    assert_eq!(refusal(&bytes("01"), [0, 2_623, 4_096]), Some((11, 1)));
-    assert_eq!(refusal(&bytes("01"), [0, 2_624, 4_095]), Some((12, 1)));
+    assert_eq!(refusal(&bytes("01"), [0, 3_136, 4_096]), None);
+    assert_eq!(refusal(&bytes("01"), [0, 3_135, 4_096]), Some((11, 1)));
+    assert_eq!(refusal(&bytes("01"), [0, 3_136, 4_095]), Some((12, 1)));
 }
 
 #[test]
 fn trace_and_snapshot_bytes_of_k1() {
     let ran = run_dirty(&k1(), Mode::Monitored, EXACT, 0xA5);
     let trace = bytes(
-        "00 01 00 02 00 00 00  00 00 00 00 00 00 00  00 03 00 05 00 00 00  00 06 00 07 00 00 00
+        "00 01 FF 02 00 00 00  00 00 00 00 00 00 00  00 03 00 05 00 00 00  00 06 00 07 00 00 00
          00 02 00 00 00 00 00  01 01 00 07 00 00 00  01 00 00 00 00 00 00  01 05 00 07 00 00 00
          01 02 00 00 00 00 00",
     );
@@ -72,12 +72,17 @@ fn longest_snapshot() {
     }
     (0..8).for_each(|flow| job.extend([0x50, flow * 4, 1, 0, 0, 0]));
     (0..8).for_each(|flow| job.extend([0x60, flow * 4].repeat(17)));
-    let ran = run_dirty(&job, Mode::Monitored, [7 * 8 * 17, 2_624, 4_096], 0x77);
+    let ran = run_dirty(&job, Mode::Monitored, [7 * 8 * 17, 3_136, 4_096], 0x77);
     let Outcome::Ran(answer) = ran.outcome else { panic!("refused") };
     assert_eq!((answer.stop, answer.turns), (0, 8 * 17));
-    assert_eq!(snapshot_length(&decode(&job).unwrap(), &ran.snapshot), 2_624);
-    assert_eq!(ran.snapshot[..14], [16, 0, 0, 0, 0, 1, 0, 0, 0, 16, 0, 0, 0, 0]);
-    assert_eq!(ran.snapshot[2_620..], [63, 1, 2, 3]);
+    assert_eq!(snapshot_length(&decode(&job).unwrap(), &ran.snapshot), 3_136);
+    assert_eq!(ran.snapshot[..15], [16, 0, 0, 0, 0, 1, 0, 0, 0, 16, 0, 0, 0, 0, 0]);
+    assert_eq!(
+        ran.snapshot[2_880 - 5..2_880],
+        [0, 0, 0, 0, 28],
+        "the last message of node 31, sent by node 28"
+    );
+    assert_eq!(ran.snapshot[3_132..], [63, 1, 2, 3]);
 }
 
 fn unchanged(bytes: &[u8], from: usize, dirt: u8) -> bool {
@@ -119,7 +124,7 @@ fn longer_work_buffers() {
     let mut stops = BTreeSet::new();
     for (job, mode) in ending_with_each_stop().iter().flat_map(|job| MODES.map(|mode| (job, mode))) {
         for (work, dirt) in LONG_WORK.into_iter().flat_map(|work| [0x5A, 0xC3].map(|dirt| (work, dirt))) {
-            let ran = run_dirty(job, mode, [7 * 34, 2_624, work], dirt);
+            let ran = run_dirty(job, mode, [7 * 34, 3_136, work], dirt);
             let Outcome::Ran(answer) = ran.outcome else { panic!("refused") };
             stops.insert(answer.stop);
             assert_eq!(ran.work, [vec![0; 4_096], vec![dirt; work - 4_096]].concat(), "{work}");
@@ -133,7 +138,7 @@ fn longer_work_buffers() {
 fn shorter_work_buffers() {
     for (job, mode) in ending_with_each_stop().iter().flat_map(|job| MODES.map(|mode| (job, mode))) {
         for work in [0, 1, 2_048, 4_095] {
-            let ran = run_dirty(job, mode, [7 * 34, 2_624, work], 0x5A);
+            let ran = run_dirty(job, mode, [7 * 34, 3_136, work], 0x5A);
             assert_eq!(ran.outcome, Outcome::Refused(Refusal { number: 12, place: job.len() }));
             assert_eq!(check_bytes(job, &ran, 0x5A), None);
         }

@@ -120,12 +120,16 @@ fn calls_beside_ranges() {
     assert_eq!(signs, expected.concat());
 }
 
-/// What a run sends, in order.
-fn sent(run: &Run) -> Vec<u32> {
+/// The entries of a run.
+fn entries(run: &Run) -> Vec<Vec<u32>> {
     let text = run.text();
     let entries = text.lines().take_while(|line| !line.starts_with("end"));
-    let entries = entries.map(|line| line.split(' ').map(|word| word.parse().unwrap()).collect::<Vec<u32>>());
-    entries.filter(|entry| entry[1] == 6).map(|entry| entry[3]).collect()
+    entries.map(|line| line.split(' ').map(|word| word.parse().unwrap()).collect()).collect()
+}
+
+/// What a run sends, in order.
+fn sent(run: &Run) -> Vec<u32> {
+    entries(run).into_iter().filter(|entry| entry[1] == 6).map(|entry| entry[3]).collect()
 }
 
 /// What the runs of this family and mode send: of each the first, none if it stops before.
@@ -171,6 +175,68 @@ fn answers_of_many_calls() {
     assert_eq!(sent(&runs[2 * 64]), all[..159], "monitored, the last call stops");
 }
 
+/// The senders of the messages that a node takes in a run.
+fn senders(run: &Run, node: u32) -> Vec<u32> {
+    entries(run).into_iter().filter(|entry| entry[..2] == [node, 1]).map(|entry| entry[2]).collect()
+}
+
+/// The messages that wait at a node after a run, with their senders.
+fn waiting(run: &Run, node: u8) -> Vec<(u32, u8)> {
+    let program = decode(&run.job).unwrap();
+    let mut runner = Runner::new(&program, run.mode);
+    while let Step::Completed(_) = runner.step() {}
+    runner.state().messages(node).map(|message| (message.value, message.sender)).collect()
+}
+
+/// Two and three senders in every order; then one order with 0, 1 and 2 of the messages taken.
+#[test]
+fn orders_of_senders() {
+    let runs = runs_of("senders");
+    let order = |job: usize| senders(&runs[2 * job], if job < 2 { 3 } else { 4 });
+    let all: [&[u32]; 8] =
+        [&[1, 2], &[2, 1], &[1, 2, 3], &[1, 3, 2], &[2, 1, 3], &[2, 3, 1], &[3, 1, 2], &[3, 2, 1]];
+    assert!((0..8).map(order).eq(all));
+    assert_eq!([8, 9, 10].map(order), [vec![], vec![3], vec![3, 1]]);
+    assert_eq!(waiting(&runs[16], 4), [(7, 3), (7, 1), (7, 2)]);
+    assert_eq!(waiting(&runs[18], 4), [(7, 1), (7, 2)]);
+    assert_eq!(waiting(&runs[20], 4), [(7, 2)]);
+}
+
+/// What is taken and what waits at some nodes: of itself, in full queues, in moving ones, of the last node.
+#[test]
+fn messages_of_senders() {
+    let runs = runs_of("senders");
+    assert_eq!(senders(&runs[24], 31), [255, 31, 31, 31]);
+    assert_eq!(senders(&runs[26], 1), [0, 0, 1, 1]);
+    let full: Vec<_> = (25..33).map(|job| waiting(&runs[2 * job], 3)).collect();
+    assert!(full.iter().all(|queue| queue.len() == 16 && queue.iter().all(|message| message.0 == 0)));
+    assert_eq!([3, 7].map(|job: usize| full[job][15].1), [3, 3], "its own message behind the others");
+    let order = [0, 1, 1, 2, 0, 2, 1].repeat(6);
+    for (job, count) in [(33, 1), (34, 9), (35, 16)] {
+        assert_eq!(senders(&runs[2 * job], 3), order[..24]);
+        let left: Vec<u32> = waiting(&runs[2 * job], 3).iter().map(|message| message.1.into()).collect();
+        assert_eq!(left, order[24..24 + count]);
+    }
+    assert_eq!(senders(&runs[72], 0), [16, 1, 31, 8]);
+    assert_eq!(senders(&runs[78], 3), [2], "monitored");
+    assert_eq!(senders(&runs[79], 3), [2, 1], "bare");
+}
+
+/// Snapshot buffers that are too short, one of them by a byte; then the longest snapshot, of two senders at every node.
+#[test]
+fn senders_beside_buffers() {
+    let runs = runs_of("sender buffers");
+    let is_refused = |run: &Run| run.text().starts_with("refused 11 ");
+    let lengths = runs.iter().step_by(2).map(|run| (run.lengths[1], is_refused(run)));
+    let few = [(2_624, true), (3_135, true), (3_136, false), (3_137, false)];
+    assert!(lengths.eq(few.into_iter().chain([(3_135, true), (3_136, false)])));
+    for node in 0..32 {
+        let senders: Vec<u8> = waiting(&runs[10], node).iter().map(|message| message.1).collect();
+        let (first, before) = (node / 4 * 4, node / 4 * 4 + (node + 3) % 4);
+        assert_eq!(senders, [[first].repeat(7), [before].repeat(9)].concat());
+    }
+}
+
 /// Sends that found a queue full, by their number of targets.
 #[test]
 fn full_queues_of_one_and_several_targets() {
@@ -209,6 +275,9 @@ fn modes_seeds_and_pairs() {
         ("unused", 100),
         ("unused buffers", 18),
         ("used pairs", 24),
+        ("senders", 40),
+        ("sender buffers", 6),
+        ("sender pairs", 8),
     ] {
         let runs = runs_of(family);
         assert!(runs.chunks(2).all(both), "{family}");
@@ -222,7 +291,7 @@ fn buffer_lengths() {
     let mut seen: BTreeMap<(usize, isize), usize> = BTreeMap::new();
     for Made { run, .. } in all() {
         let Ok(program) = decode(&run.job) else { continue };
-        let needed = [ENTRY_BYTES * program.turns.len(), 2_624, 4_096];
+        let needed = [ENTRY_BYTES * program.turns.len(), 3_136, 4_096];
         let more = [0, 1, 2].map(|buffer| run.lengths[buffer] as isize - needed[buffer] as isize);
         for buffer in (0..3).filter(|&buffer| (0..3).all(|other| other == buffer || more[other] >= 0)) {
             *seen.entry((buffer, more[buffer].clamp(-2, 2))).or_default() += 1;
@@ -320,7 +389,7 @@ fn fullest_snapshot() {
     let is_fullest = |run: &&Run| {
         let ran = run_dirty(&run.job, run.mode, run.lengths, run.seed);
         matches!(ran.outcome, Outcome::Ran(_))
-            && snapshot_length(&decode(&run.job).unwrap(), &ran.snapshot) == 2_624
+            && snapshot_length(&decode(&run.job).unwrap(), &ran.snapshot) == 3_136
     };
     assert_eq!(runs_of("largest states").iter().filter(is_fullest).count(), 2);
 }

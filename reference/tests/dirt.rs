@@ -45,15 +45,15 @@ fn found(job: &[u8], lengths: Lengths) -> [Option<(usize, usize)>; 3] {
 /// K1 hands over 9 entries, two idle nodes and a variable.
 #[test]
 fn changes_of_a_run() {
-    let expected = [Some((63, 69)), Some((24, 2_629)), Some((0, 4_101))];
-    assert_eq!(found(&k1(), [70, 2_630, 4_102]), expected);
-    assert_eq!(found(&k1(), [63, 2_624, 4_096]), [None, Some((24, 2_623)), Some((0, 4_095))]);
-    assert_eq!(found(&k1(), [63, 2_624, 16_385]), [None, Some((24, 2_623)), Some((0, 16_384))]);
+    let expected = [Some((63, 69)), Some((24, 3_141)), Some((0, 4_101))];
+    assert_eq!(found(&k1(), [70, 3_142, 4_102]), expected);
+    assert_eq!(found(&k1(), [63, 3_136, 4_096]), [None, Some((24, 3_135)), Some((0, 4_095))]);
+    assert_eq!(found(&k1(), [63, 3_136, 16_385]), [None, Some((24, 3_135)), Some((0, 16_384))]);
 }
 
 #[test]
 fn changes_of_a_refusal() {
-    let expected = [Some((0, 62)), Some((0, 2_622)), Some((0, 99))];
-    assert_eq!(found(&k1(), [63, 2_623, 100]), expected);
+    let expected = [Some((0, 62)), Some((0, 3_134)), Some((0, 99))];
+    assert_eq!(found(&k1(), [63, 3_135, 100]), expected);
     assert_eq!(found(&[], [3, 2, 1]), [Some((0, 2)), Some((0, 1)), Some((0, 0))]);
 }

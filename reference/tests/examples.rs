@@ -47,7 +47,7 @@ fn printed(file: &str) -> (Vec<String>, String) {
 
 #[test]
 fn every_job_has_its_text_and_its_lines() {
-    let expected: BTreeSet<String> = ["k1", "k2", "k4", "k5", "k6", "k7", "unused"]
+    let expected: BTreeSet<String> = ["k1", "k2", "k4", "k5", "k6", "k7", "unused", "senders"]
         .map(str::to_string)
         .into_iter()
         .chain(FLOWS.iter().flat_map(|flow| [format!("{flow}-benign"), format!("{flow}-malicious")]))
@@ -129,6 +129,19 @@ fn an_unused_permission_is_refused() {
     let (k1, unused) = (read("k1.job"), read("unused.job"));
     assert_eq!(unused, [&k1[..29], &[0x33, 0, 0], &k1[29..]].concat());
     assert_eq!([text("unused.watched"), text("unused.bare")], ["refused 19 29\n"; 2]);
+}
+
+/// Messages of START, of two nodes and of the node itself, each with its sender, taken and waiting.
+#[test]
+fn each_message_names_its_sender() {
+    let (entries, end) = printed("senders.watched");
+    let taken: Vec<&String> = entries.iter().filter(|entry| entry[2..].starts_with("1 ")).collect();
+    assert_eq!(taken, ["0 1 255 90", "2 1 0 90", "1 1 0 90", "2 1 2 90", "2 1 1 91"]);
+    assert_eq!(end, "end 1 23 2 5 0 91");
+    assert!(text("senders.watched").ends_with("\nnode 2 2 91 91 3 90 2 90 0 91 2\n"));
+    assert_eq!(printed("senders.bare").0[..23], entries);
+    assert!(text("senders.bare")
+        .ends_with("end 0 26 0 0 0 0\nnode 0 255 0 0 0\nnode 1 255 0 0 0\nnode 2 0 0 90 2 90 0 91 2\n"));
 }
 
 /// Whether words are an entry, or a line `end`, `node`, `var` or `refused`, with its numbers.

@@ -46,7 +46,7 @@ fn unused_permissions_of_mixed_cases() {
         count += 1;
         places.insert(place);
         *numbers.entry(unused[0].1).or_insert(0) += 1;
-        short += usize::from(case.lengths[1] < 2_624 || case.lengths[2] < 4_096);
+        short += usize::from(case.lengths[1] < 3_136 || case.lengths[2] < 4_096);
         several += usize::from(unused.len() > 1);
         later += usize::from(commands(&case.job[..place]).iter().any(|one| one[0] / 16 == 3));
     }
@@ -81,7 +81,7 @@ fn valid_jobs_use_their_permissions() {
         let of_job: BTreeSet<u8> =
             commands(&job).iter().map(|one| one[0]).filter(|byte| byte / 16 == 3).collect();
         of_job.into_iter().for_each(|sort| *sorts.entry(sort).or_insert(0) += 1);
-        let Outcome::Ran(answer) = run_dirty(&job, Mode::Monitored, [28_672, 2_624, 4_096], 0).outcome else {
+        let Outcome::Ran(answer) = run_dirty(&job, Mode::Monitored, [28_672, 3_136, 4_096], 0).outcome else {
             panic!("{job:?}")
         };
         *stops.entry(answer.stop).or_insert(0) += 1;

@@ -16,7 +16,8 @@ struct Node {
     position: Option<usize>,
     accumulator: u32,
     message: u32,
-    queue: VecDeque<u32>,
+    /// Values and their senders.
+    queue: VecDeque<(u32, u8)>,
 }
 
 #[derive(Default)]
@@ -49,7 +50,7 @@ fn load(job: &[u8]) -> Model {
             [0x20, node, port, target] => model.wires.push([node, port, target]),
             [0x30..=0x34, ..] => {}
             [0x40, node] => open = usize::from(node),
-            [0x50, node, ..] => model.nodes[usize::from(node)].queue.push_back(number(command)),
+            [0x50, node, ..] => model.nodes[usize::from(node)].queue.push_back((number(command), 255)),
             [0x60, node] => model.turns.push(node),
             _ => model.nodes[open].body.push(command.to_vec()),
         }
@@ -108,7 +109,7 @@ impl Model {
             0x48 => own.position = Some(operand),
             0x49 => {
                 for target in self.targets(node, operand as u8) {
-                    self.nodes[target].queue.push_back(accumulator);
+                    self.nodes[target].queue.push_back((accumulator, node));
                 }
             }
             0x4A => self.nodes[usize::from(node)].accumulator = self.answer(operand, accumulator),
@@ -120,9 +121,9 @@ impl Model {
     fn turn(&mut self, node: u8, permissions: Option<&Permissions>) -> Result<Event, (u8, Event)> {
         let own = &mut self.nodes[usize::from(node)];
         let Some(position) = own.position else {
-            let message = own.queue.pop_front().ok_or((2, (0, 0, 0)))?;
+            let (message, sender) = own.queue.pop_front().ok_or((2, (0, 0, 0)))?;
             (own.position, own.accumulator, own.message) = (Some(0), 0, message);
-            return Ok((1, 0, message));
+            return Ok((1, sender, message));
         };
         let Some(command) = own.body.get(position).cloned() else {
             (own.position, own.accumulator, own.message) = (None, 0, 0);
@@ -161,7 +162,7 @@ impl Model {
             let (position, waiting) = (node.position.unwrap_or(255), node.queue.len());
             let mut line =
                 format!("node {number} {position} {} {} {waiting}", node.accumulator, node.message);
-            node.queue.iter().for_each(|message| line += &format!(" {message}"));
+            node.queue.iter().for_each(|(value, sender)| line += &format!(" {value} {sender}"));
             lines.push(line);
         }
         lines.extend(

@@ -2,6 +2,8 @@
 
 mod common;
 
+use std::collections::BTreeSet;
+
 use common::{run_dirty, Permissions, Ran};
 use flow_reference::generate::{case, Case, Kind};
 use flow_reference::output::{entry_bytes, snapshot};
@@ -43,8 +45,14 @@ fn check(ran: &Ran, answer: Answer, trace: &[u8], snapshot: &[u8]) {
     assert_eq!(&ran.snapshot[..snapshot.len()], snapshot);
 }
 
-/// Checks one job; gives the kind of the first forbidden entry.
-fn check_case(case: &Case) -> Option<u8> {
+/// Whether messages of several senders wait at one node.
+fn has_several_senders(program: &flow_reference::Program, state: &State) -> bool {
+    let senders = |node| state.messages(node).map(|message| message.sender).collect::<BTreeSet<u8>>();
+    (0..program.nodes.len() as u8).any(|node| senders(node).len() > 1)
+}
+
+/// Checks one job; gives the kind of the first forbidden entry, and whether several senders' messages wait before it.
+fn check_case(case: &Case) -> Option<(u8, bool)> {
     let program = decode(&case.job).expect("a valid job");
     let Unmonitored { entries, states, answer } = unmonitored(&program);
     let last = snapshot(&program, &states[entries.len()]);
@@ -62,16 +70,19 @@ fn check_case(case: &Case) -> Option<u8> {
     }
     let answer = Answer { stop: 1, turns: n, attempted };
     check(&monitored, answer, &trace(&entries[..n]), &snapshot(&program, &states[n]));
-    Some(attempted.kind)
+    Some((attempted.kind, has_several_senders(&program, &states[n])))
 }
 
 #[test]
 fn monitored_beside_unmonitored() {
     let mut forbidden = [0; 7];
-    let mut permitted = 0;
+    let (mut permitted, mut several_senders) = (0, 0);
     for index in 0..6_000 {
         match check_case(&case(3, index, Kind::Valid, usize::MAX)) {
-            Some(kind) => forbidden[usize::from(kind)] += 1,
+            Some((kind, several)) => {
+                forbidden[usize::from(kind)] += 1;
+                several_senders += usize::from(several);
+            }
             None => permitted += 1,
         }
     }
@@ -79,6 +90,7 @@ fn monitored_beside_unmonitored() {
     assert_eq!(forbidden[..3], [0; 3]);
     assert!(forbidden[3..6].iter().all(|&count| count > 200), "{forbidden:?}");
     assert_eq!(forbidden[6], 0);
+    assert!(several_senders > 50, "{several_senders}");
 }
 
 #[test]

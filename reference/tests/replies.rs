@@ -37,7 +37,7 @@ fn answer(replies: &[&[u8]], argument: u32) -> u32 {
     let job = behind_base(&[&replies.concat(), &tail]);
     let [one, two] = MODES.map(|mode| {
         let text = print(&job, mode);
-        let entries = format!("0 1 0 {argument}\n0 0 0 0\n0 5 1 {argument}\nend 0 3 0 0 0 0\nnode 0 2 ");
+        let entries = format!("0 1 255 {argument}\n0 0 0 0\n0 5 1 {argument}\nend 0 3 0 0 0 0\nnode 0 2 ");
         let rest = text.strip_prefix(&entries).unwrap_or_else(|| panic!("{text}"));
         rest.split(' ').next().and_then(|word| word.parse().ok()).expect("an accumulator")
     });
@@ -94,9 +94,9 @@ fn lists_judge_the_argument() {
         let args: Vec<u8> = arguments.iter().flat_map(|&value| write(0x31, &[0, 1, value])).collect();
         print(&behind_base(&[&reply(1, 7, 5), &reply(1, 5, 0), &args, &tail]), mode)
     };
-    let made = "0 1 0 7\n0 0 0 0\n0 5 1 7\n0 5 1 5\nend 0 4 0 0 0 0\nnode 0 3 0 7 0\nnode 1 255 0 0 0\n";
-    let second = "0 1 0 7\n0 0 0 0\n0 5 1 7\nend 1 3 0 5 1 5\nnode 0 2 5 7 0\nnode 1 255 0 0 0\n";
-    let first = "0 1 0 7\n0 0 0 0\nend 1 2 0 5 1 7\nnode 0 1 7 7 0\nnode 1 255 0 0 0\n";
+    let made = "0 1 255 7\n0 0 0 0\n0 5 1 7\n0 5 1 5\nend 0 4 0 0 0 0\nnode 0 3 0 7 0\nnode 1 255 0 0 0\n";
+    let second = "0 1 255 7\n0 0 0 0\n0 5 1 7\nend 1 3 0 5 1 5\nnode 0 2 5 7 0\nnode 1 255 0 0 0\n";
+    let first = "0 1 255 7\n0 0 0 0\nend 1 2 0 5 1 7\nnode 0 1 7 7 0\nnode 1 255 0 0 0\n";
     assert_eq!(printed(&[], Mode::Unmonitored), made);
     for (arguments, expected) in [(&[7, 5][..], made), (&[7], second), (&[7, 0], second), (&[5, 0], first)] {
         assert_eq!(printed(arguments, Mode::Monitored), expected);

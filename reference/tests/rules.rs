@@ -27,7 +27,7 @@ fn oldest_message_first_and_around_the_ring() {
     let text = print(&job(&pieces), Monitored);
     assert!(text.contains("\n1 1 0 1\n1 2 0 0\n1 1 0 2\n1 2 0 0\n"));
     let expected = "end 0 59 0 0 0 0\nnode 0 0 18 0 0\n\
-                    node 1 255 0 0 16 3 4 5 6 7 8 9 10 11 12 13 14 15 16 17 18\n";
+                    node 1 255 0 0 16 3 0 4 0 5 0 6 0 7 0 8 0 9 0 10 0 11 0 12 0 13 0 14 0 15 0 16 0 17 0 18 0\n";
     assert_eq!(ending(&text), expected);
 }
 
@@ -40,7 +40,7 @@ fn many_messages_through_one_queue() {
     let taken: Vec<&str> = text.lines().filter(|line| line.starts_with("1 1 0 ")).collect();
     let expected: Vec<String> = (1..=40).map(|value| format!("1 1 0 {value}")).collect();
     assert_eq!(taken, expected);
-    assert!(text.ends_with("node 1 255 0 0 9 41 42 43 44 45 46 47 48 49\n"));
+    assert!(text.ends_with("node 1 255 0 0 9 41 0 42 0 43 0 44 0 45 0 46 0 47 0 48 0 49 0\n"));
 }
 
 #[test]
@@ -50,7 +50,8 @@ fn one_full_target_keeps_all_targets_from_the_message() {
         let head = format!("01 02 02 02 20 00 00 02 20 00 00 01 20 00 01 0{full} 40 00");
         let pieces =
             [(head.as_str(), 1), ("49 01", 16), ("41 09 00 00 00 49 00 50 00 07 00 00 00", 1), ("60 00", 20)];
-        let waiting = |node| if node == full { "16 0 0 0 0 0 0 0 0 0 0 0 0 0 0 0 0" } else { "0" };
+        let waiting =
+            |node| if node == full { format!("16{}", " 0 0".repeat(16)) } else { String::from("0") };
         let expected = format!(
             "end 3 18 0 6 0 9\nnode 0 17 9 7 0\nnode 1 255 0 0 {}\nnode 2 255 0 0 {}\n",
             waiting(1),
@@ -64,17 +65,17 @@ fn one_full_target_keeps_all_targets_from_the_message() {
 #[test]
 fn fan_out_and_unwired_port() {
     let head = "01 02 02 02 20 00 02 02 20 00 02 00 40 00 41 05 00 00 00 49 02 49 03 50 00 07 00 00 00";
-    let expected = "0 1 0 7\n0 0 0 0\n0 6 2 5\n0 6 3 5\n0 2 0 0\n0 1 0 5\n\
-                    end 0 6 0 0 0 0\nnode 0 0 0 5 0\nnode 1 255 0 0 0\nnode 2 255 0 0 1 5\n";
+    let expected = "0 1 255 7\n0 0 0 0\n0 6 2 5\n0 6 3 5\n0 2 0 0\n0 1 0 5\n\
+                    end 0 6 0 0 0 0\nnode 0 0 0 5 0\nnode 1 255 0 0 0\nnode 2 255 0 0 1 5 0\n";
     check(&[(head, 1), ("60 00", 6)], Monitored, expected);
 }
 
 #[test]
 fn forbidden_write_leaves_the_variable_and_shows_the_value() {
     let head = "01 02 10 01 00 01 00 00 00 32 00 00 40 00 42 44 00 43 00 50 00 07 00 00 00";
-    let stopped = "0 1 0 7\n0 0 0 0\nend 1 2 0 4 0 7\nnode 0 1 7 7 0\nvar 0 1\n";
+    let stopped = "0 1 255 7\n0 0 0 0\nend 1 2 0 4 0 7\nnode 0 1 7 7 0\nvar 0 1\n";
     check(&[(head, 1), ("60 00", 5)], Monitored, stopped);
-    let ran = "0 1 0 7\n0 0 0 0\n0 4 0 7\n0 3 0 7\n0 2 0 0\nend 0 5 0 0 0 0\nnode 0 255 0 0 0\nvar 0 7\n";
+    let ran = "0 1 255 7\n0 0 0 0\n0 4 0 7\n0 3 0 7\n0 2 0 0\nend 0 5 0 0 0 0\nnode 0 255 0 0 0\nvar 0 7\n";
     check(&[(head, 1), ("60 00", 5)], Unmonitored, ran);
     check(&[(&head.replace("32 00 00", "32 00 00 33 00 00"), 1), ("60 00", 5)], Monitored, ran);
 }
@@ -84,7 +85,7 @@ fn plus_shows_the_variable_and_own_variables_show_nothing() {
     // Variable 0 is node 0's own, variable 1 the flow's.
     let head = "01 02 10 00 00 FF FF FF FF 10 01 00 03 00 00 00 32 00 01
                 40 00 42 46 00 44 00 46 01 43 00 50 00 02 00 00 00";
-    let expected = "0 1 0 2\n0 0 0 0\n0 0 0 0\n0 0 0 0\n0 3 1 3\n0 0 0 0\n0 2 0 0\n\
+    let expected = "0 1 255 2\n0 0 0 0\n0 0 0 0\n0 0 0 0\n0 3 1 3\n0 0 0 0\n0 2 0 0\n\
                     end 0 7 0 0 0 0\nnode 0 255 0 0 0\nvar 0 1\nvar 1 3\n";
     check(&[(head, 1), ("60 00", 7)], Monitored, expected);
 }
@@ -98,8 +99,8 @@ fn a_call_is_judged_by_function_and_argument() {
              40 00 42 4A 01 4A 00 40 01 4A 01 50 00 07 00 00 00 60 00 60 00 60 00"
         )
     };
-    let permitted = "0 1 0 7\n0 0 0 0\n0 5 1 7\nend 0 3 0 0 0 0\nnode 0 2 9 7 0\nnode 1 255 0 0 0\n";
-    let stopped = "0 1 0 7\n0 0 0 0\nend 1 2 0 5 1 7\nnode 0 1 7 7 0\nnode 1 255 0 0 0\n";
+    let permitted = "0 1 255 7\n0 0 0 0\n0 5 1 7\nend 0 3 0 0 0 0\nnode 0 2 9 7 0\nnode 1 255 0 0 0\n";
+    let stopped = "0 1 255 7\n0 0 0 0\nend 1 2 0 5 1 7\nnode 0 1 7 7 0\nnode 1 255 0 0 0\n";
     for permissions in
         ["30 00 01", "31 00 01 07 00 00 00", "31 00 01 08 00 00 00 30 00 01", "30 00 01 31 00 01 07 00 00 00"]
     {
@@ -122,7 +123,7 @@ fn a_call_is_judged_by_function_and_argument() {
 fn a_forbidden_turn_stops_the_whole_run() {
     // Node 0 may not call; node 1 in another flow would go on.
     let head = "01 02 01 02 11 08 00 00 00 40 00 4A 00 50 00 01 00 00 00 50 01 02 00 00 00";
-    let expected = "0 1 0 1\nend 1 1 0 5 0 0\nnode 0 0 0 1 0\nnode 1 255 0 0 1 2\n";
+    let expected = "0 1 255 1\nend 1 1 0 5 0 0\nnode 0 0 0 1 0\nnode 1 255 0 0 1 2 255\n";
     check(&[(head, 1), ("60 00 60 00 60 01 60 00", 1)], Monitored, expected);
 }
 
@@ -143,8 +144,8 @@ fn jumps() {
 
 #[test]
 fn a_node_without_body_takes_messages_and_finishes() {
-    let expected = "0 1 0 9\n0 2 0 0\nend 2 2 0 0 0 0\nnode 0 255 0 0 0\n";
+    let expected = "0 1 255 9\n0 2 0 0\nend 2 2 0 0 0 0\nnode 0 255 0 0 0\n";
     check(&[("01 02 50 00 09 00 00 00 60 00 60 00 60 00", 1)], Monitored, expected);
-    let taken = "0 1 0 9\nend 0 1 0 0 0 0\nnode 0 0 0 9 0\n";
+    let taken = "0 1 255 9\nend 0 1 0 0 0 0\nnode 0 0 0 9 0\n";
     check(&[("01 02 40 00 50 00 09 00 00 00 60 00", 1)], Monitored, taken);
 }

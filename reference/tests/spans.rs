@@ -40,10 +40,10 @@ fn permits(permissions: &[&[u8]], argument: u32) -> bool {
     let handlers = bytes("40 00 42 4A 01 4A 00 40 01 4A 00 4A 01");
     let job = behind_base(&[&permissions.concat(), &handlers, &start, &[0x60, 0].repeat(3)]);
     let made = format!(
-        "0 1 0 {argument}\n0 0 0 0\n0 5 1 {argument}\nend 0 3 0 0 0 0\nnode 0 2 9 {argument} 0\nnode 1 255 0 0 0\n"
+        "0 1 255 {argument}\n0 0 0 0\n0 5 1 {argument}\nend 0 3 0 0 0 0\nnode 0 2 9 {argument} 0\nnode 1 255 0 0 0\n"
     );
     let stopped = format!(
-        "0 1 0 {argument}\n0 0 0 0\nend 1 2 0 5 1 {argument}\nnode 0 1 {argument} {argument} 0\nnode 1 255 0 0 0\n"
+        "0 1 255 {argument}\n0 0 0 0\nend 1 2 0 5 1 {argument}\nnode 0 1 {argument} {argument} 0\nnode 1 255 0 0 0\n"
     );
     assert_eq!(print(&job, Unmonitored), made);
     let text = print(&job, Monitored);

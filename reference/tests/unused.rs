@@ -154,7 +154,7 @@ fn behind_all_tests_of_commands() {
 #[test]
 fn before_short_buffers() {
     let job = behind_base(&format!("{READ} 40 00 44 00 60 00"));
-    for lengths in [[0; 3], [6, 2_624, 4_096], [7, 2_623, 4_096], [7, 2_624, 4_095], [7, 2_624, 4_096]] {
+    for lengths in [[0; 3], [6, 3_136, 4_096], [7, 3_135, 4_096], [7, 3_136, 4_095], [7, 3_136, 4_096]] {
         for mode in MODES {
             let ran = run_dirty(&job, mode, lengths, 0xA5);
             assert_eq!(ran.outcome, Outcome::Refused(Refusal { number: 19, place: LENGTH }));

@@ -9,7 +9,7 @@ use Rattle.conformance.specs.declared.input.Record.the-variants.{Run, En
 pub record HeadFits (h : Head) : Type 0 where
   pub job : h .job ≤ 16400
   pub trace : h .trace ≤ 28800
-  pub snapshot : h .snapshot ≤ 2700
+  pub snapshot : h .snapshot ≤ 3200
   pub work : h .work ≤ 16500
 
 -- the test for it

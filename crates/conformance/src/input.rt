@@ -28,7 +28,7 @@ pub const LONGEST_JOB: usize = 16400;
 
 pub const LONGEST_TRACE: usize = 28800;
 
-pub const LONGEST_SNAPSHOT: usize = 2700;
+pub const LONGEST_SNAPSHOT: usize = 3200;
 
 pub const LONGEST_WORK: usize = 16500;
 

@@ -1,7 +1,10 @@
 // What the tables say of flows, nodes, variables, functions and their answers, wires, handlers, first messages, and where the items of a
 // node or a function are, each under its own kind of number.
 ghost use mathlib.Core.Path.{_≡_};
+ghost use Prim.Native.Nat.{ℕ, _<_};
+ghost use Rattle.model.specs.Table.{maxNodes};
 ghost use Rattle.model.specs.Declared.{isThere, isSeen};
+ghost use Rattle.tables.specs.Bits.{bitOf};
 ghost use Rattle.tables.specs.Tables.{countIn, groupIn, openIn, flowIn, startIn, sharedIn, seesIn, lengthIn, bodyIn, startedAt};
 ghost use Rattle.tables.specs.Tables.{firstsIn, wiredIn, lastRangeIn, lastReplyIn, replyIn, answerIn};
 ghost use Rattle.items.specs.Asking.{foundBy};
@@ -19,6 +22,7 @@ use tables::cells::entry;
 use tables::cells::flagged;
 use tables::cells::half;
 use tables::cells::marked;
+use tables::cells::marks_of;
 
 // How many commands have this byte.
 pub fn count_of(tables: &[u32], byte: u8) -> u32
@@ -165,6 +169,17 @@ pub fn is_wired(tables: &[u32], n: NodeNum, port: u32, target: NodeNum) -> bool
     let row = (n.0 as usize) * 4 + (port as usize);
     let wire = marked(tables, cells::WIRES, row, target.0 as usize);
     (port < 4) & wire
+}
+
+// The targets of a port, as the bits of a number: bit k is 1 if the port is wired to node k.
+pub fn targets_of(tables: &[u32], n: NodeNum, port: u32) -> u32
+    ensures { λ r. ⌜ ((k : ℕ) → k < maxNodes → bitOf r k ≡ wiredIn (now (tables .entry)) (n .0) port k) ⌝ }
+{
+    if port < 4 {
+        let row = (n.0 as usize) * 4 + (port as usize);
+        return marks_of(tables, cells::WIRES, row);
+    }
+    0
 }
 
 // The last range of a node and a function: its number among the items plus 1, or 0 if there is none.

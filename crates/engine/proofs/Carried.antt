@@ -1,12 +1,13 @@
 -- The plan of a turn, carried out on the state's arrays, is the turn.
-use Prim.Native.Nat.{ℕ, _*_}
+use Prim.Native.Nat.{ℕ, _*_, _≤_, _<_}
 use mathlib.Core.Path.{_≡_, refl, sym, _∙_, ap, ap₂, subst, fun-ext}
 use mathlib.Core.Bool.{Bool}
 use mathlib.Core.List.{List}
 use native.Mathlib.Omega.{arith}
 use lib.ListN.{length, getD, set}
 use lib.Seq.{set-getD}
-use Rattle.model.specs.State.{State as Meant, positionAt, accumulatorAt, waitingAt}
+use Rattle.model.specs.State.{Message, messageFrom, State as Meant, positionAt, accumulatorAt, waitingAt}
+use Rattle.model.specs.Turn.{oldest}
 use Rattle.command.specs.declared.numbers.NodeNum.{NodeNum}
 use Rattle.command.specs.declared.instruction.Fetched.{Fetched}
 use Rattle.command.specs.Instructions.{fetchedOf, commandIn}
@@ -14,31 +15,37 @@ use Rattle.command.proofs.Fetching.{standing, standing-there}
 use Rattle.tables.specs.Tables.{wiredIn}
 use Rattle.tables.specs.Programs.{Handlers, programIn}
 use Rattle.entries.specs.Entries.{Comes, ruleOf}
-use Rattle.memory.specs.Queues.{countAt, BoundedCounts}
+use Rattle.memory.specs.Queues.{paired, countAt, BoundedCounts}
+use Rattle.memory.proofs.Pairing.{length-paired, getD-paired}
 use Rattle.memory.proofs.Waiting.{count-at, oldest-is}
+use Rattle.memory.proofs.Changing.{Changes, changed}
 use Rattle.memory.specs.declared.Registers.{Registers}
-use Rattle.memory.specs.Changes.{registersAt, variablesAfter, Possible, isNothing}
+use Rattle.memory.specs.Changes.{registersAt, slotsAfter, countsAfter, variablesAfter, Possible, isNothing}
 use Rattle.plans.specs.declared.Plan.{Plan}
 use Rattle.plans.specs.Plans.{Plans, PlansTurn}
-use Rattle.memory.specs.Changes.{Changes}
 use Rattle.engine.specs.declared.State.{State}
 use Rattle.engine.specs.Engine.{view, Turns}
 
 module _ (t : List ℕ) (fetched : Fetched) (s : State) (n : NodeNum) (monitored : Bool) (bounded : BoundedCounts (s .waiting))
-    (counts : length (s .waiting) ≡ 32) (places : length (s .queue) ≡ 512) where
+    (counts : length (s .waiting) ≡ 32) (places : length (s .queue) ≡ 512) (beside : length (s .sender) ≡ 512) where
   -- as many messages wait in the model's state as the counts say
   waiting-at : (k : ℕ) → waitingAt (view s) k ≡ getD (s .waiting) k 0
-  waiting-at k = count-at (s .waiting) (s .queue) bounded (omega (arith, counts, places)) k
+  waiting-at k = count-at (s .waiting) (paired (s .queue) (s .sender)) bounded
+      (omega (arith, counts, places, length-paired (s .queue) (s .sender) (places ∙ sym beside))) k
 
-  module _ (p : Plan) (plan : PlansTurn t fetched n monitored (registersAt (view s) (n .0)) (getD (s .queue) (n .0 * 16) 0) (s .waiting)
-      (s .variable) p) where
+  -- the message in a node's first slot, if one waits, is its oldest
+  oldest-at : (k : ℕ) → 1 ≤ waitingAt (view s) k → oldest (view s) k ≡ messageFrom (getD (s .sender) (k * 16) 0) (getD (s .queue) (k * 16) 0)
+  oldest-at k h = sym (oldest-is (s .waiting) (paired (s .queue) (s .sender)) k (omega (arith, h, waiting-at k)))
+      ∙ getD-paired (s .queue) (s .sender) (places ∙ sym beside) (k * 16)
+
+  module _ (p : Plan) (plan : PlansTurn t fetched n monitored (registersAt (view s) (n .0))
+      (messageFrom (getD (s .sender) (n .0 * 16) 0) (getD (s .queue) (n .0 * 16) 0)) (s .waiting) (s .variable) p) (inside : n .0 < 32) where
     -- the plan is one for the model's state
     planned :
         (hs : Handlers) → fetchedOf fetched ≡ commandIn (hs (n .0)) (positionAt (view s) (n .0))
         → Plans (programIn t hs) (view s) (n .0) (ruleOf monitored (programIn t hs) (view s) (n .0)) p
     planned hs =
-        plan hs (view s) (record { own = refl; variables = refl }) waiting-at
-        (λ h. sym (oldest-is (s .waiting) (s .queue) (n .0) (omega (arith, h, waiting-at (n .0)))))
+        plan hs (view s) (record { own = refl; variables = refl }) waiting-at (oldest-at (n .0))
 
     -- handlers in which this stands at the node's position
     abbrev some-handlers : Handlers
@@ -53,32 +60,39 @@ module _ (t : List ℕ) (fetched : Fetched) (s : State) (n : NodeNum) (monitored
     can-change = subst (λ (f : ℕ → ℕ). Possible (wiredIn t (n .0)) (n .0) f (p .change)) (fun-ext waiting-at) (some-planned .possible)
 
     -- the arrays with the plan carried out
-    abbrev pub after : List ℕ → List ℕ → List ℕ → State
-    after ws slots xs =
+    abbrev pub after : List ℕ → List ℕ → List ℕ → List ℕ → State
+    after ws slots senders xs =
         record {
           position = set (s .position) (n .0) (p .registers .position);
           accumulator = set (s .accumulator) (n .0) (p .registers .accumulator);
           message = set (s .message) (n .0) (p .registers .message);
           waiting = ws;
           queue = slots;
+          sender = senders;
           variable = xs;
         }
 
     -- stand for the state after the turn, and are the arrays before if it is a stop
     pub carried-out :
-        (ws slots xs : List ℕ) → Changes (wiredIn t (n .0)) (n .0) (accumulatorAt (view s) (n .0)) (p .change) (s .waiting)
-        (s .queue) ws slots
+        (ws slots senders xs : List ℕ)
+        → senders ≡ slotsAfter (wiredIn t (n .0)) (n .0) (n .0) (s .waiting) (s .sender) (p .change)
+        → (slots ≡ slotsAfter (wiredIn t (n .0)) (n .0) (accumulatorAt (view s) (n .0)) (s .waiting) (s .queue) (p .change))
+        × (ws ≡ countsAfter (wiredIn t (n .0)) (n .0) (s .waiting) (p .change))
         → xs ≡ variablesAfter (accumulatorAt (view s) (n .0)) (s .variable) (p .change)
-        → Turns t fetched (n .0) monitored s (record { state = after ws slots xs; outcome = p .outcome })
+        → Turns t fetched (n .0) monitored s (record { state = after ws slots senders xs; outcome = p .outcome })
     unfolding programIn
-    carried-out ws slots xs changes stored =
-        let afterwards : List (List ℕ) → List ℕ → Meant = λ qs ys. record {
-          position = after ws slots xs .position;
-          accumulator = after ws slots xs .accumulator;
-          message = after ws slots xs .message;
+    carried-out ws slots senders xs signed moved stored =
+        let afterwards : List (List Message) → List ℕ → Meant = λ qs ys. record {
+          position = after ws slots senders xs .position;
+          accumulator = after ws slots senders xs .accumulator;
+          message = after ws slots senders xs .message;
           queue = qs;
           variable = ys;
         } in
+        let changes : Changes (wiredIn t (n .0)) (n .0) (accumulatorAt (view s) (n .0)) (p .change) (s .waiting) (s .queue) (s .sender) ws slots
+        senders =
+        rw (signed, moved .0, moved .1) (changed (wiredIn t (n .0)) (n .0) (accumulatorAt (view s) (n .0)) (s .waiting) (s .queue) (s .sender)
+        counts places beside bounded inside (p .change) can-change) in
         record {
           bounded = changes .holds .bounded;
           slots = changes .brings;
@@ -95,6 +109,7 @@ module _ (t : List ℕ) (fetched : Fetched) (s : State) (n : NodeNum) (monitored
                 message = (ap (λ (r : Registers). set (s .message) (n .0) (r .message)) own ∙ set-getD (s .message) (n .0) 0) j;
                 waiting = same .0 j;
                 queue = same .1 j;
+                sender = same .2 j;
                 variable = (stored ∙ ap (variablesAfter (accumulatorAt (view s) (n .0)) (s .variable)) none) j;
               };
         }

@@ -12,20 +12,23 @@ use command::numbers::NodeNum;
 use entries::Outcome;
 use memory::IDLE;
 use memory::Registers;
+use memory::START_SENDER;
 use memory::queues::change_queues;
 use memory::queues::fill_queues;
+use memory::senders::change_senders;
 use memory::variables::change_variable;
 use memory::variables::fill_variables;
 use plans::plan_turn;
 
 // The state of a run: of each node the position in its handler, the accumulator (01's "hand"), the message being handled and how many
-// messages wait; the waiting messages of all nodes, 16 slots a node, oldest first; the variables.
+// messages wait; the waiting messages of all nodes, 16 slots a node, oldest first, and their senders; the variables.
 pub struct State {
     pub position: [u32; 32],
     pub accumulator: [u32; 32],
     pub message: [u32; 32],
     pub waiting: [u8; 32],
     pub queue: [u32; 512],
+    pub sender: [u8; 512],
     pub variable: [u32; 64],
 }
 
@@ -35,7 +38,8 @@ pub struct Turned {
     pub outcome: Outcome,
 }
 
-// Every node is idle, its accumulator and message 0; the queues hold the START values, the variables their starts.
+// Every node is idle, its accumulator and message 0; the queues hold the START values, each slot as sent by START; the variables hold
+// their starts.
 pub fn start(tables: &[u32]) -> State
     ensures { λ r. ⌜ Starts (now (tables .entry)) r ⌝ }
 {
@@ -45,6 +49,7 @@ pub fn start(tables: &[u32]) -> State
         message: [0; 32],
         waiting: [0; 32],
         queue: [0; 512],
+        sender: [START_SENDER; 512],
         variable: [0; 64],
     };
     let mut waiting = s.waiting;
@@ -67,6 +72,7 @@ impl State {
         let accumulator = self.accumulator[i];
         let message = self.message[i];
         let oldest = self.queue[i * 16];
+        let sender = self.sender[i * 16];
         let registers = Registers {
             position: position,
             accumulator: accumulator,
@@ -79,6 +85,7 @@ impl State {
             monitored,
             registers,
             oldest,
+            sender,
             &self.waiting,
             &self.variable,
         );
@@ -86,6 +93,7 @@ impl State {
         let change = plan.change;
         let outcome = plan.outcome;
         let mut waiting = self.waiting;
+        change_senders(&mut self.sender, &waiting, tables, n, change);
         change_queues(
             &mut self.queue,
             &mut waiting,

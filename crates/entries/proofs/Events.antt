@@ -66,7 +66,7 @@ plain-left P s n i.Skip h = refl
 
 pub free-permitted : (P : Program) (n : ℕ) (x : Event) → OneOf free (tagOf event x) → true ≡ permitted P (entryFor n x)
 free-permitted P n e.Other h = refl
-free-permitted P n (e.Begin v) h = refl
+free-permitted P n (e.Begin sender v) h = refl
 free-permitted P n e.Finish h = refl
 free-permitted P n (e.Read x v) h = absurd (one-of free 3 h)
 free-permitted P n (e.Write x v) h = absurd (one-of free 4 h)
@@ -75,7 +75,7 @@ free-permitted P n (e.Send port v) h = refl
 
 pub shown-same : (n : ℕ) (x : Event) → OneOf shown (tagOf event x) → entryFor n x ≡ redacted (entryFor n x)
 shown-same n e.Other h = refl
-shown-same n (e.Begin v) h = refl
+shown-same n (e.Begin sender v) h = refl
 shown-same n e.Finish h = refl
 shown-same n (e.Read x v) h = absurd (one-of shown 3 h)
 shown-same n (e.Write x v) h = refl

@@ -21,7 +21,7 @@ use Rattle.entries.specs.declared.Outcome.the-variants as o
 -- node, kind, number and value of each event of a node
 abbrev pub entryFor : ℕ → Event → Meant
 entryFor n e.Other = entry n 0 0 0
-entryFor n (e.Begin message) = entry n 1 0 message
+entryFor n (e.Begin sender message) = entry n 1 sender message
 entryFor n e.Finish = entry n 2 0 0
 entryFor n (e.Read x value) = entry n 3 (x .0) value
 entryFor n (e.Write x value) = entry n 4 (x .0) value

@@ -14,10 +14,10 @@ use command::numbers::VarNum;
 use declared::is_shared;
 use memory::variables::variable_at;
 
-// What a turn does, each kind with its own numbers.
+// What a turn does, each kind with its own numbers; the first of Begin is the sender of the message.
 pub enum Event {
     Other,
-    Begin(u32),
+    Begin(u8, u32),
     Finish,
     Read(VarNum, u32),
     Write(VarNum, u32),

@@ -20,7 +20,7 @@ const JOB: usize = 16385;
 // The bytes of the trace, snapshot (01's "picture") and work buffers: 7 for each of 4,096 turns, and what every run asks for.
 const TRACE: usize = 28672;
 
-const SNAPSHOT: usize = 2624;
+const SNAPSHOT: usize = 3136;
 
 const WORK: usize = 4096;
 

@@ -45,11 +45,11 @@ module _ (job : List ℕ) (past : List Command) (size turns trace snapshot work 
   pub trace-short : trace < 7 * turns → some (refuse 10 size) ≡ decided
   trace-short p = rw (long, counted, lt-ltb trace (7 * turns) p)
 
-  pub snapshot-short : 7 * turns ≤ trace → snapshot < 2624 → some (refuse 11 size) ≡ decided
-  snapshot-short p q = rw (long, counted, le-ltb trace (7 * turns) p, lt-ltb snapshot 2624 q)
+  pub snapshot-short : 7 * turns ≤ trace → snapshot < 3136 → some (refuse 11 size) ≡ decided
+  snapshot-short p q = rw (long, counted, le-ltb trace (7 * turns) p, lt-ltb snapshot 3136 q)
 
-  pub work-short : 7 * turns ≤ trace → 2624 ≤ snapshot → work < 4096 → some (refuse 12 size) ≡ decided
-  work-short p q r = rw (long, counted, le-ltb trace (7 * turns) p, le-ltb snapshot 2624 q, lt-ltb work 4096 r)
+  pub work-short : 7 * turns ≤ trace → 3136 ≤ snapshot → work < 4096 → some (refuse 12 size) ≡ decided
+  work-short p q r = rw (long, counted, le-ltb trace (7 * turns) p, le-ltb snapshot 3136 q, lt-ltb work 4096 r)
 
-  pub all-long : 7 * turns ≤ trace → 2624 ≤ snapshot → 4096 ≤ work → none ≡ decided
-  all-long p q r = rw (counted, le-ltb trace (7 * turns) p, le-ltb snapshot 2624 q, le-ltb work 4096 r)
+  pub all-long : 7 * turns ≤ trace → 3136 ≤ snapshot → 4096 ≤ work → none ≡ decided
+  all-long p q r = rw (counted, le-ltb trace (7 * turns) p, le-ltb snapshot 3136 q, le-ltb work 4096 r)

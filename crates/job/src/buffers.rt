@@ -17,7 +17,7 @@ use tables::cells::CELLS;
 use tables::cells::clear;
 
 // The lengths that the snapshot buffer (01's "picture buffer") and the work buffer must have.
-pub const SNAPSHOT: usize = 2624;
+pub const SNAPSHOT: usize = 3136;
 
 pub const WORK: usize = 4096;
 

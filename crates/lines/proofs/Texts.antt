@@ -4,12 +4,12 @@ use mathlib.Core.Path.{_≡_, sym, ap, _∙_}
 use mathlib.Core.List.{List, [], _∷_, _++_, append-assoc}
 use native.Mathlib.Omega.{arith}
 use lib.ListN.{length}
-use Rattle.text.specs.Text.{decimal, field, fields, line, joined}
-use Rattle.text.proofs.Putting.{fields-append, fields-first, front-room, back-room, two-put, room-first, room-second, room-third, three-put}
+use Rattle.text.specs.Text.{decimal, fields, line, joined}
+use Rattle.text.proofs.Putting.{fields-append, fields-joined, front-room, back-room, two-put, room-first, room-second, room-third, three-put}
 use Rattle.model.specs.Command.{numberAt}
 use Rattle.writing.specs.Writing.{Writes}
 use Rattle.output.specs.Finding.{waitingIn, partAt}
-use Rattle.lines.specs.Lines.{nodeWord, varWord, entryLine, messagesAt, nodeLine, partLine, variableLine}
+use Rattle.lines.specs.Lines.{nodeWord, varWord, entryLine, messageIn, messagesAt, nodeLine, partLine, variableLine}
 
 -- an entry
 pub entry-same :
@@ -20,14 +20,14 @@ pub entry-same :
 unfolding entryLine
 entry-same trace k node kind number value e₁ e₂ e₃ e₄ = rw (e₁, e₂, e₃, e₄)
 
--- the field of message i
-abbrev pub messageField : List ℕ → ℕ → ℕ → List ℕ
-messageField snapshot place i = field (numberAt snapshot (place + 4 * i) 4)
+-- the fields of message i: value and sender
+abbrev pub messageFields : List ℕ → ℕ → ℕ → List ℕ
+messageFields snapshot place i = fields (messageIn snapshot place i)
 
-pub messages-each : (snapshot : List ℕ) (place count : ℕ) → joined (messageField snapshot place) count ≡ fields
+pub messages-each : (snapshot : List ℕ) (place count : ℕ) → joined (messageFields snapshot place) count ≡ fields
     (messagesAt snapshot place count)
 unfolding messagesAt
-messages-each snapshot place count = sym (fields-first (λ i. numberAt snapshot (place + 4 * i) 4) count)
+messages-each snapshot place count = sym (fields-joined (messageIn snapshot place) count)
 
 -- a node: its word, five numbers, the messages with the line feed
 module _

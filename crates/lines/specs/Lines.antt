@@ -31,11 +31,16 @@ endLine x =
     line endWord
     (x .stop ∷ x .turns ∷ x .attempted .node ∷ x .attempted .kind ∷ x .attempted .number ∷ x .attempted .value ∷ [])
 
--- the messages from a place of the snapshot ("picture") on
+-- message i of those from a place of the snapshot ("picture") on: value, sender
+abbrev pub messageIn : List ℕ → ℕ → ℕ → List ℕ
+messageIn snapshot place i = numberAt snapshot (place + 5 * i) 4 ∷ numberAt snapshot (place + 5 * i + 4) 1 ∷ []
+
+-- the first of them
 unfoldable pub messagesAt : List ℕ → ℕ → ℕ → List ℕ
-messagesAt snapshot place count = joined (λ i. numberAt snapshot (place + 4 * i) 4 ∷ []) count
+messagesAt snapshot place count = joined (messageIn snapshot place) count
 
 -- the node whose part begins at a place: `node`, number, position, accumulator ("hand"), message, waiting count, then the waiting messages
+-- with their senders
 unfoldable pub nodeLine : List ℕ → ℕ → ℕ → List ℕ
 nodeLine snapshot place n =
     line nodeWord

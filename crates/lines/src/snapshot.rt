@@ -9,22 +9,23 @@ ghost use Rattle.lines.specs.Lines.{messagesAt, partLine, variableLine, 
 use command::read::operand;
 use output::places::next_part;
 use text::put;
-use text::put_field;
 use text::put_fields;
 use text::put_line;
 use writing::put_byte;
 
-// Puts the messages that stand from a place of the snapshot on.
+// Puts the messages that stand from a place of the snapshot on, each with its sender.
 fn put_messages(text: &mut [u8], at: usize, snapshot: &[u8], place: usize, count: usize) -> usize
-    requires { ⌜ place + 4 * count ≤ length (now snapshot) ⌝ }
+    requires { ⌜ place + 5 * count ≤ length (now snapshot) ⌝ }
     requires { ⌜ at + length (fields (messagesAt (now snapshot) place count)) ≤ length (now text) ⌝ }
     ensures { λ r. ⌜ Writes (fields (messagesAt (now (snapshot .entry)) place count)) (now (text .entry)) at (now (text .exit)) r ⌝ }
 {
     let mut next = at;
     let mut i: usize = 0;
     while i < count {
-        let message = operand(snapshot, place + 4 * i, 4);
-        next = put_field(text, next, message as u64);
+        let message = operand(snapshot, place + 5 * i, 4);
+        let sender = operand(snapshot, place + 5 * i + 4, 1);
+        let numbers = [message as u64, sender as u64];
+        next = put_fields(text, next, &numbers);
         i += 1;
     }
     next

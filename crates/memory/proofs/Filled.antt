@@ -7,7 +7,7 @@ use native.Mathlib.Omega.{arith}
 use lib.ListN.{length, getD, take, drop, set, length-set, length-drop}
 use lib.Seq.{ext-getD, getD-set-same, getD-set-other, drop-set-add, take-suc-set}
 use borrow.Author.Count.{below-more}
-use Rattle.model.specs.State.{tabulate}
+use Rattle.model.specs.State.{Message, tabulate}
 use Rattle.model.proofs.Lists.{length-tabulate, getD-tabulate, getD-each}
 use Rattle.memory.specs.Queues.{queues, Holds}
 use Rattle.memory.proofs.Waiting.{length-queues, queues-change, part-set}
@@ -37,12 +37,12 @@ filled-all {A} {f} {d} {k} {n} {l} s h =
     (λ i b. let below : i < k = omega (arith, s .size) in s .each i (omega arith) ∙ sym (getD-tabulate k i f d below))
 
 -- slots whose first n queues are a function's values; of the counts after them nothing is known
-pub record Queued (f : ℕ → List ℕ) (n : ℕ) (ws slots : List ℕ) : Type 0 where
+pub record Queued (f : ℕ → List Message) (n : ℕ) (ws : List ℕ) (slots : List Message) : Type 0 where
   pub places : length slots ≡ 512
   pub bounded : (i : ℕ) → i < n → getD ws i 0 ≤ 16
   pub filled : Filled f [] 32 n (queues ws slots)
 
-pub queued-none : (f : ℕ → List ℕ) (ws slots : List ℕ) → length slots ≡ 512 → length ws ≡ 32 → Queued f 0 ws slots
+pub queued-none : (f : ℕ → List Message) (ws : List ℕ) (slots : List Message) → length slots ≡ 512 → length ws ≡ 32 → Queued f 0 ws slots
 queued-none f ws slots e c = record {
   places = e;
   bounded = λ i h. absurd (omega arith);
@@ -50,14 +50,14 @@ queued-none f ws slots e c = record {
       (length-queues ws slots ∙ c);
 }
 
-module _ {f : ℕ → List ℕ} {n : ℕ} {ws slots : List ℕ} (s : Queued f n ws slots) where
+module _ {f : ℕ → List Message} {n : ℕ} {ws : List ℕ} {slots : List Message} (s : Queued f n ws slots) where
   -- one count a queue
   counts : length ws ≡ 32
   counts = sym (length-queues ws slots) ∙ s .filled .size
 
   -- one queue more, where the others stay
   queued-more :
-      (w : ℕ) (slots′ : List ℕ) → n < 32 → w ≤ 16 → length slots′ ≡ 512
+      (w : ℕ) (slots′ : List Message) → n < 32 → w ≤ 16 → length slots′ ≡ 512
       → ((i : ℕ) → (i < n) ⊎ (n < i) → take (getD ws i 0) (drop (16 * i) slots′) ≡ take (getD ws i 0) (drop (16 * i) slots))
       → take w (drop (16 * n) slots′) ≡ f n → Queued f (n + 1) (set ws n w) slots′
   queued-more w slots′ h small e same mine =
@@ -73,19 +73,19 @@ module _ {f : ℕ → List ℕ} {n : ℕ} {ws slots : List ℕ} (s : Queued f n 
   pub queued-empty : n < 32 → [] ≡ f n → Queued f (n + 1) (set ws n 0) slots
   queued-empty h e = queued-more 0 slots h (omega arith) (s .places) (λ i o. refl) e
 
-  pub queued-one : (v : ℕ) → n < 32 → v ∷ [] ≡ f n → Queued f (n + 1) (set ws n 1) (set slots (n * 16) v)
-  queued-one v h e = queued-more 1 (set slots (n * 16) v) h (omega arith) (length-set slots (n * 16) v ∙ s .places) same mine
+  pub queued-one : (m : Message) → n < 32 → m ∷ [] ≡ f n → Queued f (n + 1) (set ws n 1) (set slots (n * 16) m)
+  queued-one m h e = queued-more 1 (set slots (n * 16) m) h (omega arith) (length-set slots (n * 16) m ∙ s .places) same mine
     where
-      same : (i : ℕ) → (i < n) ⊎ (n < i) → take (getD ws i 0) (drop (16 * i) (set slots (n * 16) v)) ≡ take (getD ws i 0)
+      same : (i : ℕ) → (i < n) ⊎ (n < i) → take (getD ws i 0) (drop (16 * i) (set slots (n * 16) m)) ≡ take (getD ws i 0)
           (drop (16 * i) slots)
-      same i o = part-set slots (16 * i) (getD ws i 0) (n * 16) v
+      same i o = part-set slots (16 * i) (getD ws i 0) (n * 16) m
           (⊎-elim (λ b. inr (omega (arith, s .bounded i b))) (λ b. inl (omega arith)) o)
 
-      mine : take 1 (drop (16 * n) (set slots (n * 16) v)) ≡ f n
+      mine : take 1 (drop (16 * n) (set slots (n * 16) m)) ≡ f n
       mine =
           let q : n * 16 ≡ 16 * n + 0 = omega arith in
           let long : 0 < length (drop (16 * n) slots) = simp length-drop (omega (arith, s .places)) in
-          rw (q, drop-set-add (16 * n) slots 0 v, take-suc-set (drop (16 * n) slots) 0 v long) e
+          rw (q, drop-set-add (16 * n) slots 0 m, take-suc-set (drop (16 * n) slots) 0 m long) e
 
   -- all queues are filled: the counts are bounded, the queues are the table
   pub queued-all : 32 ≤ n → Holds ws slots (tabulate 32 f)

@@ -1,4 +1,6 @@
 pub mod Waiting
+pub mod Pairing
 pub mod Sending
+pub mod Changing
 pub mod Filled
 pub mod Unchanged

@@ -8,7 +8,7 @@ use denote.Enum.Declared.{tagOf}
 use Rattle.command.proofs.Keys.{one-of}
 use Rattle.memory.specs.declared.Change.{Change}
 use Rattle.memory.specs.declared.Change.the-variants as k
-use Rattle.memory.specs.Changes.{queuesAfter, variablesAfter}
+use Rattle.memory.specs.Changes.{slotsAfter, countsAfter, variablesAfter}
 use Rattle.memory.proofs.Change.{the-type}
 
 -- the changes that no message takes part in, and those that do not store
@@ -18,12 +18,19 @@ silent = 0 ∷ 3 ∷ []
 abbrev storeless : List ℕ
 storeless = 0 ∷ 1 ∷ 2 ∷ []
 
-pub queues-left : (wired : ℕ → ℕ → Bool) (n value : ℕ) (qs : List (List ℕ)) (x : Change) → OneOf silent (tagOf the-type x)
-    → qs ≡ queuesAfter wired n value qs x
-queues-left wired n value qs k.Nothing h = refl
-queues-left wired n value qs k.Take h = absurd (one-of silent 1 h)
-queues-left wired n value qs (k.Send port) h = absurd (one-of silent 2 h)
-queues-left wired n value qs (k.Store x) h = refl
+pub slots-left : (wired : ℕ → ℕ → Bool) (n x : ℕ) (ws slots : List ℕ) (y : Change) → OneOf silent (tagOf the-type y)
+    → slots ≡ slotsAfter wired n x ws slots y
+slots-left wired n x ws slots k.Nothing h = refl
+slots-left wired n x ws slots k.Take h = absurd (one-of silent 1 h)
+slots-left wired n x ws slots (k.Send port) h = absurd (one-of silent 2 h)
+slots-left wired n x ws slots (k.Store y) h = refl
+
+pub counts-left : (wired : ℕ → ℕ → Bool) (n : ℕ) (ws : List ℕ) (y : Change) → OneOf silent (tagOf the-type y)
+    → ws ≡ countsAfter wired n ws y
+counts-left wired n ws k.Nothing h = refl
+counts-left wired n ws k.Take h = absurd (one-of silent 1 h)
+counts-left wired n ws (k.Send port) h = absurd (one-of silent 2 h)
+counts-left wired n ws (k.Store y) h = refl
 
 pub variables-left : (value : ℕ) (xs : List ℕ) (x : Change) → OneOf storeless (tagOf the-type x) → xs ≡ variablesAfter value xs x
 variables-left value xs k.Nothing h = refl

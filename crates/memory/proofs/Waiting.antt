@@ -10,15 +10,16 @@ use native.Mathlib.Decide.{ℕ-discrete, decLt}
 use lib.ListN.{length, getD, take, drop, set, length-set, length-drop}
 use lib.Seq.{ext-getD, getD-set-same, getD-set-other, drop-drop, drop-set-lt, drop-set-add, take-set-le, take-suc-set, length-take-le}
 use lib.Seq.{getD-take, getD-drop, paste, paste-zero, paste-suc, drop-paste, drop-at, take-append-le, take-take, take-nil}
+use Rattle.model.specs.State.{Message, noMessage}
 use Rattle.model.proofs.Lists.{set-each}
 use Rattle.memory.specs.Queues.{queues, BoundedCounts, BringsOnly, shifted}
 
-pub length-queues : (ws slots : List ℕ) → length (queues ws slots) ≡ length ws
+pub length-queues : (ws : List ℕ) (slots : List Message) → length (queues ws slots) ≡ length ws
 length-queues [] slots = refl
 length-queues (w ∷ ws) slots = ap suc (length-queues ws (drop 16 slots))
 
 -- queue n, in range or not
-pub queue-at : (ws slots : List ℕ) (n : ℕ) → getD (queues ws slots) n [] ≡ take (getD ws n 0) (drop (16 * n) slots)
+pub queue-at : (ws : List ℕ) (slots : List Message) (n : ℕ) → getD (queues ws slots) n [] ≡ take (getD ws n 0) (drop (16 * n) slots)
 queue-at [] slots n = refl
 queue-at (w ∷ ws) slots zero = refl
 queue-at (w ∷ ws) slots (suc n) =
@@ -26,17 +27,18 @@ queue-at (w ∷ ws) slots (suc n) =
     queue-at ws (drop 16 slots) n ∙ rw (drop-drop (16 * n) 16 slots, e)
 
 -- its length
-pub count-at : (ws slots : List ℕ) → BoundedCounts ws → length ws * 16 ≤ length slots → (n : ℕ)
+pub count-at : (ws : List ℕ) (slots : List Message) → BoundedCounts ws → length ws * 16 ≤ length slots → (n : ℕ)
     → length (getD (queues ws slots) n []) ≡ getD ws n 0
 count-at [] slots bounded fits n = refl
 count-at (w ∷ ws) slots bounded fits zero = length-take-le w slots (omega (arith, bounded 0))
 count-at (w ∷ ws) slots bounded fits (suc n) = count-at ws (drop 16 slots) (λ i. bounded (suc i)) (simp length-drop (omega arith)) n
 
 -- its oldest message
-pub oldest-is : (ws slots : List ℕ) (n : ℕ) → 0 < getD ws n 0 → getD slots (n * 16) 0 ≡ getD (getD (queues ws slots) n []) 0 0
+pub oldest-is : (ws : List ℕ) (slots : List Message) (n : ℕ) → 0 < getD ws n 0
+    → getD slots (n * 16) noMessage ≡ getD (getD (queues ws slots) n []) 0 noMessage
 oldest-is ws slots n some =
     let e : n * 16 ≡ 16 * n + 0 = omega arith in
-    rw (queue-at ws slots n, getD-take (getD ws n 0) (drop (16 * n) slots) 0 0 some, getD-drop (16 * n) slots 0 0, e)
+    rw (queue-at ws slots n, getD-take (getD ws n 0) (drop (16 * n) slots) 0 noMessage some, getD-drop (16 * n) slots 0 noMessage, e)
 
 -- counts stay within 16 where the new one is
 pub bounded-set : (ws : List ℕ) (n w : ℕ) → BoundedCounts ws → n < length ws → w ≤ 16 → BoundedCounts (set ws n w)
@@ -55,15 +57,15 @@ apart i n ne = by-order (decLt i n)
 
 -- where the slots of all other nodes are the same, queue n is replaced
 pub queues-change :
-    (ws slots slots′ : List ℕ) (n w : ℕ)
+    (ws : List ℕ) (slots slots′ : List Message) (n w : ℕ)
     → ((i : ℕ) → (i < n) ⊎ (n < i) → take (getD ws i 0) (drop (16 * i) slots′) ≡ take (getD ws i 0) (drop (16 * i) slots))
     → queues (set ws n w) slots′ ≡ set (queues ws slots) n (take w (drop (16 * n) slots′))
 queues-change ws slots slots′ n w same = ext-getD [] (queues (set ws n w) slots′) (set qs n q) (same-length ∙ sym (length-set qs n q)) each
   where
-    qs : List (List ℕ)
+    qs : List (List Message)
     qs = queues ws slots
 
-    q : List ℕ
+    q : List Message
     q = take w (drop (16 * n) slots′)
 
     same-length : length (queues (set ws n w) slots′) ≡ length qs
@@ -82,7 +84,7 @@ queues-change ws slots slots′ n w same = ext-getD [] (queues (set ws n w) slot
         by-place (no ne) = rw (getD-set-other ws n i w 0 ne, getD-set-other qs n i q [] ne, queue-at ws slots i) (same i (apart i n ne))
 
 -- a store outside a part leaves the part
-pub part-set : (slots : List ℕ) (at w a v : ℕ) → (a < at) ⊎ (at + w ≤ a) → take w (drop at (set slots a v)) ≡ take w (drop at slots)
+pub part-set : (slots : List Message) (at w a : ℕ) (v : Message) → (a < at) ⊎ (at + w ≤ a) → take w (drop at (set slots a v)) ≡ take w (drop at slots)
 part-set slots at w a v (inl h) = rw (drop-set-lt at slots a v h)
 part-set slots at w a v (inr h) =
     let e : a ≡ at + (a - at) = omega arith in
@@ -90,16 +92,16 @@ part-set slots at w a v (inr h) =
 
 -- so do stores side by side
 part-paste :
-    (d : List ℕ) (at : ℕ) (s : List ℕ) (n i w : ℕ) → at + n ≤ length d → n ≤ length s → (i + w ≤ at) ⊎ (at + n ≤ i)
+    (d : List Message) (at : ℕ) (s : List Message) (n i w : ℕ) → at + n ≤ length d → n ≤ length s → (i + w ≤ at) ⊎ (at + n ≤ i)
     → take w (drop i (paste d at s n)) ≡ take w (drop i d)
-part-paste d at s zero i w hd hs o = ap (λ (l : List ℕ). take w (drop i l)) (sym (paste-zero d at s))
+part-paste d at s zero i w hd hs o = ap (λ (l : List Message). take w (drop i l)) (sym (paste-zero d at s))
 part-paste d at s (suc j) i w hd hs o =
-    ap (λ (l : List ℕ). take w (drop i l)) (sym (paste-suc d at s j 0 (omega arith) (omega arith)))
-    ∙ part-set (paste d at s j) i w (at + j) (getD s j 0) (⊎-elim (λ h. inr (omega arith)) (λ h. inl (omega arith)) o)
+    ap (λ (l : List Message). take w (drop i l)) (sym (paste-suc d at s j noMessage (omega arith) (omega arith)))
+    ∙ part-set (paste d at s j) i w (at + j) (getD s j noMessage) (⊎-elim (λ h. inr (omega arith)) (λ h. inl (omega arith)) o)
     ∙ part-paste d at s j i w (omega arith) (omega arith) (⊎-elim (λ h. inl h) (λ h. inr (omega arith)) o)
 
 -- what they stored
-front-paste : (d : List ℕ) (at : ℕ) (s : List ℕ) (n k : ℕ) → at ≤ length d → n ≤ length s → k ≤ n
+front-paste : (d : List Message) (at : ℕ) (s : List Message) (n k : ℕ) → at ≤ length d → n ≤ length s → k ≤ n
     → take k (drop at (paste d at s n)) ≡ take k s
 front-paste d at s n k hd hs h =
     let long = length-take-le n s hs in
@@ -111,32 +113,32 @@ front-paste d at s n k hd hs h =
       take-take k n s h,
     )
 
-drop-one-take : (k : ℕ) (l : List ℕ) → 0 < k → drop 1 (take k l) ≡ take (k - 1) (drop 1 l)
+drop-one-take : (k : ℕ) (l : List Message) → 0 < k → drop 1 (take k l) ≡ take (k - 1) (drop 1 l)
 drop-one-take zero l h = absurd (omega arith)
 drop-one-take (suc k) [] h = sym (take-nil (suc k - 1))
 drop-one-take (suc k) (x ∷ l) h = let e : suc k - 1 ≡ k = omega arith in rw e
 
-module _ (ws slots : List ℕ) (n : ℕ) (bounded : BoundedCounts ws) (fits : n * 16 + 16 ≤ length slots) where
+module _ (ws : List ℕ) (slots : List Message) (n : ℕ) (bounded : BoundedCounts ws) (fits : n * 16 + 16 ≤ length slots) where
   -- a message at the back
   pub queues-pushed :
-      (v : ℕ) → getD ws n 0 < 16
-      → queues (set ws n (getD ws n 0 + 1)) (set slots (n * 16 + getD ws n 0) v) ≡ set (queues ws slots) n
-      (getD (queues ws slots) n [] ++ (v ∷ []))
-  queues-pushed v room = queues-change ws slots (set slots (n * 16 + w) v) n (w + 1) same ∙ ap (set (queues ws slots) n) mine
+      (m : Message) → getD ws n 0 < 16
+      → queues (set ws n (getD ws n 0 + 1)) (set slots (n * 16 + getD ws n 0) m) ≡ set (queues ws slots) n
+      (getD (queues ws slots) n [] ++ (m ∷ []))
+  queues-pushed m room = queues-change ws slots (set slots (n * 16 + w) m) n (w + 1) same ∙ ap (set (queues ws slots) n) mine
     where
       w : ℕ
       w = getD ws n 0
 
-      same : (i : ℕ) → (i < n) ⊎ (n < i) → take (getD ws i 0) (drop (16 * i) (set slots (n * 16 + w) v)) ≡ take (getD ws i 0)
+      same : (i : ℕ) → (i < n) ⊎ (n < i) → take (getD ws i 0) (drop (16 * i) (set slots (n * 16 + w) m)) ≡ take (getD ws i 0)
           (drop (16 * i) slots)
-      same i o = part-set slots (16 * i) (getD ws i 0) (n * 16 + w) v
+      same i o = part-set slots (16 * i) (getD ws i 0) (n * 16 + w) m
           (⊎-elim (λ h. inr (omega (arith, bounded i))) (λ h. inl (omega arith)) o)
 
-      mine : take (w + 1) (drop (16 * n) (set slots (n * 16 + w) v)) ≡ getD (queues ws slots) n [] ++ (v ∷ [])
+      mine : take (w + 1) (drop (16 * n) (set slots (n * 16 + w) m)) ≡ getD (queues ws slots) n [] ++ (m ∷ [])
       mine =
           let e : n * 16 + w ≡ 16 * n + w = omega arith in
           let long : w < length (drop (16 * n) slots) = simp length-drop (omega arith) in
-          rw (add-one w, e, drop-set-add (16 * n) slots w v, take-suc-set (drop (16 * n) slots) w v long, queue-at ws slots n)
+          rw (add-one w, e, drop-set-add (16 * n) slots w m, take-suc-set (drop (16 * n) slots) w m long, queue-at ws slots n)
 
   -- the oldest leaves: the slots after it move down by one
   pub queues-popped :
@@ -151,10 +153,10 @@ module _ (ws slots : List ℕ) (n : ℕ) (bounded : BoundedCounts ws) (fits : n 
       base : ℕ
       base = n * 16
 
-      tail : List ℕ
+      tail : List Message
       tail = drop (base + 1) slots
 
-      slots′ : List ℕ
+      slots′ : List Message
       slots′ = paste slots base tail 15
 
       long : 15 ≤ length tail
@@ -171,50 +173,51 @@ module _ (ws slots : List ℕ) (n : ℕ) (bounded : BoundedCounts ws) (fits : n 
           (front-paste slots base tail 15 (w - 1) (omega arith) long (omega (arith, bounded n)))
 
 -- the loop that moves slots down
-pub shifted-none : (slots : List ℕ) (base : ℕ) → slots ≡ shifted slots base 0
-unfolding shifted
-shifted-none slots base = paste-zero slots base (drop (base + 1) slots)
+module _ {A : Type 0} (d : A) (slots : List A) (base : ℕ) where
+  pub shifted-none : slots ≡ shifted slots base 0
+  unfolding shifted
+  shifted-none = paste-zero slots base (drop (base + 1) slots)
 
-pub shifted-more :
-    (slots : List ℕ) (base k : ℕ) → base + k + 1 < length slots
-    → set (shifted slots base k) (base + k) (getD (shifted slots base k) (base + k + 1) 0) ≡ shifted slots base (k + 1)
-unfolding shifted
-shifted-more slots base k h =
-    ap (set (paste slots base tail k) (base + k)) read ∙ paste-suc slots base tail k 0 (omega arith) long
-    ∙ ap (paste slots base tail) (sym (add-one k))
-  where
-    tail : List ℕ
-    tail = drop (base + 1) slots
+  pub shifted-more :
+      (k : ℕ) → base + k + 1 < length slots
+      → set (shifted slots base k) (base + k) (getD (shifted slots base k) (base + k + 1) d) ≡ shifted slots base (k + 1)
+  unfolding shifted
+  shifted-more k h =
+      ap (set (paste slots base tail k) (base + k)) read ∙ paste-suc slots base tail k d (omega arith) long
+      ∙ ap (paste slots base tail) (sym (add-one k))
+    where
+      tail : List A
+      tail = drop (base + 1) slots
 
-    long : k < length tail
-    long = simp length-drop (omega arith)
+      long : k < length tail
+      long = simp length-drop (omega arith)
 
-    read : getD (paste slots base tail k) (base + k + 1) 0 ≡ getD tail k 0
-    read =
-        let e : base + 1 + k ≡ base + k + 1 = omega arith in
-        sym (getD-drop (base + k) (paste slots base tail k) 1 0)
-        ∙ rw (
-          drop-paste slots base tail k (omega arith) (omega (arith, long)),
-          getD-drop (base + k) slots 1 0,
-          getD-drop
-              (base + 1) slots k 0,
-          e,
-        )
+      read : getD (paste slots base tail k) (base + k + 1) d ≡ getD tail k d
+      read =
+          let e : base + 1 + k ≡ base + k + 1 = omega arith in
+          sym (getD-drop (base + k) (paste slots base tail k) 1 d)
+          ∙ rw (
+            drop-paste slots base tail k (omega arith) (omega (arith, long)),
+            getD-drop (base + k) slots 1 d,
+            getD-drop
+                (base + 1) slots k d,
+            e,
+          )
 
--- a slot that is set to one of the values
+-- a slot that is set to one of the messages
 pub brings-set :
-    (values : ℕ → ℕ) (slots slots′ : List ℕ) (at x k : ℕ) → x ≡ values k → BringsOnly values slots slots′
-    → BringsOnly values slots (set slots′ at x)
-brings-set values slots slots′ at x k e h test own all =
-    set-each (λ i y. test y ≡ true) 0 slots′ at x (rw e (own k)) (h test own all)
+    (messages : ℕ → Message) (slots slots′ : List Message) (at : ℕ) (m : Message) (k : ℕ) → m ≡ messages k → BringsOnly messages slots slots′
+    → BringsOnly messages slots (set slots′ at m)
+brings-set messages slots slots′ at m k e h test own all =
+    set-each (λ i y. test y ≡ true) noMessage slots′ at m (rw e (own k)) (h test own all)
 
 -- slots that move down
-pub brings-shifted : (slots : List ℕ) (base k : ℕ) → base + k < length slots → (values : ℕ → ℕ)
-    → BringsOnly values slots (shifted slots base k)
-brings-shifted slots base zero h values test own all = rw (← shifted-none slots base) all
-brings-shifted slots base (suc k) h values test own all =
-    let before = brings-shifted slots base k (omega arith) values test own all in
+pub brings-shifted : (slots : List Message) (base k : ℕ) → base + k < length slots → (messages : ℕ → Message)
+    → BringsOnly messages slots (shifted slots base k)
+brings-shifted slots base zero h messages test own all = rw (← shifted-none noMessage slots base) all
+brings-shifted slots base (suc k) h messages test own all =
+    let before = brings-shifted slots base k (omega arith) messages test own all in
     let e : suc k ≡ k + 1 = omega arith in
-    rw (e, ← shifted-more slots base k (omega arith))
-    (set-each (λ i x. test x ≡ true) 0 (shifted slots base k) (base + k) (getD (shifted slots base k) (base + k + 1) 0)
+    rw (e, ← shifted-more noMessage slots base k (omega arith))
+    (set-each (λ i x. test x ≡ true) noMessage (shifted slots base k) (base + k) (getD (shifted slots base k) (base + k + 1) noMessage)
     (before (base + k + 1)) before)

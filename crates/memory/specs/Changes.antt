@@ -1,17 +1,17 @@
 -- A node's registers and what a turn changes besides, and the state that they make.
-use Prim.Native.Nat.{ℕ, _≤_}
+use Prim.Native.Nat.{ℕ, _*_, _+_, _-_, _≤_}
 use mathlib.Core.Path.{_≡_}
 use mathlib.Core.Bool.{Bool, true, false}
 use mathlib.Core.List.{List}
-use lib.ListN.{set}
+use lib.ListN.{getD, set}
 use Rattle.model.specs.Table.{maxNodes}
 use Rattle.model.specs.Program.{Program}
-use Rattle.model.specs.State.{State, positionAt, accumulatorAt, messageAt}
+use Rattle.model.specs.State.{Message, messageFrom, State, positionAt, accumulatorAt, messageAt}
 use Rattle.model.specs.Turn.{delivered}
 use Rattle.memory.specs.declared.Registers.{Registers}
 use Rattle.memory.specs.declared.Change.{Change}
 use Rattle.memory.specs.declared.Change.the-variants as c
-use Rattle.memory.specs.Queues.{queues, full, withoutOldest, Holds, BringsOnly}
+use Rattle.memory.specs.Queues.{full, withoutOldest, shifted, stored, counted}
 
 -- registers: position, accumulator and message
 abbrev pub registers : ℕ → ℕ → ℕ → Registers
@@ -21,12 +21,28 @@ registers position accumulator message = record { position = position; accumulat
 abbrev pub registersAt : State → ℕ → Registers
 registersAt s n = registers (positionAt s n) (accumulatorAt s n) (messageAt s n)
 
--- the queues after a change of node n: its oldest message leaves, or each target of a port gets the value; `wired` is by port and target
-abbrev pub queuesAfter : (ℕ → ℕ → Bool) → ℕ → ℕ → List (List ℕ) → Change → List (List ℕ)
+-- the queues after a change of node n: its oldest message leaves, or each target of a port gets the value from it; `wired` is by port and
+-- target
+abbrev pub queuesAfter : (ℕ → ℕ → Bool) → ℕ → ℕ → List (List Message) → Change → List (List Message)
 queuesAfter wired n value qs c.Nothing = qs
 queuesAfter wired n value qs c.Take = withoutOldest qs n
-queuesAfter wired n value qs (c.Send port) = delivered (wired port) value qs maxNodes
+queuesAfter wired n value qs (c.Send port) = delivered (wired port) (messageFrom n value) qs maxNodes
 queuesAfter wired n value qs (c.Store x) = qs
+
+-- an array of slots after it, the values' or the senders': the node's slots move down, or each target of a port gets the number; `ws` says
+-- how many messages waited before
+abbrev pub slotsAfter : (ℕ → ℕ → Bool) → ℕ → ℕ → List ℕ → List ℕ → Change → List ℕ
+slotsAfter wired n x ws slots c.Nothing = slots
+slotsAfter wired n x ws slots c.Take = shifted slots (n * 16) 15
+slotsAfter wired n x ws slots (c.Send port) = stored (wired port) ws x slots maxNodes
+slotsAfter wired n x ws slots (c.Store y) = slots
+
+-- how many messages wait after it
+abbrev pub countsAfter : (ℕ → ℕ → Bool) → ℕ → List ℕ → Change → List ℕ
+countsAfter wired n ws c.Nothing = ws
+countsAfter wired n ws c.Take = set ws n (getD ws n 0 - 1)
+countsAfter wired n ws (c.Send port) = counted (wired port) ws maxNodes
+countsAfter wired n ws (c.Store x) = ws
 
 -- the variables after a change: the variable becomes the value
 abbrev pub variablesAfter : ℕ → List ℕ → Change → List ℕ
@@ -59,10 +75,3 @@ carried P s n l x =
       queue = queuesAfter (P .wired n) n (accumulatorAt s n) (s .queue) x;
       variable = variablesAfter (accumulatorAt s n) (s .variable) x;
     }
-
--- the arrays afterwards (`ws′`, `slots′`) hold the queues after the change, and nothing but the value is brought in; where nothing is changed
--- they are the arrays before, free slots included
-pub record Changes (wired : ℕ → ℕ → Bool) (n value : ℕ) (change : Change) (ws slots ws′ slots′ : List ℕ) : Type 0 where
-  pub holds : Holds ws′ slots′ (queuesAfter wired n value (queues ws slots) change)
-  pub brings : BringsOnly (λ k. value) slots slots′
-  pub kept : isNothing change ≡ true → (ws′ ≡ ws) × (slots′ ≡ slots)

@@ -1,25 +1,29 @@
-// The waiting messages of all nodes: one flat array of 16 slots a node, and how many messages wait at each.
+// The values of the waiting messages of all nodes: one flat array of 16 slots a node, and how many messages wait at each.
 ghost use mathlib.Core.Path.{_≡_};
 ghost use mathlib.Core.Bool.{false};
+ghost use mathlib.Core.List.{map};
 ghost use Prim.Native.Nat.{ℕ, _+_, _≤_, _<_};
 ghost use lib.ListN.{length, getD};
 ghost use Rattle.model.specs.Table.{maxNodes};
-ghost use Rattle.model.specs.State.{tabulate};
-ghost use Rattle.model.specs.Turn.{delivered};
+ghost use Rattle.model.specs.State.{startSender, messageFrom, tabulate};
 ghost use Rattle.tables.specs.Tables.{wiredIn, firstsIn};
-ghost use Rattle.memory.specs.Queues.{queues, countAt, BoundedCounts, Holds, BringsOnly, full, withoutOldest, shifted};
-ghost use Rattle.memory.specs.Changes.{Possible, Changes};
+ghost use Rattle.memory.specs.Queues.{countAt, BoundedCounts, Holds, BringsOnly, full, shifted, stored, counted};
+ghost use Rattle.memory.specs.Changes.{Possible, slotsAfter, countsAfter};
 use crate::Change;
 use command::numbers::NodeNum;
 use declared::First;
 use declared::first_message;
 use declared::is_wired;
+use declared::targets_of;
 
 // The queues hold the START values.
 pub fn fill_queues(queue: &mut [u32; 512], waiting: &mut [u8; 32], tables: &[u32])
     requires { ⌜ (length (now queue) ≡ 512) × (length (now waiting) ≡ 32) ⌝ }
-    ensures queues { λ _. ⌜ Holds (now (waiting .exit)) (now (queue .exit)) (tabulate maxNodes (firstsIn (now (tables .entry)))) ⌝ }
-    ensures slots { λ _. ⌜ BringsOnly (λ n. getD (firstsIn (now (tables .entry)) n) 0 0) (now (queue .entry)) (now (queue .exit)) ⌝ }
+    ensures queues { λ _. ⌜ Holds (now (waiting .exit)) (map (messageFrom startSender) (now (queue .exit)))
+        (tabulate maxNodes (λ n. map (messageFrom startSender) (firstsIn (now (tables .entry)) n))) ⌝ }
+    ensures slots { λ _. ⌜ BringsOnly (λ n. messageFrom startSender (getD (firstsIn (now (tables .entry)) n) 0 0))
+        (map (messageFrom startSender) (now (queue .entry))) (map (messageFrom startSender) (now (queue .exit))) ⌝ }
+    ensures size { λ _. ⌜ length (now (queue .exit)) ≡ 512 ⌝ }
 {
     let mut n: usize = 0;
     while n < 32 {
@@ -50,7 +54,7 @@ pub fn has_full(tables: &[u32], n: NodeNum, port: u32, waiting: &[u8; 32]) -> bo
     false
 }
 
-// The value goes to the back of the queue of each target of a node's port.
+// The value goes to the first free slot of each target of a node's port, and one message more waits there.
 pub fn deliver(
     queue: &mut [u32; 512],
     waiting: &mut [u8; 32],
@@ -60,20 +64,21 @@ pub fn deliver(
     value: u32,
 )
     requires { ⌜ (length (now queue) ≡ 512) × (length (now waiting) ≡ 32) ⌝ }
-    requires { ⌜ BoundedCounts (now waiting) ⌝ }
     requires { ⌜ full (wiredIn (now tables) (n .0) port) (countAt (now waiting)) ≡ false ⌝ }
-    ensures queues { λ _. ⌜ Holds (now (waiting .exit)) (now (queue .exit))
-        (delivered (wiredIn (now (tables .entry)) (n .0) port) value (queues (now (waiting .entry)) (now (queue .entry))) maxNodes) ⌝ }
-    ensures slots { λ _. ⌜ BringsOnly (λ k. value) (now (queue .entry)) (now (queue .exit)) ⌝ }
+    ensures slots { λ _. ⌜ now (queue .exit)
+        ≡ stored (wiredIn (now (tables .entry)) (n .0) port) (now (waiting .entry)) value (now (queue .entry)) maxNodes ⌝ }
+    ensures counts { λ _. ⌜ now (waiting .exit) ≡ counted (wiredIn (now (tables .entry)) (n .0) port) (now (waiting .entry)) maxNodes ⌝ }
 {
+    let mut targets = targets_of(tables, n, port);
     let mut target: usize = 0;
-    while target < 32 {
-        if is_wired(tables, n, port, NodeNum(target as u32)) {
+    while targets > 0 {
+        if targets % 2 == 1 {
             let w = waiting[target];
             let at = target * 16 + w as usize;
             queue[at] = value;
             waiting[target] = w + 1;
         }
+        targets = targets / 2;
         target += 1;
     }
 }
@@ -91,22 +96,7 @@ fn shift(queue: &mut [u32; 512], base: usize)
     }
 }
 
-// The oldest message of a node leaves its queue.
-pub fn take_oldest(queue: &mut [u32; 512], waiting: &mut [u8; 32], n: NodeNum)
-    requires { ⌜ (length (now queue) ≡ 512) × (length (now waiting) ≡ 32) ⌝ }
-    requires { ⌜ BoundedCounts (now waiting) ⌝ }
-    requires { ⌜ (n .0 < 32) × (1 ≤ countAt (now waiting) (n .0)) ⌝ }
-    ensures queues { λ _. ⌜ Holds (now (waiting .exit)) (now (queue .exit))
-        (withoutOldest (queues (now (waiting .entry)) (now (queue .entry))) (n .0)) ⌝ }
-    ensures slots { λ _. ⌜ ((values : ℕ → ℕ) → BringsOnly values (now (queue .entry)) (now (queue .exit))) ⌝ }
-{
-    let i = n.0 as usize;
-    shift(queue, i * 16);
-    let w = waiting[i];
-    waiting[i] = w - 1;
-}
-
-// The queues after a change of a node; the value is what it sends.
+// The queues after a change of a node: its oldest message leaves, or the value is sent.
 pub fn change_queues(
     queue: &mut [u32; 512],
     waiting: &mut [u8; 32],
@@ -116,14 +106,20 @@ pub fn change_queues(
     value: u32,
 )
     requires { ⌜ (length (now queue) ≡ 512) × (length (now waiting) ≡ 32) ⌝ }
-    requires { ⌜ BoundedCounts (now waiting) ⌝ }
     requires { ⌜ n .0 < 32 ⌝ }
     requires { ⌜ Possible (wiredIn (now tables) (n .0)) (n .0) (countAt (now waiting)) change ⌝ }
-    ensures { λ _. ⌜ Changes (wiredIn (now (tables .entry)) (n .0)) (n .0) value change (now (waiting .entry)) (now (queue .entry))
-        (now (waiting .exit)) (now (queue .exit)) ⌝ }
+    ensures slots { λ _. ⌜ now (queue .exit)
+        ≡ slotsAfter (wiredIn (now (tables .entry)) (n .0)) (n .0) value (now (waiting .entry)) (now (queue .entry)) change ⌝ }
+    ensures counts { λ _. ⌜ now (waiting .exit)
+        ≡ countsAfter (wiredIn (now (tables .entry)) (n .0)) (n .0) (now (waiting .entry)) change ⌝ }
 {
     match change {
-        Change::Take => take_oldest(queue, waiting, n),
+        Change::Take => {
+            let i = n.0 as usize;
+            shift(queue, i * 16);
+            let w = waiting[i];
+            waiting[i] = w - 1;
+        }
         Change::Send(port) => deliver(queue, waiting, tables, n, port, value),
         _ => {}
     }

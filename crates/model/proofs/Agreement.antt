@@ -9,14 +9,14 @@ use Rattle.model.specs.State.{tabulate, initialState}
 use Rattle.model.specs.Turn.{someBelow, delivered, turn}
 use Rattle.model.specs.Permission.{monitoredTurn}
 use Rattle.model.specs.Run.{runFrom, unmonitoredRun, monitoredRun}
-use Rattle.model.specs.Output.{traceBytes, numbersBytes, nodesBytes, variablesBytes, snapshotBytes}
+use Rattle.model.specs.Output.{traceBytes, messagesBytes, nodesBytes, variablesBytes, snapshotBytes}
 use Rattle.model.specs.Refusal.{anyOf, groupFalls, violation, decodeFrom, decode, refuseFirst, decodeJob, decodeFor}
 use Rattle.model.specs.Result.{report, monitored, unmonitored}
 use Rattle.model.specs.Examples.{outcome, enough, monitoredRow, unmonitoredRow, times, k1, k1Read, k7, four, traced, nodePart}
-use Rattle.model.specs.Examples.{idleNode, ends, noEntry, k1First, k1Last, examples, ExamplesHold}
+use Rattle.model.specs.Examples.{idleNode, waits, ends, noEntry, k1First, k1Last, examples, ExamplesHold}
 use Rattle.model.specs.Readings.{within, nodes, global, turns, orderRows, variable, undeclaredRows, sightRows, declaredRows, turnRows}
 use Rattle.model.specs.Readings.{callingThen, callingOf, calling, span, arg, answered, called, forbidden, spanRows, reply, any}
-use Rattle.model.specs.Readings.{replies, replyRows, read, write, handling, rests, unusedRows, ReadingsHold}
+use Rattle.model.specs.Readings.{replies, replyRows, read, write, handling, rests, unusedRows, twoSenders, twoSent, senderRows, ReadingsHold}
 
 rows-hold : ExamplesHold × ReadingsHold
 unfolding operandsIn operandsOf isAmong largestIn largestOf
@@ -25,15 +25,16 @@ unfolding operandsIn operandsOf isAmong largestIn largestOf
     programOf tabulate initialState
     someBelow delivered turn monitoredTurn
     runFrom unmonitoredRun monitoredRun
-    traceBytes numbersBytes nodesBytes variablesBytes snapshotBytes
+    traceBytes messagesBytes nodesBytes variablesBytes snapshotBytes
     anyOf groupFalls violation decodeFrom decode refuseFirst decodeJob decodeFor
     report monitored unmonitored
-    outcome enough monitoredRow unmonitoredRow times four traced nodePart idleNode ends noEntry
+    outcome enough monitoredRow unmonitoredRow times four traced nodePart idleNode waits ends noEntry
     k1 k1Read k7 k1First k1Last examples
     within nodes global turns orderRows variable undeclaredRows sightRows declaredRows turnRows
     callingThen callingOf calling span arg answered called forbidden spanRows
     reply any replies replyRows
     read write handling rests unusedRows
+    twoSenders twoSent senderRows
 rows-hold = (refl, refl)
 
 -- K1 to K11, and 32 and 33 nodes

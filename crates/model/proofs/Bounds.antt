@@ -1,4 +1,4 @@
--- How long the outputs are: 7 bytes an entry, at most one entry a turn, and a snapshot of at most 2,624 bytes after every run of an
+-- How long the outputs are: 7 bytes an entry, at most one entry a turn, and a snapshot of at most 3,136 bytes after every run of an
 -- accepted job.
 use Prim.Native.Nat.{ℕ, zero, suc, _+_, _*_, _≤_, _<_, zero-le, suc-le-suc}
 use mathlib.Core.Path.{_≡_, refl}
@@ -6,17 +6,18 @@ use mathlib.Core.Bool.{Bool, true, false, cond}
 use mathlib.Core.List.{List, [], _∷_, _++_}
 use native.Mathlib.Omega.{arith}
 use lib.Dec.{eqb}
-use lib.ListN.{length, getD, set, drop, length-append, length-drop}
+use lib.ListN.{length, getD, set, drop, length-append, length-drop, length-map}
 use borrow.Author.Tests.{leb-false}
 use Rattle.model.specs.Table.{SEND, maxNodes, maxWaiting}
 use Rattle.model.specs.Command.{Command}
 use Rattle.model.specs.Declared.{Instruction, startsOf}
 use Rattle.model.specs.Program.{Program, programOf}
-use Rattle.model.specs.State.{State, positionAt, accumulatorAt, queueAt, waitingAt, variableAt, initialState}
+use Rattle.model.specs.State.{Message, messageFrom, startSender, State, positionAt, accumulatorAt, queueAt, waitingAt}
+use Rattle.model.specs.State.{variableAt, firstQueue, initialState}
 use Rattle.model.specs.Turn.{Entry, Turned, completed, stopped, someBelow, delivered, isFull, blocked, performed, instructionAt, turn}
 use Rattle.model.specs.Permission.{monitoredTurn}
 use Rattle.model.specs.Run.{Run, proceed, runFrom, monitoredRun, unmonitoredRun}
-use Rattle.model.specs.Output.{bytes4, traceBytes, numbersBytes, nodeBytes, nodesBytes, variablesBytes, snapshotBytes}
+use Rattle.model.specs.Output.{bytes4, traceBytes, messagesBytes, nodeBytes, nodesBytes, variablesBytes, snapshotBytes}
 use Rattle.model.specs.Valid.{Valid, Bounded}
 use Rattle.model.proofs.Logic.{and-rest}
 use Rattle.model.proofs.Valid.{limits}
@@ -31,15 +32,15 @@ unfolding traceBytes
 length-trace [] = refl
 length-trace (e ∷ es) = omega (arith, length-trace es)
 
--- 4 bytes a number
-pub length-numbers : (vs : List ℕ) → length (numbersBytes vs) ≡ 4 * length vs
-unfolding numbersBytes
-length-numbers [] = refl
-length-numbers (v ∷ vs) = omega (arith, length-numbers vs)
+-- 5 bytes a waiting message
+pub length-messages : (ms : List Message) → length (messagesBytes ms) ≡ 5 * length ms
+unfolding messagesBytes
+length-messages [] = refl
+length-messages (m ∷ ms) = omega (arith, length-messages ms)
 
 -- a node in the snapshot
-pub length-node : (s : State) (n : ℕ) → length (nodeBytes s n) ≡ 10 + 4 * waitingAt s n
-length-node s n = omega (arith, length-numbers (queueAt s n))
+pub length-node : (s : State) (n : ℕ) → length (nodeBytes s n) ≡ 10 + 5 * waitingAt s n
+length-node s n = omega (arith, length-messages (queueAt s n))
 
 -- one node and one variable more in the snapshot
 pub nodes-next : (s : State) (k : ℕ) → nodesBytes s (suc k) ≡ nodesBytes s k ++ nodeBytes s k
@@ -57,12 +58,12 @@ length-variables s zero = refl
 length-variables s (suc k) = omega (arith, length-append (variablesBytes s k) (bytes4 (variableAt s k)), length-variables s k)
 
 -- the nodes in the snapshot
-pub length-nodes : (s : State) → Bounded s → (k : ℕ) → length (nodesBytes s k) ≤ 74 * k
+pub length-nodes : (s : State) → Bounded s → (k : ℕ) → length (nodesBytes s k) ≤ 90 * k
 unfolding nodesBytes
 length-nodes s b zero = omega arith
 length-nodes s b (suc k) = omega (arith, length-append (nodesBytes s k) (nodeBytes s k), length-node s k, b k, length-nodes s b k)
 
-pub length-snapshot : (P : Program) (s : State) → P .nodes ≤ 32 → P .variables ≤ 64 → Bounded s → length (snapshotBytes P s) ≤ 2624
+pub length-snapshot : (P : Program) (s : State) → P .nodes ≤ 32 → P .variables ≤ 64 → Bounded s → length (snapshotBytes P s) ≤ 3136
 unfolding snapshotBytes
 length-snapshot P s l m b =
     omega (
@@ -74,35 +75,35 @@ length-snapshot P s l m b =
     )
 
 -- every queue is short
-abbrev Short : List (List ℕ) → Type 0
+abbrev Short : List (List Message) → Type 0
 Short qs = (t : ℕ) → length (getD qs t []) ≤ maxWaiting
 
 -- one short list set among short lists
-set-short : (qs : List (List ℕ)) (n : ℕ) (q : List ℕ) → length q ≤ maxWaiting → Short qs → Short (set qs n q)
-set-short qs n q = set-each (λ t (p : List ℕ). length p ≤ maxWaiting) [] qs n q
+set-short : (qs : List (List Message)) (n : ℕ) (q : List Message) → length q ≤ maxWaiting → Short qs → Short (set qs n q)
+set-short qs n q = set-each (λ t (p : List Message). length p ≤ maxWaiting) [] qs n q
 
 -- delivery to targets with room
 delivered-short :
-    (target : ℕ → Bool) (v : ℕ) (qs : List (List ℕ)) → Short qs
-    → (k : ℕ) → ((t : ℕ) → t < k → target t ≡ true → length (getD qs t []) < 16) → Short (delivered target v qs k)
+    (target : ℕ → Bool) (m : Message) (qs : List (List Message)) → Short qs
+    → (k : ℕ) → ((t : ℕ) → t < k → target t ≡ true → length (getD qs t []) < 16) → Short (delivered target m qs k)
 unfolding delivered
-delivered-short target v qs b zero room = b
-delivered-short target v qs b (suc k) room = by-target (target k) refl (delivered-short target v qs b k (λ t h. room t (omega arith)))
+delivered-short target m qs b zero room = b
+delivered-short target m qs b (suc k) room = by-target (target k) refl (delivered-short target m qs b k (λ t h. room t (omega arith)))
   where
     by-target :
-        (t : Bool) → target k ≡ t → Short (delivered target v qs k)
-        → Short (cond t (set (delivered target v qs k) k (getD (delivered target v qs k) k [] ++ (v ∷ []))) (delivered target v qs k))
+        (t : Bool) → target k ≡ t → Short (delivered target m qs k)
+        → Short (cond t (set (delivered target m qs k) k (getD (delivered target m qs k) k [] ++ (m ∷ []))) (delivered target m qs k))
     by-target false e ih = ih
     by-target true e ih =
         let r : length (getD qs k []) < 16 = room k (omega arith) e in
-        let here : length (getD (delivered target v qs k) k []) < 16 = rw (delivered-later target v qs k k (omega arith)) r in
-        set-short (delivered target v qs k) k _ (omega (arith, length-append (getD (delivered target v qs k) k []) (v ∷ []))) ih
+        let here : length (getD (delivered target m qs k) k []) < 16 = rw (delivered-later target m qs k k (omega arith)) r in
+        set-short (delivered target m qs k) k _ (omega (arith, length-append (getD (delivered target m qs k) k []) (m ∷ []))) ih
 
 -- a handler command that is not blocked
 performed-bounded : (P : Program) (s : State) (n : ℕ) (i : Instruction) → Bounded s → blocked P s n i ≡ false → Bounded (performed P s n i)
 performed-bounded P s n i b free =
     performed-by Bounded P s n i (λ a. b) (λ x. b) b (λ j. b)
-    (λ e. delivered-short (P .wired n (i .operand)) (accumulatorAt s n) (s .queue) b maxNodes (room e))
+    (λ e. delivered-short (P .wired n (i .operand)) (messageFrom n (accumulatorAt s n)) (s .queue) b maxNodes (room e))
   where
     room : eqb (i .byte) SEND ≡ true → (t : ℕ) → t < 32 → P .wired n (i .operand) t ≡ true → waitingAt s t < 16
     room e t h w =
@@ -143,8 +144,8 @@ run-bounded rule keeps (n ∷ turns) s b = proceed-bounded (length turns) (runFr
 -- the start of every accepted job
 pub initial-bounded : (past : List Command) → Valid past → Bounded (initialState (programOf past))
 unfolding initialState programOf
-initial-bounded past v = tabulate-each (λ t (q : List ℕ). length q ≤ maxWaiting) [] maxNodes (startsOf past)
-    (λ t. omega (arith, starts-one past v t)) (λ t. zero-le)
+initial-bounded past v = tabulate-each (λ t (q : List Message). length q ≤ maxWaiting) [] maxNodes (firstQueue (programOf past))
+    (λ t. omega (arith, starts-one past v t, length-map (startsOf past t) (messageFrom startSender))) (λ t. zero-le)
 
 -- both runs of every accepted job
 module _ (past : List Command) (v : Valid past) (turns : List ℕ) where
@@ -158,6 +159,6 @@ module _ (past : List Command) (v : Valid past) (turns : List ℕ) where
   monitored-fits = run-bounded (monitoredTurn (programOf past)) (monitored-bounded (programOf past)) turns (initialState (programOf past))
       (initial-bounded past v)
 
-  pub snapshot-fits : (s : State) → Bounded s → length (snapshotBytes (programOf past) s) ≤ 2624
+  pub snapshot-fits : (s : State) → Bounded s → length (snapshotBytes (programOf past) s) ≤ 3136
   unfolding programOf
   snapshot-fits s b = length-snapshot (programOf past) s (limits past v .nodes) (limits past v .variables) b

@@ -59,21 +59,21 @@ and-then-accepted test (rejected r) past e = let w : _≡_ {A = ℕ} 0 1 = cc in
 
 -- no buffer is too short
 pub buffers-fit : (job : List ℕ) (b : Sizes) (past : List Command) → shortBuffer job b past ≡ none
-    → (7 * countOf TURN past ≤ b .trace) × (2624 ≤ b .snapshot) × (4096 ≤ b .work)
-buffers-fit job b past e = by-tests (ltb (b .trace) (7 * countOf TURN past)) refl (ltb (b .snapshot) 2624) refl (ltb (b .work) 4096) refl e
+    → (7 * countOf TURN past ≤ b .trace) × (3136 ≤ b .snapshot) × (4096 ≤ b .work)
+buffers-fit job b past e = by-tests (ltb (b .trace) (7 * countOf TURN past)) refl (ltb (b .snapshot) 3136) refl (ltb (b .work) 4096) refl e
   where
     by-tests :
-        (t : Bool) → ltb (b .trace) (7 * countOf TURN past) ≡ t → (u : Bool) → ltb (b .snapshot) 2624 ≡ u → (v : Bool)
+        (t : Bool) → ltb (b .trace) (7 * countOf TURN past) ≡ t → (u : Bool) → ltb (b .snapshot) 3136 ≡ u → (v : Bool)
         → ltb (b .work) 4096 ≡ v
         → cond t (some (refuse 10 (length job))) (cond u (some (refuse 11 (length job)))
         (cond v (some (refuse 12 (length job))) none)) ≡ none
-        → (7 * countOf TURN past ≤ b .trace) × (2624 ≤ b .snapshot) × (4096 ≤ b .work)
+        → (7 * countOf TURN past ≤ b .trace) × (3136 ≤ b .snapshot) × (4096 ≤ b .work)
     by-tests true p u q v r z = let w : _≡_ {A = ℕ} 0 1 = cc in absurd (omega arith)
     by-tests false p true q v r z = let w : _≡_ {A = ℕ} 0 1 = cc in absurd (omega arith)
     by-tests false p false q true r z = let w : _≡_ {A = ℕ} 0 1 = cc in absurd (omega arith)
     by-tests false p false q false r z = (
       ltb-false (b .trace) (7 * countOf TURN past) p,
-      ltb-false (b .snapshot) 2624 q,
+      ltb-false (b .snapshot) 3136 q,
       ltb-false
           (b .work) 4096 r,
     )
@@ -88,18 +88,18 @@ module _ (job : List ℕ) (b : Sizes) where
     unfolding decodeFor
     decode-for-trace h = rw (e, lt-ltb (b .trace) (7 * countOf TURN all) h)
 
-    pub decode-for-snapshot : 7 * countOf TURN all ≤ b .trace → b .snapshot < 2624 → decodeFor job b ≡ rejected (refuse 11 (length job))
+    pub decode-for-snapshot : 7 * countOf TURN all ≤ b .trace → b .snapshot < 3136 → decodeFor job b ≡ rejected (refuse 11 (length job))
     unfolding decodeFor
-    decode-for-snapshot h i = rw (e, le-ltb (b .trace) (7 * countOf TURN all) h, lt-ltb (b .snapshot) 2624 i)
+    decode-for-snapshot h i = rw (e, le-ltb (b .trace) (7 * countOf TURN all) h, lt-ltb (b .snapshot) 3136 i)
 
-    pub decode-for-work : 7 * countOf TURN all ≤ b .trace → 2624 ≤ b .snapshot → b .work < 4096
+    pub decode-for-work : 7 * countOf TURN all ≤ b .trace → 3136 ≤ b .snapshot → b .work < 4096
         → decodeFor job b ≡ rejected (refuse 12 (length job))
     unfolding decodeFor
-    decode-for-work h i j = rw (e, le-ltb (b .trace) (7 * countOf TURN all) h, le-ltb (b .snapshot) 2624 i, lt-ltb (b .work) 4096 j)
+    decode-for-work h i j = rw (e, le-ltb (b .trace) (7 * countOf TURN all) h, le-ltb (b .snapshot) 3136 i, lt-ltb (b .work) 4096 j)
 
-    pub decode-for-accepted : 7 * countOf TURN all ≤ b .trace → 2624 ≤ b .snapshot → 4096 ≤ b .work → decodeFor job b ≡ accepted all
+    pub decode-for-accepted : 7 * countOf TURN all ≤ b .trace → 3136 ≤ b .snapshot → 4096 ≤ b .work → decodeFor job b ≡ accepted all
     unfolding decodeFor
-    decode-for-accepted h i j = rw (e, le-ltb (b .trace) (7 * countOf TURN all) h, le-ltb (b .snapshot) 2624 i, le-ltb (b .work) 4096 j)
+    decode-for-accepted h i j = rw (e, le-ltb (b .trace) (7 * countOf TURN all) h, le-ltb (b .snapshot) 3136 i, le-ltb (b .work) 4096 j)
 
   -- the results
   pub monitored-refused : (r : Refusal) → decodeFor job b ≡ rejected r → monitored job b ≡ refused r

@@ -5,7 +5,7 @@ use lib.ListN.{length-set, length-replicate}
 use Rattle.model.specs.Table.{maxNodes, maxVariables}
 use Rattle.model.specs.Declared.{Instruction}
 use Rattle.model.specs.Program.{Program}
-use Rattle.model.specs.State.{State, positionAt, initialState}
+use Rattle.model.specs.State.{State, positionAt, firstQueue, initialState}
 use Rattle.model.specs.Turn.{performed, instructionAt, turn}
 use Rattle.model.specs.Permission.{monitoredTurn}
 use Rattle.model.specs.Valid.{Sized}
@@ -21,7 +21,7 @@ initial-sized P =
       position = length-replicate {A = ℕ} maxNodes 255;
       accumulator = length-replicate {A = ℕ} maxNodes 0;
       message = length-replicate {A = ℕ} maxNodes 0;
-      queue = length-tabulate maxNodes (P .firstMessages);
+      queue = length-tabulate maxNodes (firstQueue P);
       variable = length-tabulate maxVariables (P .startValue);
     }
 

@@ -13,7 +13,7 @@ use Rattle.model.specs.State.{tabulate, initialState}
 use Rattle.model.specs.Turn.{entry, turn}
 use Rattle.model.specs.Permission.{monitoredTurn}
 use Rattle.model.specs.Run.{runFrom, monitoredRun}
-use Rattle.model.specs.Output.{traceBytes, numbersBytes, nodesBytes, variablesBytes, snapshotBytes}
+use Rattle.model.specs.Output.{traceBytes, messagesBytes, nodesBytes, variablesBytes, snapshotBytes}
 use Rattle.model.specs.Refusal.{anyOf, groupFalls, violation, refuse, accepted, rejected, decodeFrom, decode, refuseFirst, decodeJob}
 use Rattle.model.specs.Result.{refused, report, monitored}
 use Rattle.model.specs.Examples.{enough, times, four, nodePart, idleNode, ends, manyTurns, TurnLimit}
@@ -81,7 +81,7 @@ decoded (suc k) h =
 stops-at-once : (turns : List ℕ) → report (programOf (turnCommands 0)) (monitoredRun (programOf (turnCommands 0)) (0 ∷ turns)) ≡ ends 2 0
     (entry 0 0 0 0) [] idleNode
 unfolding report monitoredRun runFrom monitoredTurn turn initialState tabulate programOf declared countOf startsOf traceBytes snapshotBytes
-    nodesBytes numbersBytes variablesBytes ends idleNode nodePart four
+    nodesBytes messagesBytes variablesBytes ends idleNode nodePart four
 stops-at-once turns = refl
 
 many-accepted : (k : ℕ) → suc k ≤ maxTurns → monitored (manyTurns (suc k)) enough ≡ ends 2 0 (entry 0 0 0 0) [] idleNode

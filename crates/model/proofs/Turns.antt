@@ -10,7 +10,7 @@ use lib.Seq.{getD-set-other}
 use borrow.Author.Tests.{eqb-true, eqb-false, eq-eqb, ne-eqb, lt-ltb, le-ltb}
 use Rattle.model.specs.Declared.{Instruction}
 use Rattle.model.specs.Program.{Program}
-use Rattle.model.specs.State.{State, idle, positionAt, waitingAt}
+use Rattle.model.specs.State.{Message, State, idle, positionAt, waitingAt}
 use Rattle.model.specs.Turn.{Entry, entry, completed, stopped, oldest, begun, finished, someBelow, delivered, performed, entryOf}
 use Rattle.model.specs.Turn.{blocked, executed, idleTurn, instructionAt, turn}
 use Rattle.model.specs.Permission.{permitted, redacted, enforced, monitoredTurn}
@@ -42,49 +42,49 @@ some-found test (suc k) t h e = by-last (eqb t k) refl (some-found test k t)
     by-last false p ih = rw (ih (omega (arith, eqb-false t k p)) e)
 
 -- the loop of a send, at a target and at any other node
-module _ (target : ℕ → Bool) (v : ℕ) (qs : List (List ℕ)) (k : ℕ) where
-  pub delivered-target : target k ≡ true → delivered target v qs (suc k) ≡ set (delivered target v qs k) k
-      (getD (delivered target v qs k) k [] ++ (v ∷ []))
+module _ (target : ℕ → Bool) (m : Message) (qs : List (List Message)) (k : ℕ) where
+  pub delivered-target : target k ≡ true → delivered target m qs (suc k) ≡ set (delivered target m qs k) k
+      (getD (delivered target m qs k) k [] ++ (m ∷ []))
   unfolding delivered
   delivered-target e = rw e
 
-  pub delivered-other : target k ≡ false → delivered target v qs (suc k) ≡ delivered target v qs k
+  pub delivered-other : target k ≡ false → delivered target m qs (suc k) ≡ delivered target m qs k
   unfolding delivered
   delivered-other e = rw e
 
 -- a send by the same targets, and a test with the same answers
-pub delivered-agree : (target target′ : ℕ → Bool) → ((t : ℕ) → target t ≡ target′ t) → (v : ℕ) (qs : List (List ℕ)) (k : ℕ)
-    → delivered target v qs k ≡ delivered target′ v qs k
-delivered-agree target target′ e v qs k = λ i. delivered (λ t. e t i) v qs k
+pub delivered-agree : (target target′ : ℕ → Bool) → ((t : ℕ) → target t ≡ target′ t) → (m : Message) (qs : List (List Message)) (k : ℕ)
+    → delivered target m qs k ≡ delivered target′ m qs k
+delivered-agree target target′ e m qs k = λ i. delivered (λ t. e t i) m qs k
 
 pub some-agree : (test test′ : ℕ → Bool) → ((t : ℕ) → test t ≡ test′ t) → (k : ℕ) → someBelow test k ≡ someBelow test′ k
 some-agree test test′ e k = λ i. someBelow (λ t. e t i) k
 
 -- a send changes no number of queues
-pub length-delivered : (target : ℕ → Bool) (v : ℕ) (qs : List (List ℕ)) (k : ℕ) → length (delivered target v qs k) ≡ length qs
+pub length-delivered : (target : ℕ → Bool) (m : Message) (qs : List (List Message)) (k : ℕ) → length (delivered target m qs k) ≡ length qs
 unfolding delivered
-length-delivered target v qs zero = refl
-length-delivered target v qs (suc k) = by-target (target k) (length-delivered target v qs k)
+length-delivered target m qs zero = refl
+length-delivered target m qs (suc k) = by-target (target k) (length-delivered target m qs k)
   where
     by-target :
-        (b : Bool) → length (delivered target v qs k) ≡ length qs
-        → length (cond b (set (delivered target v qs k) k (getD (delivered target v qs k) k [] ++ (v ∷ [])))
-        (delivered target v qs k)) ≡ length qs
-    by-target true h = length-set (delivered target v qs k) k _ ∙ h
+        (b : Bool) → length (delivered target m qs k) ≡ length qs
+        → length (cond b (set (delivered target m qs k) k (getD (delivered target m qs k) k [] ++ (m ∷ [])))
+        (delivered target m qs k)) ≡ length qs
+    by-target true h = length-set (delivered target m qs k) k _ ∙ h
     by-target false h = h
 
 -- the queues from k on wait for their value
-pub delivered-later : (target : ℕ → Bool) (v : ℕ) (qs : List (List ℕ)) (k t : ℕ) → k ≤ t
-    → getD (delivered target v qs k) t [] ≡ getD qs t []
+pub delivered-later : (target : ℕ → Bool) (m : Message) (qs : List (List Message)) (k t : ℕ) → k ≤ t
+    → getD (delivered target m qs k) t [] ≡ getD qs t []
 unfolding delivered
-delivered-later target v qs zero t h = refl
-delivered-later target v qs (suc k) t h = by-target (target k) (delivered-later target v qs k t (omega arith))
+delivered-later target m qs zero t h = refl
+delivered-later target m qs (suc k) t h = by-target (target k) (delivered-later target m qs k t (omega arith))
   where
     by-target :
-        (b : Bool) → getD (delivered target v qs k) t [] ≡ getD qs t []
-        → getD (cond b (set (delivered target v qs k) k (getD (delivered target v qs k) k [] ++ (v ∷ []))) (delivered target v qs k)) t
+        (b : Bool) → getD (delivered target m qs k) t [] ≡ getD qs t []
+        → getD (cond b (set (delivered target m qs k) k (getD (delivered target m qs k) k [] ++ (m ∷ []))) (delivered target m qs k)) t
         [] ≡ getD qs t []
-    by-target true ih = getD-set-other (delivered target v qs k) k t _ [] (λ e. omega arith) ∙ ih
+    by-target true ih = getD-set-other (delivered target m qs k) k t _ [] (λ e. omega arith) ∙ ih
     by-target false ih = ih
 
 -- the four ways of a turn
@@ -93,7 +93,7 @@ module _ (P : Program) (s : State) (n : ℕ) where
   unfolding turn
   turn-unready p w = rw (eq-eqb (positionAt s n) idle p, eq-eqb (waitingAt s n) 0 w)
 
-  pub turn-begun : positionAt s n ≡ idle → ¬ (waitingAt s n ≡ 0) → turn P s n ≡ completed (entry n 1 0 (oldest s n)) (begun s n)
+  pub turn-begun : positionAt s n ≡ idle → ¬ (waitingAt s n ≡ 0) → turn P s n ≡ completed (entry n 1 (oldest s n .sender) (oldest s n .value)) (begun s n)
   unfolding turn
   turn-begun p w = rw (eq-eqb (positionAt s n) idle p, ne-eqb (waitingAt s n) 0 w)
 

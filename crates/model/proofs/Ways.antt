@@ -7,9 +7,9 @@ use lib.ListN.{length}
 use borrow.Author.Tests.{ltb-true, ltb-false, eqb-true, eqb-false}
 use Rattle.model.specs.Table.{SET, TAKE, GET, PUT, ADD, PLUS, JUMPZ, JUMP, SEND, CALL, maxNodes}
 use Rattle.model.specs.Declared.{Instruction}
-use Rattle.model.specs.Program.{Program}
+use Rattle.model.specs.Program.{Program, sharedIn}
 use Rattle.model.specs.State.{State, idle, positionAt, accumulatorAt, messageAt, waitingAt, variableAt, withPosition, withAccumulator}
-use Rattle.model.specs.State.{withQueues, withVariable}
+use Rattle.model.specs.State.{messageFrom, withQueues, withVariable}
 use Rattle.model.specs.Turn.{Entry, entry, Turned, completed, stopped, oldest, begun, finished, delivered, sum32, performed, advanced}
 use Rattle.model.specs.Turn.{entryOf, blocked, instructionAt, turn}
 use Rattle.model.specs.Permission.{permitted, redacted, enforced, monitoredTurn}
@@ -24,6 +24,11 @@ either Q false x y p q = q refl
 abbrev pub Keeps : (State → Type 0) → Turned → Type 0
 Keeps Q (completed e s) = Q s
 Keeps Q (stopped k e) = Unit {0}
+
+-- a completed turn makes an entry with this property
+abbrev pub Makes : (Entry → Type 0) → Turned → Type 0
+Makes Q (completed e s) = Q e
+Makes Q (stopped k e) = Unit {0}
 
 -- the command is a jump
 abbrev pub isJump : Instruction → Bool
@@ -44,7 +49,7 @@ pub performed-with :
     → ((x : ℕ) → Q (advanced (withVariable s x (accumulatorAt s n)) n))
     → Q (advanced s n)
     → (isJump i ≡ true → Q (withPosition s n (i .operand)))
-    → (eqb (i .byte) SEND ≡ true → Q (advanced (withQueues s (delivered (P .wired n (i .operand)) (accumulatorAt s n) (s .queue) maxNodes))
+    → (eqb (i .byte) SEND ≡ true → Q (advanced (withQueues s (delivered (P .wired n (i .operand)) (messageFrom n (accumulatorAt s n)) (s .queue) maxNodes))
     n))
     → Q (performed P s n i)
 performed-with R Q P s n i new sets writes on jumps sends =
@@ -67,17 +72,35 @@ pub performed-by :
     → ((x : ℕ) → Q (advanced (withVariable s x (accumulatorAt s n)) n))
     → Q (advanced s n)
     → (isJump i ≡ true → Q (withPosition s n (i .operand)))
-    → (eqb (i .byte) SEND ≡ true → Q (advanced (withQueues s (delivered (P .wired n (i .operand)) (accumulatorAt s n) (s .queue) maxNodes))
+    → (eqb (i .byte) SEND ≡ true → Q (advanced (withQueues s (delivered (P .wired n (i .operand)) (messageFrom n (accumulatorAt s n)) (s .queue) maxNodes))
     n))
     → Q (performed P s n i)
 performed-by Q P s n i sets = performed-with (λ a. Unit {0}) Q P s n i
     (record { operand = tt; message = tt; variable = tt; sum = λ a b. tt; answer = tt }) (λ a v. sets a)
 
+-- a handler command leaves a read, a write, a call or a send, or nothing of these
+pub left-by :
+    (Q : Entry → Type 0) (P : Program) (s : State) (n : ℕ) (i : Instruction)
+    → (eqb (i .byte) GET ≡ true → Q (entry n 3 (i .operand) (variableAt s (i .operand))))
+    → (eqb (i .byte) PLUS ≡ true → Q (entry n 3 (i .operand) (variableAt s (i .operand))))
+    → (eqb (i .byte) PUT ≡ true → Q (entry n 4 (i .operand) (accumulatorAt s n)))
+    → (eqb (i .byte) CALL ≡ true → Q (entry n 5 (i .operand) (accumulatorAt s n)))
+    → (eqb (i .byte) SEND ≡ true → Q (entry n 6 (i .operand) (accumulatorAt s n)))
+    → Q (entry n 0 0 0)
+    → Q (entryOf P s n i)
+left-by Q P s n i reads adds writes calls sends other =
+    let shared = sharedIn P (i .operand) in
+    either Q (eqb (i .byte) GET) _ _ (λ e. either Q shared _ _ (λ _. reads e) (λ _. other)) λ _.
+    either Q (eqb (i .byte) PLUS) _ _ (λ e. either Q shared _ _ (λ _. adds e) (λ _. other)) λ _.
+    either Q (eqb (i .byte) PUT) _ _ (λ e. either Q shared _ _ (λ _. writes e) (λ _. other)) λ _.
+    either Q (eqb (i .byte) CALL) _ _ calls λ _.
+    either Q (eqb (i .byte) SEND) _ _ sends (λ _. other)
+
 -- the node is not ready, takes a message, is stopped at a full target, carries out a command, or becomes idle
 pub turn-by :
     (Q : Turned → Type 0) (P : Program) (s : State) (n : ℕ)
     → (positionAt s n ≡ idle → waitingAt s n ≡ 0 → Q (stopped 2 (entry n 0 0 0)))
-    → (positionAt s n ≡ idle → ¬ (waitingAt s n ≡ 0) → Q (completed (entry n 1 0 (oldest s n)) (begun s n)))
+    → (positionAt s n ≡ idle → ¬ (waitingAt s n ≡ 0) → Q (completed (entry n 1 (oldest s n .sender) (oldest s n .value)) (begun s n)))
     → (positionAt s n < length (P .handler n) → blocked P s n (instructionAt P n (positionAt s n)) ≡ true
     → Q (stopped 3 (entryOf P s n (instructionAt P n (positionAt s n)))))
     → (positionAt s n < length (P .handler n) → blocked P s n (instructionAt P n (positionAt s n)) ≡ false

@@ -13,8 +13,8 @@ use Rattle.model.specs.Table.{argument, value, low, high, variable, jump
 use Rattle.model.specs.Command.{Operands, Command, is, numberAt, firstAt, secondAt, thirdAt, fourthAt, operandsAt}
 use Rattle.model.specs.Declared.{countOf, declared, isReply, replyOf, belongs, Instruction, instruction, handlerOf, startsOf, turnsOf}
 use Rattle.model.specs.Program.{Program, programOf}
-use Rattle.model.specs.State.{State, positionAt, accumulatorAt, queueAt, initialState}
-use Rattle.model.specs.Turn.{delivered, sum32, performed, instructionAt, turn}
+use Rattle.model.specs.State.{State, positionAt, accumulatorAt, initialState}
+use Rattle.model.specs.Turn.{sum32, performed, instructionAt, turn}
 use Rattle.model.specs.Permission.{monitoredTurn}
 use Rattle.model.specs.Run.{stateAt, monitoredRun, unmonitoredRun}
 use Rattle.model.specs.Output.{bytes4}
@@ -25,6 +25,7 @@ use Rattle.model.proofs.Lists.{getD-each, only-each, set-each, tabulate
 use Rattle.model.proofs.Valid.{job-accepted}
 use Rattle.model.proofs.Reading.{read-at, number-four, number-one, number-none}
 use Rattle.model.proofs.Ways.{Keeps, performed-with, turn-by, monitored-by}
+use Rattle.model.proofs.Messages.{each-first, each-taken, each-delivered}
 use Rattle.model.proofs.Runs.{run-each}
 
 -- an operand is below 2^32
@@ -141,36 +142,9 @@ initial-fits P fit =
     record {
       accumulator = replicate-each (λ n a. a < 2 ^ 32) 0 maxNodes 0 (λ n. omega arith) (λ n. omega arith);
       message = replicate-each (λ n a. a < 2 ^ 32) 0 maxNodes 0 (λ n. omega arith) (λ n. omega arith);
-      queue = tabulate-each (λ n (q : List ℕ). (i : ℕ) → getD q i 0 < 2 ^ 32) [] maxNodes (P .firstMessages) (fit .firstMessage)
-          (λ n i. omega arith);
+      queue = each-first (λ n m. m .value < 2 ^ 32) P (λ n i h. fit .firstMessage n i);
       variable = tabulate-each (λ x a. a < 2 ^ 32) 0 maxVariables (P .startValue) (fit .startValue) (λ x. omega arith);
     }
-
--- a queue with one value more, and without its first
-snoc-fits : (q : List ℕ) (a : ℕ) → a < 2 ^ 32 → ((i : ℕ) → getD q i 0 < 2 ^ 32) → (i : ℕ) → getD (q ++ (a ∷ [])) i 0 < 2 ^ 32
-snoc-fits [] a l h zero = l
-snoc-fits [] a l h (suc i) = omega arith
-snoc-fits (b ∷ q) a l h zero = h zero
-snoc-fits (b ∷ q) a l h (suc i) = snoc-fits q a l (λ k. h (suc k)) i
-
-rest-fits : (q : List ℕ) → ((i : ℕ) → getD q i 0 < 2 ^ 32) → (i : ℕ) → getD (drop 1 q) i 0 < 2 ^ 32
-rest-fits [] h i = omega arith
-rest-fits (b ∷ q) h i = h (suc i)
-
-delivered-fits :
-    (to : ℕ → Bool) (a : ℕ) (qs : List (List ℕ)) → a < 2 ^ 32 → ((n i : ℕ) → getD (getD qs n []) i 0 < 2 ^ 32)
-    → (k n i : ℕ) → getD (getD (delivered to a qs k) n []) i 0 < 2 ^ 32
-unfolding delivered
-delivered-fits to a qs l h zero = h
-delivered-fits to a qs l h (suc k) = by-target (to k) (delivered-fits to a qs l h k)
-  where
-    by-target :
-        (t : Bool) → ((n i : ℕ) → getD (getD (delivered to a qs k) n []) i 0 < 2 ^ 32)
-        → (n i : ℕ) → getD (getD (cond t (set (delivered to a qs k) k (getD (delivered to a qs k) k [] ++ (a ∷ []))) (delivered to a qs k))
-        n []) i 0 < 2 ^ 32
-    by-target false ih = ih
-    by-target true ih = set-each (λ n (q : List ℕ). (i : ℕ) → getD q i 0 < 2 ^ 32) [] (delivered to a qs k) k
-        (getD (delivered to a qs k) k [] ++ (a ∷ [])) (snoc-fits (getD (delivered to a qs k) k []) a l (ih k)) ih
 
 -- a turn
 module _ (P : Program) (fit : ProgramFits P) (s : State) (n : ℕ) (h : Fits s) where
@@ -207,8 +181,7 @@ module _ (P : Program) (fit : ProgramFits P) (s : State) (n : ℕ) (h : Fits s) 
       (λ e. record {
         accumulator = h .accumulator;
         message = h .message;
-        queue = delivered-fits (P .wired n (i .operand))
-            (accumulatorAt s n) (s .queue) (h .accumulator n) (h .queue) maxNodes;
+        queue = each-delivered (λ t m. m .value < 2 ^ 32) (P .wired n (i .operand)) _ (s .queue) (λ t w. h .accumulator n) (h .queue) maxNodes;
         variable = h .variable;
       })
     where
@@ -221,9 +194,8 @@ module _ (P : Program) (fit : ProgramFits P) (s : State) (n : ℕ) (h : Fits s) 
       (λ p w.
       record {
         accumulator = set-fits (s .accumulator) 0 (omega arith) (h .accumulator) n;
-        message = set-fits (s .message) _ (h .queue n 0) (h .message) n;
-        queue = set-each (λ m (q : List ℕ). (i : ℕ) → getD q i 0 < 2 ^ 32) [] (s .queue) n _ (rest-fits (queueAt s n) (h .queue n))
-            (h .queue);
+        message = set-fits (s .message) _ (h .queue n 0 (omega (arith, w))) (h .message) n;
+        queue = each-taken (λ t m. m .value < 2 ^ 32) (s .queue) n (h .queue);
         variable = h .variable;
       })
       (λ l f. tt)

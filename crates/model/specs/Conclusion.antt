@@ -66,7 +66,7 @@ pub record Accepts (job : List ℕ) (b : Sizes) (past : List Command) : Type 0 w
   pub permissions : unusedPermission past ≡ none
   pub buffers : shortBuffer job b past ≡ none
 
--- a run ends with a stop from 0 to 3 after at most 4,096 turns; its trace has 7 bytes a completed turn, its snapshot at most 2,624, and the
+-- a run ends with a stop from 0 to 3 after at most 4,096 turns; its trace has 7 bytes a completed turn, its snapshot at most 3,136, and the
 -- buffers hold them
 pub record Ends (P : Program) (b : Sizes) (r : Run) : Type 0 where
   pub stops : r .stop ≤ 3

@@ -26,7 +26,7 @@ RowsHold rows = map outcome rows ≡ map (λ (e : Example). e .expected) rows
 
 -- buffers that are long enough for every job
 unfoldable pub enough : Sizes
-enough = sizes 28672 2624 4096
+enough = sizes 28672 3136 4096
 
 -- a monitored and an unmonitored row with long buffers
 unfoldable pub monitoredRow : List ℕ → Result → Example
@@ -85,6 +85,10 @@ nodePart position accumulator message waiting = position ∷ four accumulator ++
 unfoldable pub idleNode : List ℕ
 idleNode = nodePart 255 0 0 0
 
+-- a waiting message below 256 from this sender, as it stands in the snapshot
+unfoldable pub waits : ℕ → ℕ → List ℕ
+waits sender v = four v ++ (sender ∷ [])
+
 -- a run: stop, turns, attempted entry, trace and snapshot
 unfoldable pub ends : ℕ → ℕ → Entry → List ℕ → List ℕ → Result
 ends stop turns e trace snapshot = ran (record { stop = stop; turns = turns; attempted = e }) trace snapshot
@@ -95,7 +99,7 @@ noEntry = entry 0 0 0 0
 
 -- the trace of K1 with this START value and this value sent: the turns of node 0, those of node 1 up to its call, and the last two
 unfoldable pub k1First : List ℕ → ℕ → List ℕ
-k1First start sent = 0 ∷ 1 ∷ 0 ∷ start ++ traced 0 0 0 0 ++ traced 0 3 0 5 ++ traced 0 6 0 sent ++ traced 0 2 0 0 ++ traced 1 1 0 sent ++
+k1First start sent = 0 ∷ 1 ∷ 255 ∷ start ++ traced 0 0 0 0 ++ traced 0 3 0 5 ++ traced 0 6 0 sent ++ traced 0 2 0 0 ++ traced 1 1 0 sent ++
     traced 1 0 0 0
 
 unfoldable pub k1Last : ℕ → List ℕ
@@ -111,15 +115,15 @@ examples =
     -- K3
     ∷ unmonitoredRow (k1 k1Read (four 3) 0) (ends 0 9 noEntry (k1First (four 3) 8 ++ k1Last 8) (idleNode ++ idleNode ++ four 5))
     -- K4
-    ∷ monitoredRow (k1 [] (four 2) 0) (ends 1 2 (entry 0 3 0 0) (traced 0 1 0 2 ++ traced 0 0 0 0) (nodePart 1 2 2 0 ++ idleNode ++ four 5))
+    ∷ monitoredRow (k1 [] (four 2) 0) (ends 1 2 (entry 0 3 0 0) (traced 0 1 255 2 ++ traced 0 0 0 0) (nodePart 1 2 2 0 ++ idleNode ++ four 5))
     -- K5
-    ∷ monitoredRow (k1 k1Read (four 2) 1) (ends 2 0 (entry 1 0 0 0) [] (nodePart 255 0 0 1 ++ four 2 ++ idleNode ++ four 5))
+    ∷ monitoredRow (k1 k1Read (four 2) 1) (ends 2 0 (entry 1 0 0 0) [] (nodePart 255 0 0 1 ++ waits 255 2 ++ idleNode ++ four 5))
     -- K6
     ∷ monitoredRow (k1 k1Read (0xFE ∷ 0xFF ∷ 0xFF ∷ 0xFF ∷ []) 0)
     (ends 1 7 (entry 1 5 0 3) (k1First (0xFE ∷ 0xFF ∷ 0xFF ∷ 0xFF ∷ []) 3) (idleNode ++ nodePart 1 3 3 0 ++ four 5))
     -- K7
-    ∷ monitoredRow k7 (ends 3 33 (entry 0 6 0 0) (traced 0 1 0 1 ++ times 16 (traced 0 6 0 0 ++ traced 0 0 0 0))
-    (nodePart 0 0 1 16 ++ times 16 (four 0)))
+    ∷ monitoredRow k7 (ends 3 33 (entry 0 6 0 0) (traced 0 1 255 1 ++ times 16 (traced 0 6 0 0 ++ traced 0 0 0 0))
+    (nodePart 0 0 1 16 ++ times 16 (waits 0 0)))
     -- K8
     ∷ monitoredRow [] (refused (refuse 1 0))
     -- K9

@@ -24,6 +24,7 @@ pub mod LargestCounts
 pub mod LeastPrivilege
 pub mod Parts
 pub mod Replies
+pub mod Senders
 pub mod Spans
 pub mod WorkSize
 -- what holds of accepted jobs and of states, for proofs about code

@@ -3,7 +3,7 @@ use Prim.Native.Nat.{ℕ, zero, suc, _/_, _%_}
 use mathlib.Core.List.{List, [], _∷_, _++_}
 use lib.ListN.{length}
 use Rattle.model.specs.Program.{Program}
-use Rattle.model.specs.State.{State, positionAt, accumulatorAt, messageAt, queueAt, waitingAt, variableAt}
+use Rattle.model.specs.State.{Message, State, positionAt, accumulatorAt, messageAt, queueAt, waitingAt, variableAt}
 use Rattle.model.specs.Turn.{Entry}
 use Rattle.model.specs.Run.{Run, entriesOf}
 
@@ -30,14 +30,14 @@ unfoldable pub traceBytes : List Entry → List ℕ
 traceBytes [] = []
 traceBytes (e ∷ es) = entryBytes e ++ traceBytes es
 
--- numbers as 4 bytes each
-unfoldable pub numbersBytes : List ℕ → List ℕ
-numbersBytes [] = []
-numbersBytes (v ∷ vs) = bytes4 v ++ numbersBytes vs
+-- waiting messages: of each the value as 4 bytes, then the sender
+unfoldable pub messagesBytes : List Message → List ℕ
+messagesBytes [] = []
+messagesBytes (m ∷ ms) = bytes4 (m .value) ++ (m .sender ∷ messagesBytes ms)
 
 -- a node: position, accumulator, message, how many messages wait, and these, oldest first
 abbrev pub nodeBytes : State → ℕ → List ℕ
-nodeBytes s n = positionAt s n ∷ bytes4 (accumulatorAt s n) ++ bytes4 (messageAt s n) ++ (waitingAt s n ∷ numbersBytes (queueAt s n))
+nodeBytes s n = positionAt s n ∷ bytes4 (accumulatorAt s n) ++ bytes4 (messageAt s n) ++ (waitingAt s n ∷ messagesBytes (queueAt s n))
 
 -- the first k nodes
 unfoldable pub nodesBytes : State → ℕ → List ℕ

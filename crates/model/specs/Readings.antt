@@ -6,7 +6,7 @@ use Rattle.model.specs.Turn.{entry}
 use Rattle.model.specs.Refusal.{refuse, Sizes, sizes}
 use Rattle.model.specs.Result.{Result, refused}
 use Rattle.model.specs.Examples.{Example, RowsHold, monitoredRow, unmonitoredRow, times, four, traced, nodePart, idleNode, ends}
-use Rattle.model.specs.Examples.{noEntry}
+use Rattle.model.specs.Examples.{waits, noEntry}
 
 -- a monitored row with buffers of these lengths
 unfoldable pub within : Sizes → List ℕ → Result → Example
@@ -48,11 +48,11 @@ orderRows =
     -- an unmonitored run refuses alike
     ∷ unmonitoredRow (nodes 1 ++ (0x32 ∷ 0x00 ∷ 0x00 ∷ [])) (refused (refuse 6 2))
     -- 10, 11 and 12 in this order, at the job's length
-    ∷ within (sizes 6 2623 4095) (nodes 1 ++ turns 1 0) (refused (refuse 10 4))
-    ∷ within (sizes 7 2623 4095) (nodes 1 ++ turns 1 0) (refused (refuse 11 4))
-    ∷ within (sizes 7 2624 4095) (nodes 1 ++ turns 1 0) (refused (refuse 12 4))
+    ∷ within (sizes 6 3135 4095) (nodes 1 ++ turns 1 0) (refused (refuse 10 4))
+    ∷ within (sizes 7 3135 4095) (nodes 1 ++ turns 1 0) (refused (refuse 11 4))
+    ∷ within (sizes 7 3136 4095) (nodes 1 ++ turns 1 0) (refused (refuse 12 4))
     -- with no turns the trace buffer may be empty
-    ∷ within (sizes 0 2624 4096) (nodes 1) (ends 0 0 noEntry [] idleNode)
+    ∷ within (sizes 0 3136 4096) (nodes 1) (ends 0 0 noEntry [] idleNode)
     ∷ []
 
 -- a variable of this scope and owner, with start 0
@@ -96,7 +96,7 @@ sightRows =
     -- the variable of the second flow, read by its node
     ∷ monitoredRow
     (nodes 1 ++ nodes 1 ++ variable 1 1 ++ 0x32 ∷ 0x01 ∷ 0x00 ∷ 0x40 ∷ 0x01 ∷ 0x43 ∷ 0x00 ∷ 0x50 ∷ 0x01 ∷ four 5 ++ turns 2 1)
-    (ends 0 2 noEntry (traced 1 1 0 5 ++ traced 1 3 0 0) (idleNode ++ nodePart 1 0 5 0 ++ four 0))
+    (ends 0 2 noEntry (traced 1 1 255 5 ++ traced 1 3 0 0) (idleNode ++ nodePart 1 0 5 0 ++ four 0))
     ∷ []
 
 -- what is declared
@@ -126,7 +126,7 @@ declaredRows =
     -- a START in each of two flows
     ∷ monitoredRow
     (nodes 1 ++ nodes 1 ++ 0x50 ∷ 0x00 ∷ four 1 ++ 0x50 ∷ 0x01 ∷ four 2)
-    (ends 0 0 noEntry [] (nodePart 255 0 0 1 ++ four 1 ++ nodePart 255 0 0 1 ++ four 2))
+    (ends 0 0 noEntry [] (nodePart 255 0 0 1 ++ waits 255 1 ++ nodePart 255 0 0 1 ++ waits 255 2))
     -- a second START in the flow, of another node
     ∷ monitoredRow (nodes 2 ++ 0x50 ∷ 0x00 ∷ four 1 ++ 0x50 ∷ 0x01 ∷ four 2) (refused (refuse 8 9))
     ∷ []
@@ -137,47 +137,47 @@ turnRows =
     -- numbers in trace and snapshot, lowest byte first
     monitoredRow
     (nodes 1 ++ 0x50 ∷ 0x00 ∷ 0x01 ∷ 0x02 ∷ 0x03 ∷ 0x04 ∷ turns 1 0)
-    (ends 0 1 noEntry (0 ∷ 1 ∷ 0 ∷ 1 ∷ 2 ∷ 3 ∷ 4 ∷ []) (0 ∷ four 0 ++ (1 ∷ 2 ∷ 3 ∷ 4 ∷ 0 ∷ [])))
+    (ends 0 1 noEntry (0 ∷ 1 ∷ 255 ∷ 1 ∷ 2 ∷ 3 ∷ 4 ∷ []) (0 ∷ four 0 ++ (1 ∷ 2 ∷ 3 ∷ 4 ∷ 0 ∷ [])))
     -- a node variable: GET, PUT and PLUS leave kind 0 and need no permission
     ∷ monitoredRow
     (nodes 1 ++ 0x10 ∷ 0x00 ∷ 0x00 ∷ four 5 ++ 0x40 ∷ 0x00 ∷ 0x43 ∷ 0x00 ∷ 0x44 ∷ 0x00 ∷ 0x46 ∷ 0x00 ∷ 0x50 ∷ 0x00 ∷ four 1 ++ turns 4 0)
-    (ends 0 4 noEntry (traced 0 1 0 1 ++ times 3 (traced 0 0 0 0)) (nodePart 3 10 1 0 ++ four 5))
+    (ends 0 4 noEntry (traced 0 1 255 1 ++ times 3 (traced 0 0 0 0)) (nodePart 3 10 1 0 ++ four 5))
     -- a flow variable that the node may read and write
     ∷ monitoredRow
     (nodes 1 ++ 0x10 ∷ 0x01 ∷ 0x00 ∷ four 5 ++ 0x32 ∷ 0x00 ∷ 0x00 ∷ 0x33 ∷ 0x00 ∷ 0x00 ∷ 0x40 ∷ 0x00 ∷ 0x43 ∷ 0x00 ∷ 0x45 ∷ four 1 ++ 0x44 ∷
     0x00 ∷ 0x50 ∷ 0x00 ∷ four 1 ++ turns 4 0)
-    (ends 0 4 noEntry (traced 0 1 0 1 ++ traced 0 3 0 5 ++ traced 0 0 0 0 ++ traced 0 4 0 6) (nodePart 3 6 1 0 ++ four 6))
+    (ends 0 4 noEntry (traced 0 1 255 1 ++ traced 0 3 0 5 ++ traced 0 0 0 0 ++ traced 0 4 0 6) (nodePart 3 6 1 0 ++ four 6))
     -- a call that ANY permits: the accumulator becomes the answer
     ∷ monitoredRow
     (nodes 1 ++ 0x11 ∷ four 9 ++ 0x30 ∷ 0x00 ∷ 0x00 ∷ 0x40 ∷ 0x00 ∷ 0x42 ∷ 0x4A ∷ 0x00 ∷ 0x50 ∷ 0x00 ∷ four 5 ++ turns 3 0)
-    (ends 0 3 noEntry (traced 0 1 0 5 ++ traced 0 0 0 0 ++ traced 0 5 0 5) (nodePart 2 9 5 0))
+    (ends 0 3 noEntry (traced 0 1 255 5 ++ traced 0 0 0 0 ++ traced 0 5 0 5) (nodePart 2 9 5 0))
     -- JUMPZ with 3, which goes on, and with 0, which jumps over the last SET
     ∷ monitoredRow
     (nodes 1 ++ 0x40 ∷ 0x00 ∷ 0x41 ∷ four 3 ++ 0x47 ∷ 0x04 ∷ 0x41 ∷ four 0 ++ 0x47 ∷ 0x05 ∷ 0x41 ∷ four 9 ++ 0x45 ∷ four 4 ++
     0x50 ∷ 0x00 ∷ four 1 ++ turns 6 0)
-    (ends 0 6 noEntry (traced 0 1 0 1 ++ times 5 (traced 0 0 0 0)) (nodePart 6 4 1 0))
+    (ends 0 6 noEntry (traced 0 1 255 1 ++ times 5 (traced 0 0 0 0)) (nodePart 6 4 1 0))
     -- a forbidden write: the attempted entry shows the accumulator, and the variable is not written
     ∷ monitoredRow
     (nodes 1 ++ global 5 ++ 0x32 ∷ 0x00 ∷ 0x00 ∷ 0x40 ∷ 0x00 ∷ 0x41 ∷ four 7 ++ 0x44 ∷ 0x00 ∷ 0x43 ∷ 0x00 ∷ 0x50 ∷ 0x00 ∷ four 1 ++
     turns 3 0)
-    (ends 1 2 (entry 0 4 0 7) (traced 0 1 0 1 ++ traced 0 0 0 0) (nodePart 1 7 1 0 ++ four 5))
+    (ends 1 2 (entry 0 4 0 7) (traced 0 1 255 1 ++ traced 0 0 0 0) (nodePart 1 7 1 0 ++ four 5))
     -- a send to two targets, and one to a port that is not wired
     ∷ monitoredRow
     (nodes 3 ++ 0x20 ∷ 0x00 ∷ 0x02 ∷ 0x01 ∷ 0x20 ∷ 0x00 ∷ 0x02 ∷ 0x02 ∷ 0x40 ∷ 0x00 ∷ 0x42 ∷ 0x49 ∷ 0x02 ∷ 0x49 ∷ 0x03 ∷ 0x50 ∷ 0x00 ∷ four
     9 ++ turns 4 0)
-    (ends 0 4 noEntry (traced 0 1 0 9 ++ traced 0 0 0 0 ++ traced 0 6 2 9 ++ traced 0 6 3 9)
-    (nodePart 3 9 9 0 ++ times 2 (nodePart 255 0 0 1 ++ four 9)))
+    (ends 0 4 noEntry (traced 0 1 255 9 ++ traced 0 0 0 0 ++ traced 0 6 2 9 ++ traced 0 6 3 9)
+    (nodePart 3 9 9 0 ++ times 2 (nodePart 255 0 0 1 ++ waits 0 9)))
     -- the oldest message is taken first
     ∷ monitoredRow
     (nodes 2 ++ 0x20 ∷ 0x00 ∷ 0x00 ∷ 0x01 ∷ 0x40 ∷ 0x00 ∷ 0x49 ∷ 0x00 ∷ 0x42 ∷ 0x49 ∷ 0x00 ∷ 0x50 ∷ 0x00 ∷ four 9 ++ turns 4 0 ++ turns 1 1)
-    (ends 0 5 noEntry (traced 0 1 0 9 ++ traced 0 6 0 0 ++ traced 0 0 0 0 ++ traced 0 6 0 9 ++ traced 1 1 0 0)
-    (nodePart 3 9 9 0 ++ nodePart 0 0 0 1 ++ four 9))
+    (ends 0 5 noEntry (traced 0 1 255 9 ++ traced 0 6 0 0 ++ traced 0 0 0 0 ++ traced 0 6 0 9 ++ traced 1 1 0 0)
+    (nodePart 3 9 9 0 ++ nodePart 0 0 0 1 ++ waits 0 9))
     -- a send whose second target is full delivers to nobody
     ∷ monitoredRow
     (nodes 2 ++ 0x20 ∷ 0x00 ∷ 0x00 ∷ 0x00 ∷ 0x20 ∷ 0x00 ∷ 0x00 ∷ 0x01 ∷ 0x20 ∷ 0x00 ∷ 0x01 ∷ 0x01 ∷ 0x40 ∷ 0x00 ∷ times 16
     (0x49 ∷ 0x01 ∷ []) ++ 0x42 ∷ 0x49 ∷ 0x00 ∷ 0x50 ∷ 0x00 ∷ four 3 ++ turns 19 0)
-    (ends 3 18 (entry 0 6 0 3) (traced 0 1 0 3 ++ times 16 (traced 0 6 1 0) ++ traced 0 0 0 0)
-    (nodePart 17 3 3 0 ++ nodePart 255 0 0 16 ++ times 16 (four 0)))
+    (ends 3 18 (entry 0 6 0 3) (traced 0 1 255 3 ++ times 16 (traced 0 6 1 0) ++ traced 0 0 0 0)
+    (nodePart 17 3 3 0 ++ nodePart 255 0 0 16 ++ times 16 (waits 0 0)))
     ∷ []
 
 -- one node that calls function f with its first message, given by its 4 bytes; function 0 has FUN's answer 9; the lists are what is
@@ -204,14 +204,14 @@ arg value = 0x31 ∷ 0x00 ∷ 0x00 ∷ four value
 
 -- what such a job gives if the function is called with this argument and has this answer
 unfoldable pub answered : ℕ → ℕ → ℕ → Result
-answered f v answer = ends 0 3 noEntry (traced 0 1 0 v ++ traced 0 0 0 0 ++ traced 0 5 f v) (nodePart 2 answer v 0)
+answered f v answer = ends 0 3 noEntry (traced 0 1 255 v ++ traced 0 0 0 0 ++ traced 0 5 f v) (nodePart 2 answer v 0)
 
 -- what it gives if function 0 is called with this argument and has FUN's answer, and if the call is forbidden
 unfoldable pub called : ℕ → Result
 called v = answered 0 v 9
 
 unfoldable pub forbidden : ℕ → Result
-forbidden v = ends 1 2 (entry 0 5 0 v) (traced 0 1 0 v ++ traced 0 0 0 0) (nodePart 1 v v 0)
+forbidden v = ends 1 2 (entry 0 5 0 v) (traced 0 1 255 v ++ traced 0 0 0 0) (nodePart 1 v v 0)
 
 -- ranges of arguments (S-5)
 unfoldable pub spanRows : List Example
@@ -228,7 +228,7 @@ spanRows =
     ∷ monitoredRow (calling (span 10 10) (four 11)) (forbidden 11)
     -- 0 to 2^32-1 permits 2^32-1
     ∷ monitoredRow (calling (0x34 ∷ 0x00 ∷ 0x00 ∷ four 0 ++ times 4 (0xFF ∷ [])) (times 4 (0xFF ∷ [])))
-    (ends 0 3 noEntry (0 ∷ 1 ∷ 0 ∷ times 4 (0xFF ∷ []) ++ traced 0 0 0 0 ++ 0 ∷ 5 ∷ 0 ∷ times 4 (0xFF ∷ []))
+    (ends 0 3 noEntry (0 ∷ 1 ∷ 255 ∷ times 4 (0xFF ∷ []) ++ traced 0 0 0 0 ++ 0 ∷ 5 ∷ 0 ∷ times 4 (0xFF ∷ []))
     (2 ∷ four 9 ++ times 4 (0xFF ∷ []) ++ (0 ∷ [])))
     -- accepted: ranges that overlap or touch, or have the same low or high; ARG inside a range, and beside the range of its argument alone
     ∷ monitoredRow
@@ -237,7 +237,7 @@ spanRows =
     -- a range of another function, and one of another node, permit nothing here
     ∷ monitoredRow (callingThen 0 (0x11 ∷ four 9 ++ 0x34 ∷ 0x00 ∷ 0x01 ∷ four 10 ++ four 20) (0x4A ∷ 0x01 ∷ []) (four 15)) (forbidden 15)
     ∷ monitoredRow (0x01 ∷ 0x02 ∷ callingThen 0 (0x34 ∷ 0x01 ∷ 0x00 ∷ four 10 ++ four 20) (0x40 ∷ 0x01 ∷ 0x4A ∷ 0x00 ∷ []) (four 15))
-    (ends 1 2 (entry 0 5 0 15) (traced 0 1 0 15 ++ traced 0 0 0 0) (nodePart 1 15 15 0 ++ idleNode))
+    (ends 1 2 (entry 0 5 0 15) (traced 0 1 255 15 ++ traced 0 0 0 0) (nodePart 1 15 15 0 ++ idleNode))
     -- 3: the last byte of high is missing
     ∷ monitoredRow (nodes 1 ++ 0x11 ∷ four 9 ++ 0x34 ∷ 0x00 ∷ 0x00 ∷ four 10 ++ (20 ∷ 0 ∷ 0 ∷ [])) (refused (refuse 3 7))
     -- 8: the same SPAN again
@@ -282,7 +282,7 @@ replyRows =
     -- an answer that is asked for next: 5 gives 7, and 7 gives 6
     ∷ monitoredRow
     (nodes 1 ++ 0x11 ∷ four 9 ++ replies ++ 0x40 ∷ 0x00 ∷ 0x42 ∷ 0x4A ∷ 0x00 ∷ 0x4A ∷ 0x00 ∷ 0x50 ∷ 0x00 ∷ four 5 ++ turns 4 0)
-    (ends 0 4 noEntry (traced 0 1 0 5 ++ traced 0 0 0 0 ++ traced 0 5 0 5 ++ traced 0 5 0 7) (nodePart 3 6 5 0))
+    (ends 0 4 noEntry (traced 0 1 255 5 ++ traced 0 0 0 0 ++ traced 0 5 0 5 ++ traced 0 5 0 7) (nodePart 3 6 5 0))
     -- accepted: a reply with FUN's answer, and one before a variable and another function
     ∷ monitoredRow (calling (reply 0 5 9 ++ any 0) (four 5)) (called 5)
     ∷ monitoredRow (nodes 1 ++ 0x11 ∷ four 9 ++ reply 0 5 7 ++ global 3 ++ 0x11 ∷ four 8) (ends 0 0 noEntry [] (idleNode ++ four 3))
@@ -292,7 +292,7 @@ replyRows =
     ∷ monitoredRow (calling (0x11 ∷ four 8 ++ reply 1 5 6 ++ any 0) (four 5)) (called 5)
     -- arguments are compared whole: 2^32-1 has a reply, 255 has none
     ∷ monitoredRow (calling (0x12 ∷ 0x00 ∷ times 4 (0xFF ∷ []) ++ four 7 ++ any 0) (times 4 (0xFF ∷ [])))
-    (ends 0 3 noEntry (0 ∷ 1 ∷ 0 ∷ times 4 (0xFF ∷ []) ++ traced 0 0 0 0 ++ 0 ∷ 5 ∷ 0 ∷ times 4 (0xFF ∷ []))
+    (ends 0 3 noEntry (0 ∷ 1 ∷ 255 ∷ times 4 (0xFF ∷ []) ++ traced 0 0 0 0 ++ 0 ∷ 5 ∷ 0 ∷ times 4 (0xFF ∷ []))
     (2 ∷ four 7 ++ times 4 (0xFF ∷ []) ++ (0 ∷ [])))
     ∷ monitoredRow (calling (0x12 ∷ 0x00 ∷ times 4 (0xFF ∷ []) ++ four 7 ++ any 0) (four 255)) (called 255)
     -- the list goes by what is asked, and not by the reply
@@ -365,9 +365,41 @@ unusedRows =
     ∷ monitoredRow (handling (read ++ read) []) (refused (refuse 8 17))
     ∷ monitoredRow (handling (read ++ span 8 7) []) (refused (refuse 15 17))
     ∷ monitoredRow (handling read (0x48 ∷ 0x02 ∷ [])) (refused (refuse 9 19))
-    ∷ within (sizes 6 2623 4095) (handling read [] ++ turns 1 0) (refused (refuse 19 14))
+    ∷ within (sizes 6 3135 4095) (handling read [] ++ turns 1 0) (refused (refuse 19 14))
+    ∷ []
+
+-- three nodes: 0 sends its first message, 9, to 1 and 2; 1 sends 7 to 2; with these turns after theirs
+unfoldable pub twoSenders : List ℕ → List ℕ
+twoSenders more =
+    nodes 3 ++ 0x20 ∷ 0x00 ∷ 0x00 ∷ 0x01 ∷ 0x20 ∷ 0x00 ∷ 0x00 ∷ 0x02 ∷ 0x20 ∷ 0x01 ∷ 0x00 ∷ 0x02 ∷ 0x40 ∷ 0x00 ∷ 0x42 ∷ 0x49 ∷ 0x00 ∷ 0x40 ∷
+    0x01 ∷ 0x41 ∷ four 7 ++ 0x49 ∷ 0x00 ∷ 0x50 ∷ 0x00 ∷ four 9 ++ turns 3 0 ++ turns 3 1 ++ more
+
+-- the trace of their turns
+unfoldable pub twoSent : List ℕ
+twoSent = traced 0 1 255 9 ++ traced 0 0 0 0 ++ traced 0 6 0 9 ++ traced 1 1 0 9 ++ traced 1 0 0 0 ++ traced 1 6 0 7
+
+-- who sent it (S-11)
+unfoldable pub senderRows : List Example
+senderRows =
+    -- two senders at one node wait in order, and are taken in order
+    monitoredRow (twoSenders [])
+    (ends 0 6 noEntry twoSent (nodePart 2 9 9 0 ++ nodePart 2 7 9 0 ++ nodePart 255 0 0 2 ++ waits 0 9 ++ waits 1 7))
+    ∷ monitoredRow (twoSenders (turns 1 2))
+    (ends 0 7 noEntry (twoSent ++ traced 2 1 0 9) (nodePart 2 9 9 0 ++ nodePart 2 7 9 0 ++ nodePart 0 0 9 1 ++ waits 1 7))
+    ∷ monitoredRow (twoSenders (turns 3 2))
+    (ends 0 9 noEntry (twoSent ++ traced 2 1 0 9 ++ traced 2 2 0 0 ++ traced 2 1 1 7)
+    (nodePart 2 9 9 0 ++ nodePart 2 7 9 0 ++ nodePart 0 0 7 0))
+    -- unmonitored alike
+    ∷ unmonitoredRow (twoSenders (turns 1 2))
+    (ends 0 7 noEntry (twoSent ++ traced 2 1 0 9) (nodePart 2 9 9 0 ++ nodePart 2 7 9 0 ++ nodePart 0 0 9 1 ++ waits 1 7))
+    -- a node that sends to itself
+    ∷ monitoredRow
+    (nodes 2 ++ 0x20 ∷ 0x01 ∷ 0x00 ∷ 0x01 ∷ 0x40 ∷ 0x01 ∷ 0x41 ∷ four 6 ++ 0x49 ∷ 0x00 ∷ 0x50 ∷ 0x01 ∷ four 4 ++ turns 5 1)
+    (ends 0 5 noEntry (traced 1 1 255 4 ++ traced 1 0 0 0 ++ traced 1 6 0 6 ++ traced 1 2 0 0 ++ traced 1 1 1 6)
+    (idleNode ++ nodePart 0 0 6 0))
     ∷ []
 
 -- every row holds
 abbrev pub ReadingsHold : Type 0
-ReadingsHold = RowsHold (orderRows ++ undeclaredRows ++ sightRows ++ declaredRows ++ turnRows ++ spanRows ++ replyRows ++ unusedRows)
+ReadingsHold =
+    RowsHold (orderRows ++ undeclaredRows ++ sightRows ++ declaredRows ++ turnRows ++ spanRows ++ replyRows ++ unusedRows ++ senderRows)

@@ -248,7 +248,7 @@ sizes trace snapshot work = record { trace = trace; snapshot = snapshot; work = 
 -- the lengths that the snapshot buffer ("picture buffer") and the work buffer must have; the latter has two bytes for each of 64 commands of
 -- 32 nodes (S-9)
 abbrev pub snapshotSize : ℕ
-snapshotSize = 2624
+snapshotSize = 3136
 
 abbrev pub workSize : ℕ
 workSize = 4096

@@ -8,6 +8,7 @@ use lib.ListN.{length, getD, set, drop}
 use Rattle.model.specs.Table.{SET, TAKE, GET, PUT, ADD, PLUS, JUMPZ, JUMP, SEND, CALL, maxNodes, maxWaiting}
 use Rattle.model.specs.Declared.{Instruction, instruction}
 use Rattle.model.specs.Program.{Program, sharedIn}
+use Rattle.model.specs.State.{Message, messageFrom, noMessage}
 use Rattle.model.specs.State.{State, idle, positionAt, accumulatorAt, messageAt, queueAt, waitingAt, variableAt, withPosition}
 use Rattle.model.specs.State.{withAccumulator, withMessage, withQueues, withQueue, withVariable}
 
@@ -28,16 +29,18 @@ pub data Turned : Type 0 where
   stopped : ℕ → Entry → Turned
 
 -- the oldest waiting message of a node
-abbrev pub oldest : State → ℕ → ℕ
-oldest s n = getD (queueAt s n) 0 0
+abbrev pub oldest : State → ℕ → Message
+oldest s n = getD (queueAt s n) 0 noMessage
 
 -- the node takes its oldest message: accumulator 0, position 0
 abbrev pub begun : State → ℕ → State
-begun s n = withQueue (withMessage (withAccumulator (withPosition s n 0) n 0) n (oldest s n)) n (drop 1 (queueAt s n))
+begun s n = withQueue (withMessage (withAccumulator (withPosition s n 0) n 0) n (oldest s n .value)) n (drop 1 (queueAt s n))
 
--- the turn of an idle node: stop 2 if its queue is empty, else kind 1 with the message
+-- the turn of an idle node: stop 2 if its queue is empty, else kind 1 with the sender of the message and its value
 abbrev pub idleTurn : State → ℕ → Turned
-idleTurn s n = cond (eqb (waitingAt s n) 0) (stopped 2 (entry n 0 0 0)) (completed (entry n 1 0 (oldest s n)) (begun s n))
+idleTurn s n =
+    cond (eqb (waitingAt s n) 0) (stopped 2 (entry n 0 0 0))
+    (completed (entry n 1 (oldest s n .sender) (oldest s n .value)) (begun s n))
 
 -- the node becomes idle, accumulator and message 0
 abbrev pub finished : State → ℕ → State
@@ -69,12 +72,12 @@ isFull P s n port t = P .wired n port t && leb maxWaiting (waitingAt s t)
 abbrev pub blocked : Program → State → ℕ → Instruction → Bool
 blocked P s n i = eqb (i .byte) SEND && someBelow (isFull P s n (i .operand)) maxNodes
 
--- the queues with the value at the back of each target's, for targets below k
-unfoldable pub delivered : (ℕ → Bool) → ℕ → List (List ℕ) → ℕ → List (List ℕ)
-delivered target v qs zero = qs
-delivered target v qs (suc k) =
-    let d = delivered target v qs k in
-    let more = set d k (getD d k [] ++ (v ∷ [])) in
+-- the queues with the message at the back of each target's, for targets below k
+unfoldable pub delivered : (ℕ → Bool) → Message → List (List Message) → ℕ → List (List Message)
+delivered target m qs zero = qs
+delivered target m qs (suc k) =
+    let d = delivered target m qs k in
+    let more = set d k (getD d k [] ++ (m ∷ [])) in
     cond (target k) more d
 
 -- the sum modulo 2^32
@@ -98,7 +101,7 @@ performed P s n i =
     (cond (eqb (i .byte) PLUS) (advanced (withAccumulator s n (sum32 acc (variableAt s x))) n)
     (cond (eqb (i .byte) JUMPZ) (cond (eqb acc 0) (withPosition s n x) (advanced s n))
     (cond (eqb (i .byte) JUMP) (withPosition s n x)
-    (cond (eqb (i .byte) SEND) (advanced (withQueues s (delivered (P .wired n x) acc (s .queue) maxNodes)) n)
+    (cond (eqb (i .byte) SEND) (advanced (withQueues s (delivered (P .wired n x) (messageFrom n acc) (s .queue) maxNodes)) n)
     (cond (eqb (i .byte) CALL) (advanced (withAccumulator s n (P .answer x acc)) n)
     (advanced s n))))))))))
 

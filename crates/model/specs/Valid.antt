@@ -14,7 +14,7 @@ use Rattle.model.specs.Table.{maxWaiting}
 use Rattle.model.specs.Command.{Operands, Command}
 use Rattle.model.specs.Declared.{Instruction, countOf, bodyLength}
 use Rattle.model.specs.Program.{Program}
-use Rattle.model.specs.State.{State, accumulatorAt, messageAt, queueAt, waitingAt, variableAt}
+use Rattle.model.specs.State.{State, accumulatorAt, messageAt, waitingAt, variableAt, EachWaiting}
 use Rattle.model.specs.Turn.{instructionAt}
 use Rattle.model.specs.Refusal.{groupFalls, exceedsCount, undeclared, outOfReach, repeated, emptySpan, violation}
 use Rattle.model.specs.Refusal.{farJump}
@@ -114,5 +114,5 @@ pub record ProgramFits (P : Program) : Type 0 where
 pub record Fits (s : State) : Type 0 where
   pub accumulator : (n : ℕ) → accumulatorAt s n < 2 ^ 32
   pub message : (n : ℕ) → messageAt s n < 2 ^ 32
-  pub queue : (n i : ℕ) → getD (queueAt s n) i 0 < 2 ^ 32
+  pub queue : EachWaiting (λ n m. m .value < 2 ^ 32) (s .queue)
   pub variable : (x : ℕ) → variableAt s x < 2 ^ 32

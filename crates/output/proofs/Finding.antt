@@ -14,8 +14,8 @@ use Rattle.model.proofs.Reading.{number-one}
 use Rattle.output.specs.Finding.{waitingIn, nextPart, partAt, PartsFound}
 
 -- the next part, by the byte that says how many messages wait
-pub next-byte : (snapshot : List ℕ) (place : ℕ) → nextPart snapshot place ≡ place + 10 + 4 * getD snapshot (place + 9) 0
-next-byte snapshot place = ap (λ (w : ℕ). place + 10 + 4 * w) (number-one snapshot (place + 9))
+pub next-byte : (snapshot : List ℕ) (place : ℕ) → nextPart snapshot place ≡ place + 10 + 5 * getD snapshot (place + 9) 0
+next-byte snapshot place = ap (λ (w : ℕ). place + 10 + 5 * w) (number-one snapshot (place + 9))
 
 -- the first part, and the next one
 pub part-first : (snapshot : List ℕ) → partAt snapshot 0 ≡ 0
@@ -38,7 +38,7 @@ parts-of s (suc k) rest =
     number-one all (size + 9) ∙ getD-append-add (nodesBytes s k) (nodeBytes s k ++ rest) 9 0 in
     ap (λ (l : List ℕ). partAt l (suc k)) (append-assoc (nodesBytes s k) (nodeBytes s k) rest)
     ∙ ap (nextPart all) (parts-of s k (nodeBytes s k ++ rest))
-    ∙ ap (λ (w : ℕ). size + 10 + 4 * w) waits
+    ∙ ap (λ (w : ℕ). size + 10 + 5 * w) waits
     ∙ omega (arith, start-next s k, length-node s k)
 
 pub parts-found : PartsFound

@@ -1,3 +1,4 @@
 pub mod Entries
 pub mod Finding
+pub mod Messages
 pub mod Parts

@@ -7,15 +7,15 @@ use native.Mathlib.Numerals.{add-one}
 use native.Mathlib.Omega.{arith}
 use lib.ListN.{length, getD, take, drop, length-drop, length-append, length-take}
 use lib.Seq.{length-take-le}
-use Rattle.model.specs.State.{State, queueAt, waitingAt, variableAt}
-use Rattle.model.specs.Output.{bytes4, numbersBytes, nodeBytes, nodesBytes, partStart, variablesBytes}
+use Rattle.model.specs.State.{Message, State, queueAt, waitingAt, variableAt}
+use Rattle.model.specs.Output.{bytes4, messagesBytes, nodeBytes, nodesBytes, partStart, variablesBytes}
 use Rattle.model.specs.Valid.{Bounded}
-use Rattle.model.proofs.Bounds.{length-numbers, length-nodes, length-variables, nodes-next}
+use Rattle.model.proofs.Bounds.{length-messages, length-nodes, length-variables, nodes-next}
 use Rattle.model.proofs.Parts.{start-next}
-use Rattle.memory.specs.Queues.{BoundedCounts}
+use Rattle.memory.specs.Queues.{paired, BoundedCounts}
 use Rattle.memory.proofs.Waiting.{queue-at}
 use Rattle.engine.specs.Engine.{viewOf}
-use Rattle.writing.specs.Writing.{Writes}
+use Rattle.writing.specs.Writing.{numbersBytes, Writes}
 use Rattle.writing.proofs.Placing.{writes-on, writes-nothing}
 use Rattle.writing.proofs.Words.{numbers-next}
 use Rattle.output.specs.Written.{shownBytes}
@@ -26,24 +26,29 @@ pub record NodePut (s : State) (n : ℕ) (before after : List ℕ) (next : ℕ) 
   pub place : next ≡ partStart s (n + 1)
 
 -- node n of the arrays of the code
-module _ (p a m w q v : List ℕ) (n : ℕ) (narrow : getD p n 0 < 256) (few : getD w n 0 ≤ 16) (inside : n * 16 + 16 ≤ length q) where
+module _ (p a m w q x v : List ℕ) (n : ℕ) (narrow : getD p n 0 < 256) (few : getD w n 0 ≤ 16)
+    (inside : n * 16 + 16 ≤ length (paired q x)) where
   abbrev s : State
-  s = viewOf p a m w q v
+  s = viewOf p a m w q x v
+
+  -- its waiting messages
+  abbrev waiting : List Message
+  waiting = take (getD w n 0) (drop (n * 16) (paired q x))
 
   -- its part, as it is put together
   abbrev part : List ℕ
   part =
       (getD p n 0 % 256 ∷ []) ++ bytes4 (getD a n 0) ++ bytes4 (getD m n 0) ++ (getD w n 0 ∷ [])
-      ++ numbersBytes (take (getD w n 0) (drop (n * 16) q))
+      ++ messagesBytes waiting
 
-  all-there : length (take (getD w n 0) (drop (n * 16) q)) ≡ getD w n 0
-  all-there = length-take-le (getD w n 0) (drop (n * 16) q) (omega (arith, length-drop (n * 16) q))
+  all-there : length waiting ≡ getD w n 0
+  all-there = length-take-le (getD w n 0) (drop (n * 16) (paired q x)) (omega (arith, length-drop (n * 16) (paired q x)))
 
-  pub length-messages : length (numbersBytes (take (getD w n 0) (drop (n * 16) q))) ≡ 4 * getD w n 0
-  length-messages = length-numbers (take (getD w n 0) (drop (n * 16) q)) ∙ ap (λ (k : ℕ). 4 * k) all-there
+  pub length-waiting : length (messagesBytes waiting) ≡ 5 * getD w n 0
+  length-waiting = length-messages waiting ∙ ap (λ (k : ℕ). 5 * k) all-there
 
-  messages : queueAt s n ≡ take (getD w n 0) (drop (n * 16) q)
-  messages = let e : n * 16 ≡ 16 * n = omega arith in rw (queue-at w q n, e)
+  messages : queueAt s n ≡ waiting
+  messages = let e : n * 16 ≡ 16 * n = omega arith in rw (queue-at w (paired q x) n, e)
 
   waits : waitingAt s n ≡ getD w n 0
   waits = ap length messages ∙ all-there
@@ -62,7 +67,7 @@ module _ (p a m w q v : List ℕ) (n : ℕ) (narrow : getD p n 0 < 256) (few : g
 pub record Shown (s : State) (before : List ℕ) (n : ℕ) (snapshot : List ℕ) (at : ℕ) : Type 0 where
   pub parts : Writes (nodesBytes s n) before 0 snapshot at
   pub place : at ≡ partStart s n
-  pub short : at ≤ 74 * n
+  pub short : at ≤ 90 * n
   pub size : length snapshot ≡ length before
 
 pub none-shown : (s : State) (before : List ℕ) → Shown s before 0 before 0
@@ -70,13 +75,13 @@ unfolding nodesBytes
 none-shown s before = record { parts = writes-nothing before 0; place = refl; short = omega arith; size = refl }
 
 -- where the counts are bounded, so are the queues of the model's state
-pub view-bounded : (p a m w q v : List ℕ) → BoundedCounts w → Bounded (viewOf p a m w q v)
-view-bounded p a m w q v bounded n =
-    omega (arith, ap length (queue-at w q n), length-take (getD w n 0) (drop (16 * n) q), bounded n)
+pub view-bounded : (p a m w q x v : List ℕ) → BoundedCounts w → Bounded (viewOf p a m w q x v)
+view-bounded p a m w q x v bounded n =
+    omega (arith, ap length (queue-at w (paired q x) n), length-take (getD w n 0) (drop (16 * n) (paired q x)), bounded n)
 
 pub one-shown :
     (s : State) → Bounded s → (before : List ℕ) (n : ℕ) (snapshot : List ℕ) (at : ℕ) (after : List ℕ) (next : ℕ)
-    → 74 * n + 74 ≤ length before → length after ≡ length snapshot → Shown s before n snapshot at → NodePut s n snapshot after next
+    → 90 * n + 90 ≤ length before → length after ≡ length snapshot → Shown s before n snapshot at → NodePut s n snapshot after next
     → Shown s before (n + 1) after next
 one-shown s few before n snapshot at after next fits same w x =
     let e : nodesBytes s (n + 1) ≡ nodesBytes s n ++ nodeBytes s n = ap (nodesBytes s) (add-one n) ∙ nodes-next s n in

@@ -13,7 +13,7 @@ waitingIn snapshot place = numberAt snapshot (place + 9) 1
 
 -- where the part behind that one begins
 abbrev pub nextPart : List ℕ → ℕ → ℕ
-nextPart snapshot place = place + 10 + 4 * waitingIn snapshot place
+nextPart snapshot place = place + 10 + 5 * waitingIn snapshot place
 
 -- where a reader finds the part of node n, by the bytes before it: the first at 0, each next one behind the one before
 unfoldable pub partAt : List ℕ → ℕ → ℕ

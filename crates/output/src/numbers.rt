@@ -35,7 +35,7 @@ pub fn numbers_of(entry: Entry) -> Numbers
     let event = entry.event;
     match event {
         Event::Other => numbered(node, 0, 0, 0),
-        Event::Begin(message) => numbered(node, 1, 0, message),
+        Event::Begin(sender, message) => numbered(node, 1, sender as u32, message),
         Event::Finish => numbered(node, 2, 0, 0),
         Event::Read(x, value) => numbered(node, 3, x.0, value),
         Event::Write(x, value) => numbered(node, 4, x.0, value),

@@ -4,17 +4,17 @@ ghost use Prim.Native.Nat.{_+_, _^_, _≤_, _<_};
 ghost use Rattle.output.specs.Finding.{partAt};
 
 // Where the part behind that of node n begins, by the place of that one. A byte outside the snapshot reads 0, and a part has at most
-// 10 + 4 * 255 bytes, by the byte that tells how many messages wait; no snapshot has 2^63 bytes.
+// 10 + 5 * 255 bytes, by the byte that tells how many messages wait; no snapshot has 2^63 bytes.
 pub fn next_part(snapshot: &[u8], place: usize, n: usize) -> usize
     requires { ⌜ place ≡ partAt (now snapshot) n ⌝ }
     requires { ⌜ place < 2 ^ 63 ⌝ }
     ensures { λ r. ⌜ r ≡ partAt (now (snapshot .entry)) (n + 1) ⌝ }
-    ensures { λ r. ⌜ r ≤ place + 1030 ⌝ }
+    ensures { λ r. ⌜ r ≤ place + 1285 ⌝ }
 {
     let count = place + 9;
     if count < snapshot.len() {
         let waiting = snapshot[count];
-        return place + 10 + 4 * (waiting as usize);
+        return place + 10 + 5 * (waiting as usize);
     }
     place + 10
 }

@@ -7,7 +7,7 @@ use mathlib.Core.Option.{none, some}
 use native.Mathlib.Omega.{arith}
 use lib.ListN.{length}
 use Rattle.model.specs.Program.{Program}
-use Rattle.model.specs.State.{State, positionAt, waitingAt}
+use Rattle.model.specs.State.{Message, State, positionAt, waitingAt}
 use Rattle.model.specs.Declared.{Instruction}
 use Rattle.model.specs.Turn.{Turned, entry, turn, oldest, begun, finished, executed, instructionAt}
 use Rattle.model.proofs.Turns.{turn-unready, turn-begun, turn-executed, turn-finished}
@@ -48,15 +48,17 @@ module _ (P : Program) (s : State) (node : NodeNum) (monitored : Bool) (l : Regi
       (o.Stopped (st.Unready node)) (λ after. refl)
 
   pub begun-planned :
-      l .position ≡ 255 → ¬ (waitingAt s (node .0) ≡ 0) → (first : ℕ) → oldest s (node .0) ≡ first
-      → Plans P s (node .0) (ruleOf monitored P s (node .0)) (plan (registers 0 0 first) c.Take (o.Made (entryBy node (e.Begin first))))
+      l .position ≡ 255 → ¬ (waitingAt s (node .0) ≡ 0) → (first : Message) → oldest s (node .0) ≡ first
+      → Plans P s (node .0) (ruleOf monitored P s (node .0))
+      (plan (registers 0 0 (first .value)) c.Take (o.Made (entryBy node (e.Begin (first .sender) (first .value)))))
   begun-planned p waits first h =
-      subst (λ (v : ℕ). Plans P s (node .0) (ruleOf monitored P s (node .0))
-      (plan (registers 0 0 v) c.Take (o.Made (entryBy node (e.Begin v))))) h
-      (made-planned P s node (registers 0 0 (oldest s (node .0))) c.Take _ (entry (node .0) 1 0 (oldest s (node .0))) (begun s (node .0))
-      (ruled _ (turn-begun P s (node .0) (at ∙ p) waits) ∙ judged-made monitored P (entry (node .0) 1 0 (oldest s (node .0)))
+      let m = oldest s (node .0) in
+      subst (λ (m : Message). Plans P s (node .0) (ruleOf monitored P s (node .0))
+      (plan (registers 0 0 (m .value)) c.Take (o.Made (entryBy node (e.Begin (m .sender) (m .value)))))) h
+      (made-planned P s node (registers 0 0 (m .value)) c.Take _ (entry (node .0) 1 (m .sender) (m .value)) (begun s (node .0))
+      (ruled _ (turn-begun P s (node .0) (at ∙ p) waits) ∙ judged-made monitored P (entry (node .0) 1 (m .sender) (m .value))
       (begun s (node .0)) (never monitored))
-      (e.Begin (oldest s (node .0))) refl refl (omega (arith, waits)))
+      (e.Begin (m .sender) (m .value)) refl refl (omega (arith, waits)))
 
   pub finished-planned :
       ¬ (l .position ≡ 255) → length (P .handler (node .0)) ≤ l .position

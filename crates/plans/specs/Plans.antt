@@ -5,7 +5,7 @@ use mathlib.Core.Bool.{Bool, true, cond}
 use mathlib.Core.List.{List}
 use lib.ListN.{getD}
 use Rattle.model.specs.Program.{Program}
-use Rattle.model.specs.State.{State, waitingAt}
+use Rattle.model.specs.State.{Message, State, waitingAt}
 use Rattle.model.specs.Turn.{Turned, blocked, executed, oldest}
 use Rattle.model.specs.Permission.{enforced}
 use Rattle.command.specs.declared.instruction.Instruction.{Instruction}
@@ -59,7 +59,7 @@ PlansCommand t n monitored i l ws variables p =
 
 -- the plan is the node's turn, in every state with these registers, counts and variables and, if a message waits, this oldest one,
 -- whatever the handlers are, if `fetched` stands in the node's own at its position
-abbrev pub PlansTurn : List ℕ → Fetched → NodeNum → Bool → Registers → ℕ → List ℕ → List ℕ → Plan → Type 0
+abbrev pub PlansTurn : List ℕ → Fetched → NodeNum → Bool → Registers → Message → List ℕ → List ℕ → Plan → Type 0
 PlansTurn t fetched n monitored l first ws variables p =
     (hs : Handlers) (s : State) → Shows s (n .0) l variables → Waits s ws → (1 ≤ waitingAt s (n .0) → oldest s (n .0) ≡ first)
     → fetchedOf fetched ≡ commandIn (hs (n .0)) (l .position)

@@ -5,6 +5,7 @@ ghost use mathlib.Core.Option.{none};
 ghost use mathlib.Core.Bool.{not, _&&_};
 ghost use Prim.Native.Nat.{_<_};
 ghost use Rattle.model.specs.Permission.{permitted};
+ghost use Rattle.model.specs.State.{messageFrom};
 ghost use Rattle.command.specs.Instructions.{fetchedOf};
 ghost use Rattle.tables.specs.Programs.{Handlers, programIn};
 ghost use Rattle.entries.specs.Entries.{entryFor};
@@ -107,8 +108,8 @@ fn decide<'a>(
     planned(effect.registers, change, Outcome::Made(entry))
 }
 
-// The turn of a node, by what stands in its handler at its position, its registers, the message in its first slot, how many messages wait
-// at each node, and the variables.
+// The turn of a node, by what stands in its handler at its position, its registers, the message in its first slot with its sender, how many
+// messages wait at each node, and the variables.
 pub fn plan_turn<'a>(
     tables: &[u32],
     fetched: Fetched,
@@ -116,12 +117,13 @@ pub fn plan_turn<'a>(
     monitored: bool,
     registers: Registers,
     oldest: u32,
+    sender: u8,
     waiting: &'a [u8; 32],
     variable: &'a [u32],
 ) -> Plan
     requires { ⌜ n .0 < 32 ⌝ }
     requires { ⌜ (fetchedOf fetched ≡ none) ⊎ (registers .position < 4294967295) ⌝ }
-    ensures { λ r. ⌜ PlansTurn (now (tables .entry)) fetched n monitored registers oldest (now (waiting .entry))
+    ensures { λ r. ⌜ PlansTurn (now (tables .entry)) fetched n monitored registers (messageFrom sender oldest) (now (waiting .entry))
         (now (variable .entry)) r ⌝ }
 {
     let i = n.0 as usize;
@@ -130,7 +132,7 @@ pub fn plan_turn<'a>(
             let unready = Outcome::Stopped(Stop::Unready(n));
             return planned(registers, Change::Nothing, unready);
         }
-        let entry = make_entry(n, Event::Begin(oldest));
+        let entry = make_entry(n, Event::Begin(sender, oldest));
         let begun = Registers {
             position: 0,
             accumulator: 0,

@@ -1,12 +1,13 @@
 -- What is printed of bytes depends on those alone that are named: bytes after them change no line.
 use Prim.Native.Nat.{ℕ, zero, suc, _+_, _*_, _≤_, _<_}
-use mathlib.Core.Path.{_≡_, refl, ap, _∙_}
+use mathlib.Core.Path.{_≡_, refl, ap, ap₂, _∙_}
 use mathlib.Core.List.{List, [], _∷_, _++_}
 use native.Mathlib.Omega.{arith}
 use lib.ListN.{length, getD, List·getD-append}
 use Rattle.text.specs.Text.{joined}
 use Rattle.output.specs.Finding.{waitingIn, nextPart, partAt}
-use Rattle.lines.specs.Lines.{entryLine, messagesAt, nodeLine, partLine, variableLine, nodeLines, snapshotLines, runLines}
+use Rattle.lines.specs.Lines.{entryLine, messageIn, messagesAt, nodeLine, partLine, variableLine, nodeLines}
+use Rattle.lines.specs.Lines.{snapshotLines, runLines}
 use Rattle.lines.proofs.Parts.{part-inside}
 use Rattle.model.specs.Command.{numberAt}
 use Rattle.model.specs.Output.{Answer}
@@ -49,11 +50,12 @@ module _ (xs ys : List ℕ) where
       let same = part-front n (omega arith) in
       rw (same, number-front (partAt xs n + 9) 1 (omega arith))
 
-  messages-front : (place count : ℕ) → place + 4 * count ≤ length xs → messagesAt (xs ++ ys) place count ≡ messagesAt xs place count
+  messages-front : (place count : ℕ) → place + 5 * count ≤ length xs → messagesAt (xs ++ ys) place count ≡ messagesAt xs place count
   unfolding messagesAt
   messages-front place count h =
-      same-first (λ i. numberAt (xs ++ ys) (place + 4 * i) 4 ∷ []) (λ i. numberAt xs (place + 4 * i) 4 ∷ []) count
-      (λ k i. ap (λ (v : ℕ). v ∷ []) (number-front (place + 4 * k) 4 (omega arith)))
+      same-first (messageIn (xs ++ ys) place) (messageIn xs place) count
+      (λ k i.
+      ap₂ (λ (v n : ℕ). v ∷ n ∷ []) (number-front (place + 5 * k) 4 (omega arith)) (number-front (place + 5 * k + 4) 1 (omega arith)))
 
   node-front : (place n : ℕ) → nextPart xs place ≤ length xs → nodeLine (xs ++ ys) place n ≡ nodeLine xs place n
   unfolding nodeLine

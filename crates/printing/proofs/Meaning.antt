@@ -1,44 +1,40 @@
 -- The printed lines are those of the run's entries and last state: what is written of a run is read back unchanged.
 use Prim.Native.Nat.{ℕ, zero, suc, _+_, _*_, _^_, _≤_, _<_}
-use mathlib.Core.Path.{_≡_, refl, sym, ap, subst, _∙_}
-use mathlib.Core.Bool.{cond}
+use mathlib.Core.Path.{_≡_, refl, sym, ap, ap₂, subst, _∙_}
 use mathlib.Core.List.{List, [], _∷_, _++_, append-assoc, append-nil}
 use native.Mathlib.Nat.{mul-suc}
 use native.Mathlib.Omega.{arith}
-use lib.Dec.{eqb}
 use lib.ListN.{length, getD, length-append, length-map, List·getD-eq-default}
 use lib.Seq.{getD-append-seam, getD-append-add}
 use Rattle.text.specs.Text.{joined}
-use Rattle.text.proofs.Putting.{bytes-each}
+use Rattle.text.proofs.Putting.{first-shift}
 use Rattle.output.specs.Finding.{waitingIn}
 use Rattle.output.proofs.Finding.{parts-of}
-use Rattle.lines.specs.Lines.{entryLine, messagesAt, nodeLine, variableLine, nodeLines, snapshotLines, runLines}
+use Rattle.lines.specs.Lines.{entryLine, messageIn, messagesAt, nodeLine, variableLine, nodeLines, snapshotLines, runLines}
 use Rattle.lines.proofs.Texts.{entry-same, variable-same}
-use Rattle.model.specs.Table.{GET, PUT, PLUS, SEND, CALL}
 use Rattle.model.specs.Command.{Command, numberAt}
 use Rattle.model.specs.Declared.{Instruction, turnsOf}
-use Rattle.model.specs.Program.{Program, sharedIn, programOf}
-use Rattle.model.specs.State.{State, positionAt, accumulatorAt, messageAt, queueAt, waitingAt, variableAt}
+use Rattle.model.specs.Program.{Program, programOf}
+use Rattle.model.specs.State.{Message, noMessage, State, positionAt, accumulatorAt, messageAt, queueAt, waitingAt, variableAt}
 use Rattle.model.specs.Turn.{Entry, entry, Turned, entryOf, instructionAt, turn}
 use Rattle.model.specs.Permission.{monitoredTurn}
 use Rattle.model.specs.Run.{Run, entriesOf, statesOf, entryAt, stateAt, monitoredRun, unmonitoredRun}
 use Rattle.model.specs.Output.{answerIn, bytes4, entryBytes, traceBytes, traceIn}
-use Rattle.model.specs.Output.{numbersBytes, nodeBytes, nodesBytes, variablesBytes, snapshotBytes}
+use Rattle.model.specs.Output.{messagesBytes, nodeBytes, nodesBytes, variablesBytes, snapshotBytes}
 use Rattle.model.specs.Refusal.{Decoded, accepted, rejected, decodeJob, Sizes, shortBuffer, decodeFor}
 use Rattle.model.specs.Result.{report, resultOf, monitored, unmonitored}
 use Rattle.model.specs.Conclusion.{Refuses, Accepts}
 use Rattle.model.specs.Following.{Follows}
 use Rattle.model.specs.Valid.{Fits}
 use Rattle.model.proofs.Reading.{number-one}
-use Rattle.model.proofs.Bounds.{length-numbers, length-variables}
+use Rattle.model.proofs.Bounds.{length-messages, length-variables}
 use Rattle.model.proofs.Following.{demand2}
 use Rattle.model.proofs.Results.{and-then-accepted}
 use Rattle.model.proofs.Walking.{Decides, decode-for-walked}
-use Rattle.model.proofs.Ways.{either, turn-by, monitored-by}
+use Rattle.model.proofs.Ways.{Makes, left-by, turn-by, monitored-by}
 use Rattle.model.proofs.Words.{unmonitored-words, monitored-words, bytes-spell}
-use Rattle.turns.proofs.Narrow.{Makes}
 use Rattle.printing.specs.Printing.{resultLines}
-use Rattle.printing.specs.Meaning.{lineOfEntry, lineOfNode, lineOfVariable}
+use Rattle.printing.specs.Meaning.{lineOfEntry, numbersOf, lineOfNode, lineOfVariable}
 use Rattle.printing.specs.Meaning.{linesOfEntries, linesOfState, linesOfRun, linesOfJob, LinesHold}
 use Rattle.printing.proofs.Fronts.{same-first, number-front}
 
@@ -102,27 +98,49 @@ module _ (es : List Entry) (k : ℕ) (h : k < length es) where
       (sym (part 3 4 (omega arith) ∙ word-past (e .node ∷ e .kind ∷ e .number ∷ []) [] 3 (e .value) refl small))
 
 -- a node
-numbers-cons : (v : ℕ) (vs : List ℕ) → numbersBytes (v ∷ vs) ≡ bytes4 v ++ numbersBytes vs
-unfolding numbersBytes
-numbers-cons v vs = refl
+messages-cons : (m : Message) (ms : List Message) → messagesBytes (m ∷ ms) ≡ bytes4 (m .value) ++ (m .sender ∷ []) ++ messagesBytes ms
+unfolding messagesBytes
+messages-cons m ms = refl
+
+-- the numbers of messages one by one
+numbers-each : (q : List Message) → joined (λ i. getD q i noMessage .value ∷ getD q i noMessage .sender ∷ []) (length q) ≡ numbersOf q
+unfolding joined
+numbers-each [] = refl
+numbers-each (m ∷ q) =
+    first-shift (λ i. getD (m ∷ q) i noMessage .value ∷ getD (m ∷ q) i noMessage .sender ∷ []) (length q)
+    ∙ ap (λ (l : List ℕ). m .value ∷ m .sender ∷ l) (numbers-each q)
 
 messages-read :
-    (xs q rest : List ℕ) (place : ℕ) → place ≡ length xs → ((i : ℕ) → getD q i 0 < 2 ^ 32)
-    → messagesAt (xs ++ (numbersBytes q ++ rest)) place (length q) ≡ q
+    (xs : List ℕ) (q : List Message) (rest : List ℕ) (place : ℕ) → place ≡ length xs
+    → ((i : ℕ) → i < length q → getD q i noMessage .value < 2 ^ 32)
+    → messagesAt (xs ++ (messagesBytes q ++ rest)) place (length q) ≡ numbersOf q
 unfolding messagesAt
 messages-read xs q rest place e small =
-    same-first (λ i. numberAt (xs ++ (numbersBytes q ++ rest)) (place + 4 * i) 4 ∷ []) (λ i. getD q i 0 ∷ []) (length q)
-    (λ i h. ap (λ (v : ℕ). v ∷ []) (one i h))
-    ∙ bytes-each q
+    same-first (messageIn all place) (λ i. getD q i noMessage .value ∷ getD q i noMessage .sender ∷ []) (length q)
+    (λ i h. ap₂ (λ (v n : ℕ). v ∷ n ∷ []) (value i h) (sender i h))
+    ∙ numbers-each q
   where
-    one : (i : ℕ) → i < length q → numberAt (xs ++ (numbersBytes q ++ rest)) (place + 4 * i) 4 ≡ getD q i 0
-    one i h =
-        let here : place + 4 * i ≡ length xs + (4 * i + 0) = omega arith in
-        rw here
-        (number-past xs (numbersBytes q ++ rest) (4 * i + 0) 4
-        ∙ number-front (numbersBytes q) rest (4 * i + 0) 4 (omega (arith, length-numbers q))
-        ∙ element 0 4 bytes4 (λ v. refl) numbersBytes numbers-cons q i h 0 4 (omega arith)
-        ∙ bytes-spell (getD q i 0) (small i))
+    all : List ℕ
+    all = xs ++ (messagesBytes q ++ rest)
+
+    part : (i : ℕ) → i < length q → (at w : ℕ) → at + w ≤ 5
+        → numberAt all (length xs + (5 * i + at)) w ≡ numberAt (bytes4 (getD q i noMessage .value) ++ (getD q i noMessage .sender ∷ [])) at w
+    part i h at w l =
+        number-past xs (messagesBytes q ++ rest) (5 * i + at) w
+        ∙ number-front (messagesBytes q) rest (5 * i + at) w (omega (arith, length-messages q))
+        ∙ element noMessage 5 (λ m. bytes4 (m .value) ++ (m .sender ∷ [])) (λ m. refl) messagesBytes messages-cons q i h at w l
+
+    value : (i : ℕ) → i < length q → numberAt all (place + 5 * i) 4 ≡ getD q i noMessage .value
+    value i h =
+        let here : place + 5 * i ≡ length xs + (5 * i + 0) = omega arith in
+        ap (λ (p : ℕ). numberAt all p 4) here ∙ part i h 0 4 (omega arith)
+        ∙ word-past [] (getD q i noMessage .sender ∷ []) 0 (getD q i noMessage .value) refl (small i h)
+
+    sender : (i : ℕ) → i < length q → numberAt all (place + 5 * i + 4) 1 ≡ getD q i noMessage .sender
+    sender i h =
+        let here : place + 5 * i + 4 ≡ length xs + (5 * i + 4) = omega arith in
+        ap (λ (p : ℕ). numberAt all p 1) here ∙ part i h 4 1 (omega arith)
+        ∙ number-one (bytes4 (getD q i noMessage .value) ++ (getD q i noMessage .sender ∷ [])) 4
 
 module _ (s : State) (fits : Fits s) where
   module _ (xs rest : List ℕ) (n : ℕ) where
@@ -144,10 +162,10 @@ module _ (s : State) (fits : Fits s) where
     waiting : waitingIn all (length xs) ≡ waitingAt s n
     waiting = past 9 1 ∙ number-one (nodeBytes s n ++ rest) 9
 
-    messages : messagesAt all (length xs + 10) (waitingAt s n) ≡ queueAt s n
+    messages : messagesAt all (length xs + 10) (waitingAt s n) ≡ numbersOf (queueAt s n)
     messages =
         let ten = positionAt s n ∷ bytes4 (accumulatorAt s n) ++ bytes4 (messageAt s n) ++ (waitingAt s n ∷ []) in
-        ap (λ (l : List ℕ). messagesAt l (length xs + 10) (waitingAt s n)) (sym (append-assoc xs ten (numbersBytes (queueAt s n) ++ rest)))
+        ap (λ (l : List ℕ). messagesAt l (length xs + 10) (waitingAt s n)) (sym (append-assoc xs ten (messagesBytes (queueAt s n) ++ rest)))
         ∙ messages-read (xs ++ ten) (queueAt s n) rest (length xs + 10) (omega (arith, length-append xs ten)) (fits .queue n)
 
     node-read : nodeLine all (length xs) n ≡ lineOfNode s n
@@ -214,21 +232,15 @@ abbrev Small : Entry → Type 0
 Small e = e .value < 2 ^ 32
 
 module _ (P : Program) (s : State) (n : ℕ) (fits : Fits s) where
-  shared-small : (x kind value : ℕ) → value < 2 ^ 32 → Small (cond (sharedIn P x) (entry n kind x value) (entry n 0 0 0))
-  shared-small x kind value h = either Small (sharedIn P x) _ _ (λ _. h) (λ _. omega arith)
-
   left-small : (i : Instruction) → Small (entryOf P s n i)
   left-small i =
       let x = i .operand in
-      either Small (eqb (i .byte) GET) _ _ (λ _. shared-small x 3 (variableAt s x) (fits .variable x)) λ _.
-      either Small (eqb (i .byte) PLUS) _ _ (λ _. shared-small x 3 (variableAt s x) (fits .variable x)) λ _.
-      either Small (eqb (i .byte) PUT) _ _ (λ _. shared-small x 4 (accumulatorAt s n) (fits .accumulator n)) λ _.
-      either Small (eqb (i .byte) CALL) _ _ (λ _. fits .accumulator n) λ _.
-      either Small (eqb (i .byte) SEND) _ _ (λ _. fits .accumulator n) (λ _. omega arith)
+      left-by Small P s n i (λ _. fits .variable x) (λ _. fits .variable x) (λ _. fits .accumulator n) (λ _. fits .accumulator n)
+      (λ _. fits .accumulator n) (omega arith)
 
   turn-small : Makes Small (turn P s n)
   turn-small =
-      turn-by (Makes Small) P s n (λ p w. tt) (λ p w. fits .queue n 0) (λ l b. tt)
+      turn-by (Makes Small) P s n (λ p w. tt) (λ p w. fits .queue n 0 (omega (arith, w))) (λ l b. tt)
       (λ l b. left-small (instructionAt P n (positionAt s n)))
       (λ l. omega arith)
 

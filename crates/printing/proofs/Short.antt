@@ -10,7 +10,7 @@ use Rattle.output.specs.Finding.{waitingIn, partAt}
 use Rattle.lines.specs.Lines.{endWord, nodeWord, varWord, refusedWord, entryLine, endLine, messagesAt, nodeLine, partLine}
 use Rattle.lines.specs.Lines.{variableLine, nodeLines, snapshotLines, runLines, refusedLine}
 use Rattle.text.proofs.Decimals.{decimal-short, decimal-20}
-use Rattle.lines.proofs.Texts.{messageField, messages-each}
+use Rattle.lines.proofs.Texts.{messageFields, messages-each}
 use Rattle.model.specs.Command.{numberAt}
 use Rattle.model.specs.Output.{Answer}
 use Rattle.model.specs.Valid.{Bytes}
@@ -79,11 +79,23 @@ module _ (xs : List ℕ) (bytes : Bytes xs) where
       )
 
   -- the lines of a snapshot
-  messages-short : (place count : ℕ) → length (fields (messagesAt xs place count)) ≤ 11 * count
-  messages-short place count = rw (← messages-each xs place count)
-      (first-short (messageField xs place) 11 (λ i. word-field (place + 4 * i)) count)
+  messages-short : (place count : ℕ) → length (fields (messagesAt xs place count)) ≤ 15 * count
+  messages-short place count = rw (← messages-each xs place count) (first-short (messageFields xs place) 15 one count)
+    where
+      one : (i : ℕ) → length (messageFields xs place i) ≤ 15
+      one i =
+          let value = numberAt xs (place + 5 * i) 4 in
+          let sender = numberAt xs (place + 5 * i + 4) 1 in
+          omega (
+            arith,
+            length-fields value (sender ∷ []),
+            length-fields sender [],
+            no-fields,
+            word-field (place + 5 * i),
+            byte-field (place + 5 * i + 4),
+          )
 
-  node-short : (place n : ℕ) → length (nodeLine xs place n) ≤ 56 + 11 * waitingIn xs place
+  node-short : (place n : ℕ) → length (nodeLine xs place n) ≤ 56 + 15 * waitingIn xs place
   unfolding nodeLine
   node-short place n =
       let position = numberAt xs place 1 in

@@ -11,7 +11,7 @@ use Rattle.model.specs.State.{tabulate, initialState}
 use Rattle.model.specs.Turn.{someBelow, delivered, turn}
 use Rattle.model.specs.Permission.{monitoredTurn}
 use Rattle.model.specs.Run.{runFrom, monitoredRun}
-use Rattle.model.specs.Output.{traceBytes, numbersBytes, nodesBytes, variablesBytes, snapshotBytes}
+use Rattle.model.specs.Output.{traceBytes, messagesBytes, nodesBytes, variablesBytes, snapshotBytes}
 use Rattle.model.specs.Refusal.{anyOf, groupFalls, violation, decodeFrom, decode, refuseFirst, decodeJob, decodeFor}
 use Rattle.model.specs.Result.{report, monitored}
 use Rattle.model.specs.Examples.{enough, times, k1, k1Read, four}
@@ -24,7 +24,7 @@ unfolding operandsIn operandsOf isAmong largestIn largestOf
     programOf tabulate initialState
     someBelow delivered turn monitoredTurn
     runFrom monitoredRun
-    traceBytes numbersBytes nodesBytes variablesBytes snapshotBytes
+    traceBytes messagesBytes nodesBytes variablesBytes snapshotBytes
     anyOf groupFalls violation decodeFrom decode refuseFirst decodeJob decodeFor
     report monitored
     enough times k1 k1Read four

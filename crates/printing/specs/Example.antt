@@ -9,7 +9,7 @@ use Rattle.printing.specs.Printing.{resultLines}
 -- the 13 lines of the paper, a line each
 unfoldable pub k1Lines : List ℕ
 k1Lines =
-    (48 ∷ 32 ∷ 49 ∷ 32 ∷ 48 ∷ 32 ∷ 50 ∷ 10 ∷ [])
+    (48 ∷ 32 ∷ 49 ∷ 32 ∷ 50 ∷ 53 ∷ 53 ∷ 32 ∷ 50 ∷ 10 ∷ [])
     ++ (48 ∷ 32 ∷ 48 ∷ 32 ∷ 48 ∷ 32 ∷ 48 ∷ 10 ∷ [])
     ++ (48 ∷ 32 ∷ 51 ∷ 32 ∷ 48 ∷ 32 ∷ 53 ∷ 10 ∷ [])
     ++ (48 ∷ 32 ∷ 54 ∷ 32 ∷ 48 ∷ 32 ∷ 55 ∷ 10 ∷ [])

@@ -7,7 +7,7 @@ use Rattle.text.specs.Text.{decimal, line, joined}
 use Rattle.lines.specs.Lines.{nodeWord, varWord, endLine, refusedLine}
 use Rattle.model.specs.Declared.{turnsOf}
 use Rattle.model.specs.Program.{Program, programOf}
-use Rattle.model.specs.State.{State, positionAt, accumulatorAt, messageAt, queueAt, waitingAt, variableAt}
+use Rattle.model.specs.State.{Message, State, positionAt, accumulatorAt, messageAt, queueAt, waitingAt, variableAt}
 use Rattle.model.specs.Turn.{Entry}
 use Rattle.model.specs.Run.{Run, entryAt, monitoredRun, unmonitoredRun}
 use Rattle.model.specs.Output.{answerIn}
@@ -20,9 +20,14 @@ use Rattle.printing.specs.Printing.{resultLines}
 unfoldable pub lineOfEntry : Entry → List ℕ
 lineOfEntry e = line (decimal (e .node)) (e .kind ∷ e .number ∷ e .value ∷ [])
 
+-- waiting messages: of each the value, then the sender
+abbrev pub numbersOf : List Message → List ℕ
+numbersOf [] = []
+numbersOf (m ∷ ms) = m .value ∷ m .sender ∷ numbersOf ms
+
 -- node n of a state: `node`, number, position, accumulator ("hand"), message, waiting count, then the waiting messages, oldest first
 unfoldable pub lineOfNode : State → ℕ → List ℕ
-lineOfNode s n = line nodeWord (n ∷ positionAt s n ∷ accumulatorAt s n ∷ messageAt s n ∷ waitingAt s n ∷ queueAt s n)
+lineOfNode s n = line nodeWord (n ∷ positionAt s n ∷ accumulatorAt s n ∷ messageAt s n ∷ waitingAt s n ∷ numbersOf (queueAt s n))
 
 -- variable x of a state: `var`, number, value
 unfoldable pub lineOfVariable : State → ℕ → List ℕ

@@ -65,7 +65,7 @@ module _ (job t : List ℕ) (b : Sizes) (f : AcceptedWith job t b) where
   pub trace-fits : 7 * countIn t TURN ≤ b .trace
   trace-fits = omega (arith, f .stands .counts TURN (omega arith), buffers-fit job b past (both .1) .0)
 
-  pub snapshot-fits : 2624 ≤ b .snapshot
+  pub snapshot-fits : 3136 ≤ b .snapshot
   snapshot-fits = buffers-fit job b past (both .1) .1
 
   pub work-fits : workSize ≤ b .work

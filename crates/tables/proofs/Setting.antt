@@ -11,7 +11,7 @@ use borrow.Author.Tests.{eqb-true, eqb-false}
 use Rattle.tables.specs.Bits.{bitOf, withBit}
 
 -- the bits above the lowest are those of the half
-half-bit : (x i : ℕ) → bitOf x (suc i) ≡ bitOf (x / 2) i
+pub half-bit : (x i : ℕ) → bitOf x (suc i) ≡ bitOf (x / 2) i
 unfolding bitOf
 half-bit x i =
     let e : x / 2 / 2 ^ i ≡ x / 2 ^ (1 + i) = shr-shr x 1 i in
@@ -28,7 +28,7 @@ half-set x i = rw (half-bit x i) (by-bit (bitOf (x / 2) i))
     by-bit false = let e = pow-suc 2 i in (omega arith, omega arith)
 
 -- the lowest bit
-low-bit : (x : ℕ) → bitOf x 0 ≡ eqb (x % 2) 1
+pub low-bit : (x : ℕ) → bitOf x 0 ≡ eqb (x % 2) 1
 unfolding bitOf
 low-bit x = let e : x / 1 ≡ x = omega arith in rw e
 

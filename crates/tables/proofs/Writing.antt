@@ -1,5 +1,5 @@
 -- Reading and writing cells: what the code's tests give, and what a write changes in its section and in the others.
-use Prim.Native.Nat.{ℕ, _+_, _%_, _≤_, _<_}
+use Prim.Native.Nat.{ℕ, _+_, _*_, _%_, _≤_, _<_}
 use mathlib.Core.Path.{_≡_, sym, _∙_}
 use mathlib.Core.Bool.{false}
 use mathlib.Core.List.{List}
@@ -42,6 +42,12 @@ module _ (t : List ℕ) (s : Section) (row column : ℕ) where
   pub mark-inside : row < 128 → column < 64 → markIn t s row column ≡ bitOf (entryIn t s (markCell row column)) (column % 32)
   unfolding markIn
   mark-inside h k = rw (lt-ltb row 128 h, lt-ltb column 64 k)
+
+  pub mark-first : row < 128 → column < 32 → bitOf (entryIn t s (row * 2)) column ≡ markIn t s row column
+  mark-first h k =
+      let e : markCell row column ≡ row * 2 = omega arith in
+      let f : column % 32 ≡ column = omega arith in
+      sym (mark-inside h (omega arith) ∙ rw (e, f))
 
   pub mark-below : 128 ≤ row → markIn t s row column ≡ false
   unfolding markIn

@@ -1,7 +1,8 @@
 // All tables lie in one array of cells, a section each. A cell that was not noted is 0, and so is what lies outside a section.
 ghost use mathlib.Core.Path.{_≡_};
-ghost use Prim.Native.Nat.{_+_, _≤_};
+ghost use Prim.Native.Nat.{ℕ, _+_, _≤_, _<_};
 ghost use lib.ListN.{length};
+ghost use Rattle.tables.specs.Bits.{bitOf};
 ghost use Rattle.tables.specs.Cells.{cellCount, entryIn, putIn, flagIn, markIn, markAt, halfIn, putHalf, blank};
 use crate::bits::half_of;
 use crate::bits::is_set;
@@ -108,6 +109,17 @@ pub fn marked(tables: &[u32], s: Section, row: usize, column: usize) -> bool
         }
     }
     false
+}
+
+// The first 32 marks of a row of such a section, as the bits of a number.
+pub fn marks_of(tables: &[u32], s: Section, row: usize) -> u32
+    requires { ⌜ s .0 + s .1 ≤ cellCount ⌝ }
+    ensures { λ r. ⌜ ((k : ℕ) → k < 32 → bitOf r k ≡ markIn (now (tables .entry)) s row k) ⌝ }
+{
+    if row < 128 {
+        return entry(tables, s, row * 2);
+    }
+    0
 }
 
 // Makes a mark at a row and a column of such a section.

@@ -54,7 +54,7 @@ pub all-put :
 all-put f before at n k buffer next low high w = let same : k ≡ n = omega arith in rw same at (w .writes)
 
 -- from the front: the first text, then the others
-first-shift : (f : ℕ → List ℕ) (k : ℕ) → joined f (suc k) ≡ f 0 ++ joined (λ i. f (suc i)) k
+pub first-shift : (f : ℕ → List ℕ) (k : ℕ) → joined f (suc k) ≡ f 0 ++ joined (λ i. f (suc i)) k
 unfolding joined
 first-shift f zero = sym (append-nil (f 0))
 first-shift f (suc k) = ap (λ (l : List ℕ). l ++ f (suc k)) (first-shift f k) ∙ append-assoc (f 0) (joined (λ i. f (suc i)) k) (f (suc k))
@@ -76,13 +76,11 @@ unfolding fields
 fields-append [] ys = refl
 fields-append (x ∷ xs) ys = ap (λ (l : List ℕ). field x ++ l) (fields-append xs ys) ∙ sym (append-assoc (field x) (fields xs) (fields ys))
 
-pub fields-first : (number : ℕ → ℕ) (k : ℕ) → fields (joined (λ i. number i ∷ []) k) ≡ joined (λ i. field (number i)) k
+pub fields-joined : (numbers : ℕ → List ℕ) (k : ℕ) → fields (joined numbers k) ≡ joined (λ i. fields (numbers i)) k
 unfolding joined fields
-fields-first number zero = refl
-fields-first number (suc k) =
-    fields-append (joined (λ i. number i ∷ []) k) (number k ∷ [])
-    ∙ ap (λ (l : List ℕ). l ++ (field (number k) ++ [])) (fields-first number k)
-    ∙ ap (λ (l : List ℕ). joined (λ i. field (number i)) k ++ l) (append-nil (field (number k)))
+fields-joined numbers zero = refl
+fields-joined numbers (suc k) =
+    fields-append (joined numbers k) (numbers k) ∙ ap (λ (l : List ℕ). l ++ fields (numbers k)) (fields-joined numbers k)
 
 -- a text after another: room for each, and both
 module _ (xs ys before : List ℕ) (at : ℕ) (fits : at + length (xs ++ ys) ≤ length before) where

@@ -30,7 +30,7 @@ pub fn put_decimal(text: &mut [u8], at: usize, number: u64) -> usize
 }
 
 // Puts a number after another field: a space, then the number.
-pub fn put_field(text: &mut [u8], at: usize, number: u64) -> usize
+fn put_field(text: &mut [u8], at: usize, number: u64) -> usize
     requires { ⌜ at + length (field number) ≤ length (now text) ⌝ }
     ensures { λ r. ⌜ Writes (field number) (now (text .entry)) at (now (text .exit)) r ⌝ }
 {

@@ -45,7 +45,7 @@ use Rattle.turns.specs.declared.ending.Halt.{Halt}
 use Rattle.turns.specs.declared.ending.Halt.the-variants as v
 use Rattle.turns.specs.Endings.{answerOf, answerAt}
 use Rattle.turns.specs.Runs.{runOf, Loaded, RunsAs}
-use Rattle.turns.proofs.Narrow.{rule-narrow, placed-narrow}
+use Rattle.turns.proofs.Narrow.{NarrowSenders, initial-narrow, rule-narrow, rule-senders, placed-narrow}
 
 -- the run after k completed turns, whose entries stand at the front of the trace
 pub record Underway (monitored : Bool) (past : List Command) (before : List ℕ) (s : State) (trace : List ℕ) (at k : ℕ) : Type 0 where
@@ -57,6 +57,7 @@ pub record Underway (monitored : Bool) (past : List Command) (before : List ℕ)
   pub size : length trace ≡ length before
   pub bounded : BoundedCounts (s .waiting)
   pub placed : Placed (programOf past) (view s)
+  pub senders : NarrowSenders (view s)
 
 -- the run is over: how it ended, the trace, and the last state
 pub record Over (r : Run) (before after : List ℕ) (s : State) (x : Ending) : Type 0 where
@@ -111,6 +112,7 @@ module _ (monitored : Bool) (job t w : List ℕ) (ready : Loaded job t w) where
         size = refl;
         bounded = h .bounded;
         placed = rw e (initial-placed P);
+        senders = subst NarrowSenders (sym e) (initial-narrow P);
       }
 
   -- a turn may be asked for
@@ -157,7 +159,7 @@ module _ (monitored : Bool) (job t w : List ℕ) (ready : Loaded job t w) where
       completes = ap (λ (y : Outcome). turnedBy y (view (turned .state))) (sym made) ∙ comes .tells
 
       pub made-narrow : Narrow (numbersOf x)
-      made-narrow = rw (← completes) at (rule-narrow past (valid .commands) (view s) n (omega (arith, node, node-inside k more)) monitored)
+      made-narrow = rw (← completes) at (rule-narrow past (valid .commands) (view s) (u .senders) n (omega (arith, node, node-inside k more)) monitored)
 
       keeps : Keeps (Placed P) (rule (view s) n)
       keeps = by-mode monitored
@@ -191,6 +193,8 @@ module _ (monitored : Bool) (job t w : List ℕ) (ready : Loaded job t w) where
             size = same ∙ u .size;
             bounded = turns .bounded;
             placed = rw (← completes) at keeps;
+            senders = rw (← completes) at (rule-senders past (valid .commands) (view s) (u .senders) n
+                (omega (arith, node, node-inside k more)) monitored);
           }
 
     -- it was stopped

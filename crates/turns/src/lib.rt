@@ -74,6 +74,7 @@ pub fn run_turns(
         &s.message,
         &s.waiting,
         &s.queue,
+        &s.sender,
         &s.variable,
         nodes,
         variables,

@@ -4,12 +4,17 @@ use mathlib.Core.Path.{_≡_, refl, ap, _∙_}
 use mathlib.Core.List.{List, [], _∷_, _++_}
 use native.Mathlib.Numerals.{add-one}
 use native.Mathlib.Omega.{arith}
-use lib.ListN.{length, getD, take, drop, length-drop}
-use lib.Seq.{take-suc, length-take-le, getD-drop}
-use Rattle.model.specs.Output.{bytes4, numbersBytes}
-use Rattle.model.proofs.Bounds.{length-numbers}
-use Rattle.writing.specs.Writing.{Writes}
+use lib.ListN.{length, getD, take}
+use lib.Seq.{take-suc, length-take-le}
+use Rattle.model.specs.Output.{bytes4}
+use Rattle.writing.specs.Writing.{numbersBytes, Writes}
 use Rattle.writing.proofs.Placing.{writes-on, writes-nothing}
+
+-- 4 bytes a number
+length-numbers : (vs : List ℕ) → length (numbersBytes vs) ≡ 4 * length vs
+unfolding numbersBytes
+length-numbers [] = refl
+length-numbers (v ∷ vs) = omega (arith, length-numbers vs)
 
 -- one number more at the end
 numbers-snoc : (vs : List ℕ) (v : ℕ) → numbersBytes (vs ++ (v ∷ [])) ≡ numbersBytes vs ++ bytes4 v
@@ -21,31 +26,28 @@ pub numbers-next : (vs : List ℕ) (i : ℕ) → i < length vs → numbersBytes 
 numbers-next vs i h = ap (λ (k : ℕ). numbersBytes (take k vs)) (add-one i) ∙ ap numbersBytes (take-suc vs i 0 h)
     ∙ numbers-snoc (take i vs) (getD vs i 0)
 
--- i numbers are written of those from number `first` on: what a loop over them keeps
-pub record Written (values : List ℕ) (first : ℕ) (before : List ℕ) (at i : ℕ) (buffer : List ℕ) (next : ℕ) : Type 0 where
-  pub writes : Writes (numbersBytes (take i (drop first values))) before at buffer next
+-- i numbers are written: what a loop over them keeps
+pub record Written (values before : List ℕ) (at i : ℕ) (buffer : List ℕ) (next : ℕ) : Type 0 where
+  pub writes : Writes (numbersBytes (take i values)) before at buffer next
   pub place : next ≡ at + 4 * i
   pub size : length buffer ≡ length before
 
-pub none-written : (values : List ℕ) (first : ℕ) (before : List ℕ) (at : ℕ) → Written values first before at 0 before at
+pub none-written : (values before : List ℕ) (at : ℕ) → Written values before at 0 before at
 unfolding numbersBytes
-none-written values first before at = record { writes = writes-nothing before at; place = omega arith; size = refl }
+none-written values before at = record { writes = writes-nothing before at; place = omega arith; size = refl }
 
 pub one-written :
-    (values : List ℕ) (first : ℕ) (before : List ℕ) (at i : ℕ) (buffer : List ℕ) (next : ℕ) (after : List ℕ) (last : ℕ)
-    → first + i < length values → at + 4 * i + 4 ≤ length before → length after ≡ length buffer
-    → Written values first before at i buffer next → Writes (bytes4 (getD values (first + i) 0)) buffer next after last
-    → Written values first before at (i + 1) after last
-one-written values first before at i buffer next after last inside fits same w p =
-    let part = drop first values in
-    let there : i < length part = omega (arith, length-drop first values) in
-    let long : length (numbersBytes (take i part)) ≡ 4 * i = length-numbers (take i part)
-    ∙ ap (λ (k : ℕ). 4 * k) (length-take-le i part (omega arith)) in
-    let q = rw (← getD-drop first values i 0) at p in
-    let e = numbers-next part i there in
+    (values before : List ℕ) (at i : ℕ) (buffer : List ℕ) (next : ℕ) (after : List ℕ) (last : ℕ)
+    → i < length values → at + 4 * i + 4 ≤ length before → length after ≡ length buffer
+    → Written values before at i buffer next → Writes (bytes4 (getD values i 0)) buffer next after last
+    → Written values before at (i + 1) after last
+one-written values before at i buffer next after last inside fits same w p =
+    let long : length (numbersBytes (take i values)) ≡ 4 * i = length-numbers (take i values)
+    ∙ ap (λ (k : ℕ). 4 * k) (length-take-le i values (omega arith)) in
+    let e = numbers-next values i inside in
     record {
-      writes = rw e (writes-on (numbersBytes (take i part)) (bytes4 (getD part i 0)) before at buffer next after last (omega arith)
-          (w .writes) q);
+      writes = rw e (writes-on (numbersBytes (take i values)) (bytes4 (getD values i 0)) before at buffer next after last (omega arith)
+          (w .writes) p);
       place = omega (arith, p .place, w .place);
       size = same ∙ w .size;
     }

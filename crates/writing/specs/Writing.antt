@@ -1,8 +1,14 @@
 -- What writing to a buffer leaves.
 use Prim.Native.Nat.{ℕ, _+_}
 use mathlib.Core.Path.{_≡_}
-use mathlib.Core.List.{List, _++_}
+use mathlib.Core.List.{List, [], _∷_, _++_}
 use lib.ListN.{length, take, drop}
+use Rattle.model.specs.Output.{bytes4}
+
+-- numbers as 4 bytes each
+unfoldable pub numbersBytes : List ℕ → List ℕ
+numbersBytes [] = []
+numbersBytes (v ∷ vs) = bytes4 v ++ numbersBytes vs
 
 -- a buffer with these bytes from a place on; those before and after stay unchanged
 unfoldable pub placed : List ℕ → ℕ → List ℕ → List ℕ

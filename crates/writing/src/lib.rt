@@ -1,9 +1,9 @@
 // Writing to a buffer from one place to the next: each function answers the place after what it wrote.
 ghost use mathlib.Core.List.{[], _∷_};
 ghost use Prim.Native.Nat.{_+_, _*_, _≤_, _<_};
-ghost use lib.ListN.{length, take, drop, replicate};
-ghost use Rattle.model.specs.Output.{bytes4, numbersBytes};
-ghost use Rattle.writing.specs.Writing.{Writes};
+ghost use lib.ListN.{length, take, replicate};
+ghost use Rattle.model.specs.Output.{bytes4};
+ghost use Rattle.writing.specs.Writing.{numbersBytes, Writes};
 
 // Writes one byte.
 pub fn put_byte(buffer: &mut [u8], at: usize, byte: u8) -> usize
@@ -25,16 +25,15 @@ pub fn put_word(buffer: &mut [u8], at: usize, value: u32) -> usize
     put_byte(buffer, fourth, (value / 16777216 % 256) as u8)
 }
 
-// Writes `count` of the values, from number `first` on, as 4 bytes each.
-pub fn put_words(buffer: &mut [u8], at: usize, values: &[u32], first: usize, count: usize) -> usize
-    requires { ⌜ (at + 4 * count ≤ length (now buffer)) × (first + count ≤ length (now values)) ⌝ }
-    ensures { λ r. ⌜ Writes (numbersBytes (take count (drop first (now (values .entry))))) (now (buffer .entry)) at
-        (now (buffer .exit)) r ⌝ }
+// Writes the first values as 4 bytes each.
+pub fn put_words(buffer: &mut [u8], at: usize, values: &[u32], count: usize) -> usize
+    requires { ⌜ (at + 4 * count ≤ length (now buffer)) × (count ≤ length (now values)) ⌝ }
+    ensures { λ r. ⌜ Writes (numbersBytes (take count (now (values .entry)))) (now (buffer .entry)) at (now (buffer .exit)) r ⌝ }
 {
     let mut next = at;
     let mut i: usize = 0;
     while i < count {
-        next = put_word(buffer, next, values[first + i]);
+        next = put_word(buffer, next, values[i]);
         i += 1;
     }
     next

@@ -53,7 +53,7 @@ fn far(job: &[u8]) -> Vec<Lengths> {
 
 /// No bytes, some, and as many as a run of 9 turns needs.
 pub fn some_lengths() -> [Lengths; 6] {
-    [[0; 3], [1; 3], [63, 2_624, 4_096], [62, 2_624, 4_096], [63, 2_623, 4_096], [70, 2_631, 4_095]]
+    [[0; 3], [1; 3], [63, 3_136, 4_096], [62, 3_136, 4_096], [63, 3_135, 4_096], [70, 3_143, 4_095]]
 }
 
 /// A short job for each of 01's refusals 1 to 9, which come before the buffers are looked at.

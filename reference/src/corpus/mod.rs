@@ -21,6 +21,7 @@ mod ranges;
 mod repeats;
 mod replies;
 mod run;
+mod senders;
 mod sight;
 mod spans;
 mod stops;
@@ -69,7 +70,8 @@ fn jobs() -> Vec<(&'static str, Vec<Job>)> {
 const WITH_UNUSED: [&str; 2] = ["groups", "random"];
 
 /// All families: the worked jobs in both modes, each of the jobs above once, then what is about runs, then SPAN,
-/// then REPLY, then unused permissions. A new family goes behind all others, so that the stored runs before it stay the same.
+/// then REPLY, then unused permissions, then senders. A new family goes behind all others, so that the stored runs
+/// before it stay the same.
 pub fn families() -> Vec<Family> {
     let mut runs = Runs::new();
     let mut list = vec![Family { name: "worked", runs: runs.pairs(&worked::jobs()) }];
@@ -99,6 +101,7 @@ pub fn families() -> Vec<Family> {
     list.extend(with_spans(&mut runs));
     list.extend(with_replies(&mut runs));
     list.extend(about_unused(&mut runs));
+    list.extend(about_senders(&mut runs));
     list
 }
 
@@ -134,6 +137,15 @@ fn about_unused(runs: &mut Runs) -> [Family; 4] {
         Family { name: "unused", runs: runs.pairs(&unused::jobs()) },
         Family { name: "unused buffers", runs: unused::beside_buffers(runs) },
         Family { name: "used pairs", runs: runs.pairs(&pairs::with_unreached(24)) },
+    ]
+}
+
+/// What is about senders: pairs alone.
+fn about_senders(runs: &mut Runs) -> [Family; 3] {
+    [
+        Family { name: "senders", runs: runs.pairs(&senders::jobs()) },
+        Family { name: "sender buffers", runs: senders::beside_buffers(runs) },
+        Family { name: "sender pairs", runs: runs.pairs(&pairs::with_senders(8)) },
     ]
 }
 

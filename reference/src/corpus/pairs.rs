@@ -1,9 +1,11 @@
 //! The generator's valid jobs with runs of 10 to 60 turns, for both modes: of 01's commands alone, with SPAN, with
-//! REPLY, with permissions that the run does not need.
+//! REPLY, with permissions that the run does not need, with several senders at one node.
 
 use super::Job;
 use crate::generate::{draw_case, Kind, Random};
 use crate::outcome::kind;
+use crate::state::FROM_START;
+use crate::table::MAX_NODES;
 use crate::{decode, Entry, Mode, Program, Runner, Step};
 
 const SEED: u64 = 0x0A1B_0C2D;
@@ -28,8 +30,25 @@ pub fn with_replies(count: usize) -> Vec<Job> {
 
 /// So many jobs with READ or WRITE for what the run does not reach.
 pub fn with_unreached(count: usize) -> Vec<Job> {
-    let jobs = drawn(|index| Random::for_case(SEED + 2, index));
+    let jobs = drawn(|index| Random::for_case(SEED + 2, index).without_senders());
     jobs.filter(|job| job.len() < 400 && has_unreached(job)).take(count).collect()
+}
+
+/// So many jobs with a node that takes messages of three senders, itself among them or not, START not.
+pub fn with_senders(count: usize) -> Vec<Job> {
+    let jobs = drawn(|index| Random::for_case(SEED + 3, index));
+    jobs.filter(|job| job.len() < 400 && has_senders(job)).take(count).collect()
+}
+
+/// Whether a node of the unmonitored run takes messages of three senders.
+fn has_senders(job: &[u8]) -> bool {
+    let mut senders = [0u32; MAX_NODES];
+    for entry in entries(&decode(job).expect("a valid job")) {
+        if entry.kind == kind::BEGIN && entry.number != FROM_START {
+            senders[usize::from(entry.node)] |= 1 << entry.number;
+        }
+    }
+    senders.iter().any(|senders| senders.count_ones() > 2)
 }
 
 /// Whether some READ or WRITE permits no entry of the unmonitored run.

@@ -28,7 +28,7 @@ pub fn damaged_by_reply(count: usize) -> Vec<Job> {
 
 /// Jobs that are damaged by unused permissions: so many for each reason.
 pub fn damaged_by_unused(count: usize) -> Vec<Job> {
-    let mut random = Random::new(SEED + 2);
+    let mut random = Random::new(SEED + 2).without_senders();
     let reasons = Reason::all().into_iter().filter(|reason| reason.needs_unused());
     reasons.flat_map(|reason| damaged(reason, count, 400, &mut random)).collect()
 }

@@ -11,11 +11,19 @@ pub struct Random {
     pub draws_replies: bool,
     /// Whether unused permissions are drawn on purpose, and others for what a run does not reach.
     pub draws_unused: bool,
+    /// Whether nodes that get messages of several senders are drawn on purpose.
+    pub draws_senders: bool,
 }
 
 impl Random {
     pub fn new(seed: u64) -> Random {
-        Random { state: seed, draws_spans: true, draws_replies: true, draws_unused: true }
+        Random {
+            state: seed,
+            draws_spans: true,
+            draws_replies: true,
+            draws_unused: true,
+            draws_senders: true,
+        }
     }
 
     /// A generator of its own for the case `index` of a seed.
@@ -24,9 +32,14 @@ impl Random {
         Random::new(number ^ index.wrapping_mul(0xD1B5_4A32_D192_ED03))
     }
 
-    /// The same numbers for jobs as they were drawn before permissions could be unused.
+    /// The same numbers for jobs as they were drawn before messages had senders.
+    pub fn without_senders(self) -> Random {
+        Random { draws_senders: false, ..self }
+    }
+
+    /// The same before permissions could be unused.
     pub fn without_unused(self) -> Random {
-        Random { draws_unused: false, ..self }
+        Random { draws_unused: false, ..self.without_senders() }
     }
 
     /// The same for jobs without REPLY, and with its byte as any other that is no command.

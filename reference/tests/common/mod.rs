@@ -45,7 +45,7 @@ pub fn run_dirty(job: &[u8], mode: Mode, lengths: [usize; 3], dirt: u8) -> Ran {
 /// What the decoder and both runs say to a job, whatever the buffers: number and place, or none if they accept it.
 pub fn refusal(job: &[u8]) -> Option<(u8, usize)> {
     let refusal = decode(job).err();
-    for (mode, lengths) in MODES.into_iter().flat_map(|mode| [(mode, [28_672, 2_624, 4_096]), (mode, [0; 3])])
+    for (mode, lengths) in MODES.into_iter().flat_map(|mode| [(mode, [28_672, 3_136, 4_096]), (mode, [0; 3])])
     {
         let outcome = run_dirty(job, mode, lengths, 0x5A).outcome;
         match refusal {

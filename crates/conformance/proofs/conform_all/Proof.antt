@@ -12,7 +12,7 @@ use Rattle.conformance.proofs.conform_all.Tie as tie
 
 abbrev Inv-loop : tie.InvT-loop
 Inv-loop text₀ job₀ trace₀ snapshot₀ work₀ at₀ left₀ text job trace snapshot work at left =
-    (at + 131080 ≤ length text) × (length text ≡ length text₀) × (length job ≡ 16400) × (length trace ≡ 28800) × (length snapshot ≡ 2700)
+    (at + 131080 ≤ length text) × (length text ≡ length text₀) × (length job ≡ 16400) × (length trace ≡ 28800) × (length snapshot ≡ 3200)
     × (length work ≡ 16500)
 
 abbrev μ-loop : tie.MeasureT-loop

@@ -2,6 +2,7 @@
 use mathlib.Core.Path.{sym, ap, _∙_}
 use native.Mathlib.Omega.{arith}
 use denote.Ref.{now}
+use Rattle.model.specs.State.{messageFrom}
 use Rattle.command.specs.Instructions.{fetchedOf}
 use Rattle.command.proofs.Fetching.{inside-command, after-command}
 use Rattle.tables.specs.Programs.{programIn}
@@ -38,7 +39,7 @@ returns-2 c hs s h counts first fetches =
     rw (c .planned2 .ensures, c .before .make-entry .ensures)
     (begun-planned (programIn (now (a .tables)) hs) s (a .n) (a .monitored) (a .registers) (h .own)
     (c .before .before .before .before .if1 .taken)
-    (λ e. c .before .before .if2 .left (sym (counts (a .n .0)) ∙ e)) (a .oldest)
+    (λ e. c .before .before .if2 .left (sym (counts (a .n .0)) ∙ e)) (messageFrom (a .sender) (a .oldest))
     (first (omega (arith, counts (a .n .0), c .before .before .if2 .left))))
 
 enum-known-fetched : tie.Need-enum-known-fetched

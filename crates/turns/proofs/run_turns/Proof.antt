@@ -194,48 +194,48 @@ cast-variables c = search needs
 
 put-snapshot-requires : tie.Need-put-snapshot-requires Inv-loop μ-loop
 put-snapshot-requires c κs =
-    let p8 = c .before .before .before .before .before .before .before .before in
-    let p9 = p8 .before in
+    let p9 = c .before .before .before .before .before .before .before .before .before in
     let p10 = p9 .before in
-    let p12 = p10 .before .before in
-    let z = p12 .before .before .before .before .before .before .before .before in
+    let p11 = p10 .before in
+    let p13 = p11 .before .before in
+    let z = p13 .before .before .before .before .before .before .before .before in
     let a = z .args in
     let ready = z .pre .0 in
-    let o = p12 .loop .inv ready .ended (omega (arith, p10 .before .loop-test .left)) _ (p10 .ending-of .ensures) in (
+    let o = p13 .loop .inv ready .ended (omega (arith, p11 .before .loop-test .left)) _ (p11 .ending-of .ensures) in (
       (
         z .pre .1 .1,
-        omega (arith, p9 .count-of2 .ensures, nodes-few (a .monitored) (now (a .job)) (now (a .tables)) (now (a .work)) ready),
-        omega (arith, p8 .count-of3 .ensures, variables-few (a .monitored) (now (a .job)) (now (a .tables)) (now (a .work)) ready),
+        omega (arith, p10 .count-of2 .ensures, nodes-few (a .monitored) (now (a .job)) (now (a .tables)) (now (a .work)) ready),
+        omega (arith, p9 .count-of3 .ensures, variables-few (a .monitored) (now (a .job)) (now (a .tables)) (now (a .work)) ready),
       ),
       (o .bounded, o .positions),
     )
 
 same-length : tie.Need-same-length Inv-loop μ-loop
 same-length c =
-    let p15 = c .before .before .before .before .before .before .before .before .before .before .before .before .before .before .before in
-    let z = p15 .before .before .before .before .before .before .before .before in
-    p15 .loop .inv (z .pre .0) .size
+    let p16 = c .before .before .before .before .before .before .before .before .before .before .before .before .before .before .before .before in
+    let z = p16 .before .before .before .before .before .before .before .before in
+    p16 .loop .inv (z .pre .0) .size
 
 same-length-2 : tie.Need-same-length-2 Inv-loop μ-loop
 same-length-2 c = search needs
 
 returns : tie.Need-returns Inv-loop μ-loop
 returns c past e =
-    let p11 = c .before .before .before .before .before .before .before .before .before .before .before in
-    let p12 = p11 .before in
+    let p12 = c .before .before .before .before .before .before .before .before .before .before .before .before in
     let p13 = p12 .before in
-    let p15 = p13 .before .before in
-    let z = p15 .before .before .before .before .before .before .before .before in
+    let p14 = p13 .before in
+    let p16 = p14 .before .before in
+    let z = p16 .before .before .before .before .before .before .before .before in
     let a = z .args in
     let ready = z .pre .0 in
-    let l = p15 .loop in
+    let l = p16 .loop in
     let d = ready .decoded in
     let same : ready .past ≡ past = cc in
     subst (λ (x : List Command). RunsAs (programOf x) (runOf (a .monitored) x) (now (a .trace)) (now (a .snapshot)) (l .trace)
-    (c .before .before .put-snapshot .last .0) (p13 .ending-of .result)) same
+    (c .before .before .put-snapshot .last .0) (p14 .ending-of .result)) same
     (runs-as (a .monitored) (now (a .job)) (now (a .tables)) (now (a .work)) ready _ _ (l .s) _
-    (l .inv ready .ended (omega (arith, p13 .before .loop-test .left)) _ (p13 .ending-of .ensures)) _ _ _
-    (rw (p12 .count-of2 .ensures, p11 .count-of3 .ensures) at (c .before .before .put-snapshot .ensures)))
+    (l .inv ready .ended (omega (arith, p14 .before .loop-test .left)) _ (p14 .ending-of .ensures)) _ _ _
+    (rw (p13 .count-of2 .ensures, p12 .count-of3 .ensures) at (c .before .before .put-snapshot .ensures)))
 
 pub run-turns-spec : {M : Type 1} → statement M
 run-turns-spec =

@@ -8,16 +8,13 @@ use Rattle.writing.proofs.put_words.Statement.{statement}
 use Rattle.writing.proofs.put_words.Tie as tie
 
 abbrev Inv-loop : tie.InvT-loop
-Inv-loop buffer₀ at values first count next₀ i₀ buffer next i = (i ≤ count) × Written values first buffer₀ at i buffer next
+Inv-loop buffer₀ at values count next₀ i₀ buffer next i = (i ≤ count) × Written values buffer₀ at i buffer next
 
 abbrev μ-loop : tie.MeasureT-loop
-μ-loop buffer₀ at values first count next₀ i₀ buffer next i = count - i
+μ-loop buffer₀ at values count next₀ i₀ buffer next i = count - i
 
 loop-holds : tie.Need-loop-holds Inv-loop μ-loop
-loop-holds c = (omega arith, none-written _ _ _ _)
-
-add-put-word : tie.Need-add-put-word Inv-loop μ-loop
-add-put-word c = search needs
+loop-holds c = (omega arith, none-written _ _ _)
 
 mul-put-word : tie.Need-mul-put-word Inv-loop μ-loop
 mul-put-word c = search needs
@@ -41,7 +38,7 @@ loop-again c =
     let l = p6 .loop in
     let h = p9 .pre in (
       omega (arith, c .before .before .before .before .before .loop-test .taken),
-      one-written _ _ _ _ (l .i) (l .buffer) (l .next) _ _
+      one-written _ _ _ (l .i) (l .buffer) (l .next) _ _
           (omega (arith, c .before .before .before .before .before .loop-test .taken, h .1))
           (omega (arith, c .before .before .before .before .before .loop-test .taken, h .0)) (search needs) (l .inv .1)
           (c .before .before .put-word .ensures),
@@ -63,7 +60,6 @@ put-words-spec =
     Inv-loop
     μ-loop
     loop-holds
-    add-put-word
     mul-put-word
     shared-slice-read-put-word
     put-word-requires

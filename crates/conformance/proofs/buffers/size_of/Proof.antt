@@ -9,7 +9,7 @@ use Rattle.conformance.proofs.buffers.size_of.Statement.{statement}
 use Rattle.conformance.proofs.buffers.size_of.Tie as tie
 
 abbrev Inv-loop : tie.InvT-loop
-Inv-loop snapshot nodes variables place₀ n₀ place n = (n ≤ nodes) × (place ≡ partAt snapshot n) × (place ≤ 1030 * n)
+Inv-loop snapshot nodes variables place₀ n₀ place n = (n ≤ nodes) × (place ≡ partAt snapshot n) × (place ≤ 1285 * n)
 
 abbrev μ-loop : tie.MeasureT-loop
 μ-loop snapshot nodes variables place₀ n₀ place n = nodes - n

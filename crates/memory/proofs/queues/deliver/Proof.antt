@@ -1,88 +1,119 @@
 -- `memory::queues::deliver` meets its contract.
-use Prim.Native.Nat.{_-_, _≤_}
-use mathlib.Core.Path.{_≡_, refl, sym, _∙_}
+use Prim.Native.Nat.{_<_}
+use mathlib.Core.Path.{_≡_, refl, _∙_}
 use mathlib.Core.Logic.{⊎-elim}
 use native.Mathlib.Omega.{arith}
 use denote.Ref.{now}
+use lib.ListN.{getD}
 use borrow.Author.Needs.{needs}
+use Rattle.tables.specs.Bits.{bitOf}
 use Rattle.tables.specs.Tables.{wiredIn}
-use Rattle.memory.specs.Queues.{queues, BringsOnly}
-use Rattle.memory.proofs.Waiting.{brings-set}
-use Rattle.memory.proofs.Sending.{Serving, serving-none, serving-target, serving-other}
+use Rattle.memory.specs.Queues.{counted}
+use Rattle.memory.proofs.Sending.{ahead-one, ahead-other, ahead-none, counted-target, counted-other, counted-later}
+use Rattle.memory.proofs.Sending.{counted-all, Storing, storing-none, storing-room, storing-few, storing-target, storing-other}
+use Rattle.memory.proofs.Sending.{storing-all}
 use Rattle.memory.proofs.queues.deliver.Statement.{statement}
 use Rattle.memory.proofs.queues.deliver.Tie as tie
 
 abbrev Inv-loop : tie.InvT-loop
-Inv-loop queue₀ waiting₀ t n port value target₀ queue waiting target = (target ≤ 32) × Serving (wiredIn t (n .0) port) value
-    (queues waiting₀ queue₀) target waiting queue × BringsOnly (λ k. value) queue₀ queue
+Inv-loop queue₀ waiting₀ t port value all target₀ queue waiting targets target =
+    Storing all value waiting₀ queue₀ target targets queue × (waiting ≡ counted (bitOf all) waiting₀ target)
 
 abbrev μ-loop : tie.MeasureT-loop
-μ-loop queue₀ waiting₀ t n port value target₀ queue waiting target = 32 - target
+μ-loop queue₀ waiting₀ t port value all target₀ queue waiting targets target = targets
+
+targets-of-requires : tie.Need-targets-of-requires Inv-loop μ-loop
+targets-of-requires c κs = search needs
 
 loop-holds : tie.Need-loop-holds Inv-loop μ-loop
+unfolding counted
 loop-holds c =
-    let z = c .before in (
-      omega arith,
-      serving-none _ _ (now (z .args .waiting)) (now (z .args .queue)) (z .pre .0 .1) (z .pre .0 .0) (z .pre .1 .0)
-          (z .pre .1 .1),
-      λ test own all. all,
+    let z = c .before .before in (
+      storing-none (wiredIn (now (z .args .tables)) (z .args .n .0) (z .args .port)) _ _ (c .targets-of .ensures) _ _ (search needs)
+          (z .pre .1),
+      refl,
     )
 
-cast-t12 : tie.Need-cast-t12 Inv-loop μ-loop
-cast-t12 c = search needs
-
-is-wired-requires : tie.Need-is-wired-requires Inv-loop μ-loop
-is-wired-requires c κs = search needs
-
 element-copy-out-w : tie.Need-element-copy-out-w Inv-loop μ-loop
-element-copy-out-w c = search needs
+element-copy-out-w c =
+    let l = c .before .before .loop in
+    let h = storing-room (l .inv .0) (omega (arith, c .before .loop-test .taken)) (c .if1 .taken) in
+    search needs
 
 mul-at : tie.Need-mul-at Inv-loop μ-loop
-mul-at c = search needs
+mul-at c =
+    let l = c .before .before .before .loop in
+    let h = storing-room (l .inv .0) (omega (arith, c .before .before .loop-test .taken)) (c .before .if1 .taken) in
+    omega arith
 
 cast-at : tie.Need-cast-at Inv-loop μ-loop
-cast-at c = let l = c .before .before .before .before .loop in omega (arith, l .inv .1 .holds .bounded (l .target))
+cast-at c =
+    let l = c .before .before .before .loop in
+    omega (arith, storing-few (l .inv .0) (omega (arith, c .before .before .loop-test .taken)) (c .before .if1 .taken) (l .waiting) (l .inv .1))
 
 add-at : tie.Need-add-at Inv-loop μ-loop
-add-at c = let l = c .before .before .before .before .loop in omega (arith, l .inv .1 .holds .bounded (l .target))
+add-at c =
+    let l = c .before .before .before .loop in
+    let h = storing-room (l .inv .0) (omega (arith, c .before .before .loop-test .taken)) (c .before .if1 .taken) in
+    omega (arith, h .0, storing-few (l .inv .0) (omega (arith, c .before .before .loop-test .taken)) (c .before .if1 .taken) (l .waiting) (l .inv .1))
 
 mul-queue : tie.Need-mul-queue Inv-loop μ-loop
-mul-queue c = let l = c .before .before .before .before .loop in omega (arith, l .inv .1 .holds .bounded (l .target))
+mul-queue c =
+    let l = c .before .before .before .loop in
+    let h = storing-room (l .inv .0) (omega (arith, c .before .before .loop-test .taken)) (c .before .if1 .taken) in
+    omega (arith, h .0, storing-few (l .inv .0) (omega (arith, c .before .before .loop-test .taken)) (c .before .if1 .taken) (l .waiting) (l .inv .1))
 
 element-write-queue : tie.Need-element-write-queue Inv-loop μ-loop
 element-write-queue c =
-    let l = c .before .before .before .before .loop in
-    let h = l .inv .1 .room (l .target) (omega arith) (omega arith) (sym (c .before .before .is-wired .ensures) ∙ c .before .if1 .taken) in
-    omega (arith, h)
+    let l = c .before .before .before .loop in
+    let h = storing-room (l .inv .0) (omega (arith, c .before .before .loop-test .taken)) (c .before .if1 .taken) in
+    omega (arith, h .0, storing-few (l .inv .0) (omega (arith, c .before .before .loop-test .taken)) (c .before .if1 .taken) (l .waiting) (l .inv .1))
 
 add-waiting : tie.Need-add-waiting Inv-loop μ-loop
-add-waiting c = let l = c .before .before .before .before .loop in omega (arith, l .inv .1 .holds .bounded (l .target))
+add-waiting c =
+    let l = c .before .before .before .loop in
+    omega (arith, storing-few (l .inv .0) (omega (arith, c .before .before .loop-test .taken)) (c .before .if1 .taken) (l .waiting) (l .inv .1))
 
 element-write-waiting : tie.Need-element-write-waiting Inv-loop μ-loop
-element-write-waiting c = search needs
+element-write-waiting c =
+    let l = c .before .before .before .loop in
+    let h = storing-room (l .inv .0) (omega (arith, c .before .before .loop-test .taken)) (c .before .if1 .taken) in
+    search needs
 
 add-target : tie.Need-add-target Inv-loop μ-loop
-add-target c = search needs
+add-target c = let l = c .before .before .loop in omega (arith, l .inv .0 .ahead .inside)
 
 loop-less : tie.Need-loop-less Inv-loop μ-loop
 loop-less c = search needs
 
 loop-again : tie.Need-loop-again Inv-loop μ-loop
 loop-again c =
-    let told = sym (c .before .is-wired .ensures) in
-    let a = c .before .before .before .before .before .args in
-    let l = c .before .before .before .loop in
-    let s = l .inv .1 in
-    let brings = l .inv .2 in
+    let z = c .before .before .before .before .before in
+    let all = c .before .before .before .targets-of .result in
+    let ws = now (z .args .waiting) in
+    let l = c .before .before .loop in
+    let s = l .inv .0 in
+    let more : 0 < l .targets = omega (arith, c .before .loop-test .taken) in
+    let count : getD (l .waiting) (l .target) 0 ≡ getD ws (l .target) 0 =
+    rw (l .inv .1) (counted-later (bitOf all) ws (l .target) (l .target) (omega arith)) in
     ⊎-elim
-    (λ w. rw (w .2, w .3) (omega arith, serving-target s (omega arith) (told ∙ w .0 .taken), brings-set (λ k. a .value) (now (a .queue)) (l .queue) _ _ 0 refl brings))
-    (λ w. rw (w .1, w .2) (omega arith, serving-other s (told ∙ w .0 .left), brings))
+    (λ w.
+    rw (w .2, w .3, count)
+    (storing-target s more (w .0 .taken), rw (l .inv .1) (counted-target (bitOf all) ws (l .target) (ahead-one (s .ahead) (w .0 .taken)))))
+    (λ w.
+    rw (w .1, w .2)
+    (storing-other s more (w .0 .left), l .inv .1 ∙ counted-other (bitOf all) ws (l .target) (ahead-other (s .ahead) (w .0 .left))))
     (c .if1 .came)
 
 returns : tie.Need-returns Inv-loop μ-loop
 returns c =
-    let e : c .before .loop .target ≡ 32 = omega arith in
-    (rw e at (c .before .loop .inv .1 .holds), c .before .loop .inv .2)
+    let z = c .before .before .before .before in
+    let l = c .before .loop in
+    let target = wiredIn (now (z .args .tables)) (z .args .n .0) (z .args .port) in
+    let none : l .targets ≡ 0 = omega (arith, c .loop-test .left) in
+    let a = l .inv .0 .ahead in
+    let agree = c .before .before .targets-of .ensures in
+    (storing-all target _ _ agree (l .inv .0) none, l .inv .1 ∙ counted-all target _ _ _ agree (a .inside) (ahead-none a none))
 
 pub deliver-spec : {M : Type 1} → statement M
 deliver-spec =
@@ -90,9 +121,8 @@ deliver-spec =
     (tie.spec
     Inv-loop
     μ-loop
+    targets-of-requires
     loop-holds
-    cast-t12
-    is-wired-requires
     element-copy-out-w
     mul-at
     cast-at

@@ -1,27 +1,32 @@
 -- `memory::queues::fill_queues` meets its contract.
-use Prim.Native.Nat.{ℕ, _-_}
-use mathlib.Core.Path.{ap}
-use mathlib.Core.List.{List}
+use Prim.Native.Nat.{ℕ, _*_, _-_}
+use mathlib.Core.Path.{sym, ap, _∙_}
+use mathlib.Core.List.{List, map}
 use mathlib.Core.Logic.{⊎-elim}
 use native.Mathlib.Omega.{arith}
-use lib.ListN.{getD}
+use lib.ListN.{getD, length-map}
 use denote.Ref.{now}
 use borrow.Author.Needs.{needs}
+use Rattle.model.specs.State.{startSender, messageFrom}
 use Rattle.tables.specs.Tables.{firstsIn}
 use Rattle.memory.specs.Queues.{BringsOnly}
+use Rattle.memory.proofs.Pairing.{map-set}
 use Rattle.memory.proofs.Waiting.{brings-set}
 use Rattle.memory.proofs.Filled.{Queued, queued-none, queued-one, queued-empty, queued-all}
 use Rattle.memory.proofs.queues.fill_queues.Statement.{statement}
 use Rattle.memory.proofs.queues.fill_queues.Tie as tie
 
 abbrev Inv-loop : tie.InvT-loop
-Inv-loop queue₀ waiting₀ t n₀ queue waiting n = Queued (firstsIn t) n waiting queue × BringsOnly (λ k. getD (firstsIn t k) 0 0) queue₀ queue
+Inv-loop queue₀ waiting₀ t n₀ queue waiting n =
+    Queued (λ k. map (messageFrom startSender) (firstsIn t k)) n waiting (map (messageFrom startSender) queue)
+    × BringsOnly (λ k. messageFrom startSender (getD (firstsIn t k) 0 0)) (map (messageFrom startSender) queue₀)
+    (map (messageFrom startSender) queue)
 
 abbrev μ-loop : tie.MeasureT-loop
 μ-loop queue₀ waiting₀ t n₀ queue waiting n = 32 - n
 
 loop-holds : tie.Need-loop-holds Inv-loop μ-loop
-loop-holds c = (queued-none _ _ _ (c .before .pre .0) (c .before .pre .1), λ test own all. all)
+loop-holds c = (queued-none _ _ _ (length-map (now (c .before .args .queue)) (messageFrom startSender) ∙ c .before .pre .0) (c .before .pre .1), λ test own all. all)
 
 cast-t8 : tie.Need-cast-t8 Inv-loop μ-loop
 cast-t8 c = search needs
@@ -64,16 +69,20 @@ loop-again c =
     ⊎-elim
     (λ w.
     let first = rw (w .1 .given .1) at (c .before .first-message .ensures) in
-    rw (w .3, w .4) (
-      queued-one (i .0) _ (omega arith) first,
-      brings-set (λ k. getD (firstsIn (now (a .tables)) k) 0 0) (now (a .queue)) (l .queue) _ _ (l .n) (ap (λ (m : List ℕ). getD m 0 0) first)
-          (i .1),
+    rw (w .3, w .4, map-set startSender (l .queue) (l .n * 16) (w .1 .given .0 .0)) (
+      queued-one (i .0) _ (omega arith) (ap (map (messageFrom startSender)) first),
+      brings-set (λ k. messageFrom startSender (getD (firstsIn (now (a .tables)) k) 0 0)) (map (messageFrom startSender) (now (a .queue)))
+          (map (messageFrom startSender) (l .queue)) _ _ (l .n) (ap (λ (m : List ℕ). messageFrom startSender (getD m 0 0)) first) (i .1),
     ))
-    (λ w. rw (w .2, w .3) (queued-empty (i .0) (omega arith) (rw (w .1 .given .1) at (c .before .first-message .ensures)), i .1))
+    (λ w. rw (w .2, w .3) (queued-empty (i .0) (omega arith) (ap (map (messageFrom startSender)) (rw (w .1 .given .1) at (c .before .first-message .ensures))), i .1))
     (c .match .came)
 
 returns : tie.Need-returns Inv-loop μ-loop
-returns c = (queued-all (c .before .loop .inv .0) (omega arith), c .before .loop .inv .1)
+returns c =
+    let l = c .before .loop in (
+      queued-all (l .inv .0) (omega arith),
+      (l .inv .1, sym (length-map (l .queue) (messageFrom startSender)) ∙ l .inv .0 .places),
+    )
 
 pub fill-queues-spec : {M : Type 1} → statement M
 fill-queues-spec =

@@ -16,7 +16,7 @@ abbrev μ-loop : tie.MeasureT-loop
 μ-loop queue₀ base k₀ queue k = 15 - k
 
 loop-holds : tie.Need-loop-holds Inv-loop μ-loop
-loop-holds c = (omega arith, shifted-none _ _)
+loop-holds c = (omega arith, shifted-none 0 _ _)
 
 add-at : tie.Need-add-at Inv-loop μ-loop
 add-at c = search needs
@@ -46,7 +46,7 @@ loop-again : tie.Need-loop-again Inv-loop μ-loop
 loop-again c =
     let a = c .before .before .before .args in
     let l = c .before .before .loop in
-    (omega arith, rw (l .inv .1) (shifted-more (now (a .queue)) (a .base) (l .k) (omega arith)))
+    (omega arith, rw (l .inv .1) (shifted-more 0 (now (a .queue)) (a .base) (l .k) (omega arith)))
 
 returns : tie.Need-returns Inv-loop μ-loop
 returns c =

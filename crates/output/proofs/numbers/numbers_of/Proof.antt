@@ -13,6 +13,9 @@ numbered-requires c κs = search needs
 enum-known-event : tie.Need-enum-known-event
 enum-known-event c = search needs
 
+cast-numbered : tie.Need-cast-numbered
+cast-numbered c = search needs
+
 numbered-requires-2 : tie.Need-numbered-requires-2
 numbered-requires-2 c κs = search needs
 
@@ -74,6 +77,7 @@ numbers-of-spec =
     enum-told
     numbered-requires
     enum-known-event
+    cast-numbered
     numbered-requires-2
     enum-told-2
     numbered-requires-3

@@ -1,12 +1,14 @@
 -- `output::snapshot::put_node` meets its contract.
 use Prim.Native.Nat.{_+_, _*_, _≤_}
-use mathlib.Core.Path.{_≡_}
+use mathlib.Core.Path.{_≡_, sym, _∙_}
 use native.Mathlib.Omega.{arith}
 use denote.Ref.{now}
 use lib.ListN.{length}
 use borrow.Author.Needs.{needs}
+use Rattle.memory.specs.Queues.{paired}
+use Rattle.memory.proofs.Pairing.{length-paired}
 use Rattle.writing.proofs.Placing.{writes-on}
-use Rattle.output.proofs.Parts.{length-messages, node-put}
+use Rattle.output.proofs.Parts.{length-waiting, node-put}
 use Rattle.output.proofs.snapshot.put_node.Statement.{statement}
 use Rattle.output.proofs.snapshot.put_node.Tie as tie
 
@@ -46,35 +48,36 @@ put-word-requires-2 c κs = search needs
 put-byte-requires-2 : tie.Need-put-byte-requires-2
 put-byte-requires-2 c κs = search needs
 
-mul-put-words : tie.Need-mul-put-words
-mul-put-words c = search needs
+mul-put-messages : tie.Need-mul-put-messages
+mul-put-messages c = search needs
 
-cast-put-words : tie.Need-cast-put-words
-cast-put-words c =
+cast-put-messages : tie.Need-cast-put-messages
+cast-put-messages c =
     let p8 = c .before .before .before .before .before .before .before .before in
     let p16 = p8 .before .before .before .before .before .before .before .before in
-    let z = p16 .before .before .before .before .before .before .before in
+    let z = p16 .before .before .before .before .before .before .before .before in
     omega (arith, z .pre .1 .1 .0 (z .args .n))
 
-put-words-requires : tie.Need-put-words-requires
-put-words-requires c κs =
-    let p4 = c .before .before .before .before in
-    let p8 = p4 .before .before .before .before in
-    let p13 = p8 .before .before .before .before .before in
-    let p18 = p13 .before .before .before .before .before in
-    let z = p18 .before .before .before .before .before in
+put-messages-requires : tie.Need-put-messages-requires
+put-messages-requires c κs =
+    let p5 = c .before .before .before .before .before in
+    let p9 = p5 .before .before .before .before in
+    let p14 = p9 .before .before .before .before .before in
+    let p19 = p14 .before .before .before .before .before in
+    let z = p19 .before .before .before .before .before in
     let few = z .pre .1 .1 .0 (z .args .n) in
-    let slots : length (now (z .args .queue)) ≡ 512 = search needs in (
+    let slots : length (now (z .args .queue)) ≡ 512 = search (needs, c .before .put-messages-arg2 .given) in
+    let beside : length (now (z .args .sender)) ≡ 512 = search (needs, c .put-messages-arg3 .given) in (
       omega (
         arith,
         z .pre .1 .0 .1,
         few,
-        p4 .put-byte2 .ensures .place,
-        p8 .put-word2 .ensures .place,
-        p13 .put-word .ensures .place,
-        p18 .put-byte .ensures .place,
+        p5 .put-byte2 .ensures .place,
+        p9 .put-word2 .ensures .place,
+        p14 .put-word .ensures .place,
+        p19 .put-byte .ensures .place,
       ),
-      omega (arith, z .pre .1 .0 .0, few, slots),
+      (omega (arith, z .pre .1 .0 .0, few, slots), slots ∙ sym beside),
     )
 
 same-length : tie.Need-same-length
@@ -82,28 +85,30 @@ same-length c = search needs
 
 returns : tie.Need-returns
 returns c =
-    let p7 = c .before .before .before .before .before .before .before in
-    let p11 = p7 .before .before .before .before in
-    let p16 = p11 .before .before .before .before .before in
-    let p21 = p16 .before .before .before .before .before in
-    let z = p21 .before .before .before .before .before in
-    let slots : length (now (z .args .queue)) ≡ 512 = search (needs, c .before .before .before .put-words-arg2 .given) in
+    let p8 = c .before .before .before .before .before .before .before .before in
+    let p12 = p8 .before .before .before .before in
+    let p17 = p12 .before .before .before .before .before in
+    let p22 = p17 .before .before .before .before .before in
+    let z = p22 .before .before .before .before .before in
+    let slots : length (now (z .args .queue)) ≡ 512 = search (needs, c .before .before .before .before .put-messages-arg2 .given) in
+    let beside : length (now (z .args .sender)) ≡ 512 = search (needs, c .before .before .before .put-messages-arg3 .given) in
     let x = z .args in
     let h = z .pre .1 .0 .1 in
     let narrow = z .pre .1 .1 .1 in
     let few = z .pre .1 .1 .0 (x .n) in
-    let inside : x .n * 16 + 16 ≤ length (now (x .queue)) = omega (arith, z .pre .1 .0 .0, slots) in
-    let long = length-messages (now (x .position)) (now (x .accumulator)) (now (x .message)) (now (x .waiting)) (now (x .queue))
-    (now (x .variable)) (x .n) narrow few inside in
-    let put = node-put (now (x .position)) (now (x .accumulator)) (now (x .message)) (now (x .waiting)) (now (x .queue)) (now (x .variable))
-    (x .n) narrow few inside (x .at) (z .pre .0) _ _ _
+    let inside : x .n * 16 + 16 ≤ length (paired (now (x .queue)) (now (x .sender))) =
+    omega (arith, z .pre .1 .0 .0, slots, length-paired (now (x .queue)) (now (x .sender)) (slots ∙ sym beside)) in
+    let long = length-waiting (now (x .position)) (now (x .accumulator)) (now (x .message)) (now (x .waiting)) (now (x .queue))
+    (now (x .sender)) (now (x .variable)) (x .n) narrow few inside in
+    let put = node-put (now (x .position)) (now (x .accumulator)) (now (x .message)) (now (x .waiting)) (now (x .queue)) (now (x .sender))
+    (now (x .variable)) (x .n) narrow few inside (x .at) (z .pre .0) _ _ _
     (writes-on _ _ _ _ _ _ _ _ (omega (arith, h, long, few))
     (writes-on _ _ _ _ _ _ _ _ (omega (arith, h))
     (writes-on _ _ _ _ _ _ _ _ (omega (arith, h))
-    (writes-on _ _ _ _ _ _ _ _ (omega (arith, h)) (p21 .put-byte .ensures) (p16 .put-word .ensures))
-    (p11 .put-word2 .ensures))
-    (p7 .put-byte2 .ensures))
-    (c .before .before .put-words .ensures)) in
+    (writes-on _ _ _ _ _ _ _ _ (omega (arith, h)) (p22 .put-byte .ensures) (p17 .put-word .ensures))
+    (p12 .put-word2 .ensures))
+    (p8 .put-byte2 .ensures))
+    (c .before .before .put-messages .ensures)) in
     (put .part, put .place)
 
 pub put-node-spec : {M : Type 1} → statement M
@@ -122,8 +127,8 @@ put-node-spec =
     element-copy-out-put-word-2
     put-word-requires-2
     put-byte-requires-2
-    mul-put-words
-    cast-put-words
-    put-words-requires
+    mul-put-messages
+    cast-put-messages
+    put-messages-requires
     same-length
     returns)

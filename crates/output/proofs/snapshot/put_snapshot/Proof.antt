@@ -10,11 +10,11 @@ use Rattle.output.proofs.snapshot.put_snapshot.Statement.{statement}
 use Rattle.output.proofs.snapshot.put_snapshot.Tie as tie
 
 abbrev Inv-loop : tie.InvT-loop
-Inv-loop snapshot₀ position accumulator message waiting queue variable nodes variables at₀ n₀ snapshot at n =
-    (n ≤ nodes) × Shown (viewOf position accumulator message waiting queue variable) snapshot₀ n snapshot at
+Inv-loop snapshot₀ position accumulator message waiting queue sender variable nodes variables at₀ n₀ snapshot at n =
+    (n ≤ nodes) × Shown (viewOf position accumulator message waiting queue sender variable) snapshot₀ n snapshot at
 
 abbrev μ-loop : tie.MeasureT-loop
-μ-loop snapshot₀ position accumulator message waiting queue variable nodes variables at₀ n₀ snapshot at n = nodes - n
+μ-loop snapshot₀ position accumulator message waiting queue sender variable nodes variables at₀ n₀ snapshot at n = nodes - n
 
 loop-holds : tie.Need-loop-holds Inv-loop μ-loop
 loop-holds c = (omega arith, none-shown _ _)
@@ -46,7 +46,7 @@ loop-again c =
     let h = z .pre .0 in
     let inside = c .before .before .before .before .loop-test .taken in
     let few = view-bounded (now (x .position)) (now (x .accumulator)) (now (x .message)) (now (x .waiting)) (now (x .queue))
-    (now (x .variable)) (z .pre .1 .0) in
+    (now (x .sender)) (now (x .variable)) (z .pre .1 .0) in
     let put = c .before .before .put-node .ensures in (
       omega (arith, inside),
       one-shown _ few _ (l .n) (l .snapshot) (l .at) _ _ (omega (arith, inside, h .0, h .1)) (search needs) (l .inv .1)

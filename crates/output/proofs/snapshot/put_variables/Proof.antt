@@ -21,7 +21,8 @@ returns c =
     let x = z .args in
     let long : length (now (x .variable)) ≡ 64 = search needs in
     let put = variables-put
-    (viewOf (now (x .position)) (now (x .accumulator)) (now (x .message)) (now (x .waiting)) (now (x .queue)) (now (x .variable)))
+    (viewOf (now (x .position)) (now (x .accumulator)) (now (x .message)) (now (x .waiting)) (now (x .queue)) (now (x .sender))
+    (now (x .variable)))
     (x .nodes) (x .variables) (omega (arith, z .pre .1 .0, long)) (x .at) (z .pre .0) _ _ _ (c .before .before .put-words .ensures) in
     (put .part, put .place)
 

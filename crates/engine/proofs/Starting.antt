@@ -1,0 +1,42 @@
+-- The arrays at the start of a run are the model's start.
+use Prim.Native.Nat.{ℕ}
+use mathlib.Core.Path.{_≡_, sym, ap, _∙_}
+use mathlib.Core.List.{List, map}
+use lib.ListN.{length, getD, replicate}
+use Rattle.model.specs.Table.{maxNodes, maxVariables}
+use Rattle.model.specs.State.{startSender, messageFrom, idle, tabulate, initialState}
+use Rattle.tables.specs.Tables.{firstsIn, startIn}
+use Rattle.tables.specs.Programs.{programIn}
+use Rattle.memory.specs.Queues.{paired, Holds, BringsOnly}
+use Rattle.memory.proofs.Pairing.{paired-one}
+use Rattle.engine.specs.declared.State.{State}
+use Rattle.engine.specs.Engine.{Starts}
+
+-- the state with these counts, values and variables, and all else as it is at the start
+abbrev pub first : List ℕ → List ℕ → List ℕ → State
+first ws slots xs =
+    record {
+      position = replicate 32 idle;
+      accumulator = replicate 32 0;
+      message = replicate 32 0;
+      waiting = ws;
+      queue = slots;
+      sender = replicate 512 startSender;
+      variable = xs;
+    }
+
+pub started :
+    (t ws slots xs : List ℕ) → length slots ≡ 512
+    → Holds ws (map (messageFrom startSender) slots) (tabulate maxNodes (λ n. map (messageFrom startSender) (firstsIn t n)))
+    → BringsOnly (λ n. messageFrom startSender (getD (firstsIn t n) 0 0)) (map (messageFrom startSender) (replicate 512 0))
+    (map (messageFrom startSender) slots)
+    → xs ≡ tabulate maxVariables (startIn t) → Starts t (first ws slots xs)
+unfolding initialState programIn
+started t ws slots xs long holds brings stored =
+    let same : paired slots (replicate 512 startSender) ≡ map (messageFrom startSender) slots =
+    ap (λ (k : ℕ). paired slots (replicate k startSender)) (sym long) ∙ paired-one slots startSender in
+    record {
+      bounded = holds .bounded;
+      slots = rw same brings;
+      start = λ hs. rw (same, holds .same, stored);
+    }

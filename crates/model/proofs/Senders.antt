@@ -1,0 +1,147 @@
+-- Where messages come from (S-11).
+use Prim.Native.Nat.{ℕ, zero, suc, _≤_, _<_}
+use mathlib.Core.Path.{_≡_, refl, sym, ap, subst, _∙_}
+use mathlib.Core.Bool.{true}
+use mathlib.Core.List.{List}
+use mathlib.Core.Logic.{_⊎_, inl, inr, ⊎-elim}
+use native.Mathlib.Omega.{arith}
+use native.Mathlib.Decide.{decLt}
+use lib.ListN.{length, getD, length-map, List·getD-eq-default}
+use Rattle.model.specs.Command.{Command}
+use Rattle.model.specs.Declared.{turnsOf}
+use Rattle.model.specs.Program.{Program, programOf}
+use Rattle.model.specs.State.{Message, startSender, messageFrom, State, positionAt, accumulatorAt, waitingAt}
+use Rattle.model.specs.State.{EachWaiting, initialState}
+use Rattle.model.specs.Turn.{Entry, entry, Turned, completed, stopped, oldest, instructionAt, turn}
+use Rattle.model.specs.Permission.{monitoredTurn}
+use Rattle.model.specs.Run.{Step, Run, statesOf, entriesOf, entryAt, stateAt, monitoredRun, unmonitoredRun}
+use Rattle.model.specs.Following.{RanOut, Halted, Follows}
+use Rattle.model.specs.Refusal.{Sizes}
+use Rattle.model.specs.Conclusion.{Accepts}
+use Rattle.model.specs.Valid.{Valid}
+use Rattle.model.specs.Senders.{Started, SentBy, SentBefore, ComesFrom, takenBy, Accounted, SendsHold, WiredNode, KnownSenders}
+use Rattle.model.specs.Senders.{SendersHold}
+use Rattle.model.proofs.Ways.{Makes, left-by, turn-by, monitored-by}
+use Rattle.model.proofs.Messages.{Moves, each-first, turn-moves, monitored-moves}
+use Rattle.model.proofs.Following.{demand2}
+use Rattle.model.proofs.Naming.{turns-inside}
+use Rattle.model.proofs.Valid.{reads-valid}
+
+-- an entry of kind 1 tells of the oldest message of its node
+abbrev Takes : State → Entry → Type 0
+Takes s e = e .kind ≡ 1 → (0 < waitingAt s (e .node)) × (oldest s (e .node) ≡ takenBy e)
+
+turn-takes : (P : Program) (s : State) (n : ℕ) → Makes (Takes s) (turn P s n)
+turn-takes P s n =
+    turn-by (Makes (Takes s)) P s n (λ p w. tt) (λ p w k. (omega (arith, w), refl)) (λ l b. tt)
+    (λ l b. left-by (Takes s) P s n (instructionAt P n (positionAt s n)) (λ e k. absurd (omega arith)) (λ e k. absurd (omega arith))
+    (λ e k. absurd (omega arith)) (λ e k. absurd (omega arith)) (λ e k. absurd (omega arith)) (λ k. absurd (omega arith)))
+    (λ l k. absurd (omega arith))
+
+monitored-takes : (P : Program) (s : State) (n : ℕ) → Makes (Takes s) (monitoredTurn P s n)
+monitored-takes P s n = monitored-by (Makes (Takes s)) P s n (turn-takes P s n) (λ e. tt)
+
+-- a run by a rule for one turn whose turns move messages and take them as a turn does
+module _
+    (P : Program) (rule : State → ℕ → Turned)
+    (moves : (Q : Entry → ℕ → Message → Type 0) (s : State) (n : ℕ) → ((e : Entry) → EachWaiting (Q e) (s .queue))
+    → ((port t : ℕ) → P .wired n port t ≡ true → Q (entry n 6 port (accumulatorAt s n)) t (messageFrom n (accumulatorAt s n)))
+    → Moves Q (rule s n))
+    (turns : List ℕ) (r : Run) (follows : Follows rule turns (initialState P) r)
+  where
+    -- at the start, after each completed turn, and then no more: so at any time
+    at-each :
+        (Q : ℕ → State → Type 0) → Q 0 (initialState P) → ((k : ℕ) (s : State) → Q k s → Q (suc k) s)
+        → ((k : ℕ) → k < length (r .steps) → Q k (stateAt r k) → Q (suc k) (stateAt r (suc k)))
+        → (k : ℕ) → Q k (stateAt r k)
+    at-each Q first stays next zero = subst (Q 0) (sym (follows .begins)) first
+    at-each Q first stays next (suc k) = by-place (decLt k (length (r .steps))) (at-each Q first stays next k)
+      where
+        size : length (statesOf (r .steps)) ≡ length (r .steps)
+        size = length-map (r .steps) (λ (t : Step). t .before)
+
+        by-place : Dec (k < length (r .steps)) → Q k (stateAt r k) → Q (suc k) (stateAt r (suc k))
+        by-place (yes h) q = next k h q
+        by-place (no h) q =
+            let here : stateAt r k ≡ r .final = List·getD-eq-default (statesOf (r .steps)) (r .final) (omega (arith, size)) in
+            let there : stateAt r (suc k) ≡ r .final = List·getD-eq-default (statesOf (r .steps)) (r .final) (omega (arith, size)) in
+            stays k (stateAt r (suc k)) (subst (Q k) (here ∙ sym there) q)
+
+    later : (k : ℕ) (n : ℕ) (m : Message) → ComesFrom P r k n m → ComesFrom P r (suc k) n m
+    later k n m = ⊎-elim inl (λ b. inr (record { turn = b .turn; earlier = omega (arith, b .earlier); sent = b .sent }))
+
+    all-waiting : (k : ℕ) → EachWaiting (ComesFrom P r k) (stateAt r k .queue)
+    all-waiting =
+        at-each (λ k s. EachWaiting (ComesFrom P r k) (s .queue)) start (λ k s q n i l. later k n _ (q n i l)) next
+      where
+        start : EachWaiting (ComesFrom P r 0) (initialState P .queue)
+        start = each-first (ComesFrom P r 0) P (λ n i h. inl (record { place = i; inside = h; same = refl }))
+
+        next : (k : ℕ) → k < length (r .steps) → EachWaiting (ComesFrom P r k) (stateAt r k .queue)
+            → EachWaiting (ComesFrom P r (suc k)) (stateAt r (suc k) .queue)
+        next k h q n i l =
+            ⊎-elim (later k n _) (λ b. inr (record { turn = k; earlier = omega arith; sent = b }))
+            (moved n i l)
+          where
+            New : Entry → ℕ → Message → Type 0
+            New e t m = ComesFrom P r k t m ⊎ SentBy P t m e
+
+            moved : EachWaiting (New (entryAt r k)) (stateAt r (suc k) .queue)
+            moved = subst (Moves New) (follows .goesOn k h) (moves New (stateAt r k) (getD turns k 0) (λ e t j b. inl (q t j b))
+                (λ port t w. inr (record { kind = refl; node = refl; value = refl; wired = w })))
+
+    completed-one : (k : ℕ) → entryAt r k .kind ≡ 1 → k < length (r .steps)
+    completed-one k e = by-place (decLt k (length (r .steps)))
+      where
+        size : length (entriesOf (r .steps)) ≡ length (r .steps)
+        size = length-map (r .steps) (λ (t : Step). t .made)
+
+        by-place : Dec (k < length (r .steps)) → k < length (r .steps)
+        by-place (yes h) = h
+        by-place (no h) =
+            let none : entryAt r k ≡ entry 0 0 0 0 = List·getD-eq-default (entriesOf (r .steps)) (entry 0 0 0 0) (omega (arith, size)) in
+            let kind : _≡_ {A = ℕ} 0 1 = sym (ap (λ (x : Entry). x .kind) none) ∙ e in
+            absurd (omega arith)
+
+    pub accounted : ((s : State) (n : ℕ) → Makes (Takes s) (rule s n)) → Accounted P r
+    accounted takes = record { waiting = all-waiting; taken = taken; sent = λ k e h. ⊎-elim (λ b. absurd (h (ap (λ (m : Message). m .sender) (b .same)))) (λ b. b) (taken k e) }
+      where
+        taken : (k : ℕ) → entryAt r k .kind ≡ 1 → ComesFrom P r k (entryAt r k .node) (takenBy (entryAt r k))
+        taken k e =
+            let told : Takes (stateAt r k) (entryAt r k) = subst (Makes (Takes (stateAt r k))) (follows .goesOn k (completed-one k e)) (takes (stateAt r k) (getD turns k 0)) in
+            subst (ComesFrom P r k (entryAt r k .node)) (told e .1) (all-waiting k (entryAt r k .node) 0 (told e .0))
+
+    -- every turn is one of a node
+    pub known : ((k : ℕ) → k < length turns → getD turns k 0 < P .nodes) → KnownSenders P r
+    known inside = at-each (λ k s. EachWaiting Known (s .queue)) start (λ k s q. q) next
+      where
+        Known : ℕ → Message → Type 0
+        Known n m = (m .sender ≡ startSender) ⊎ WiredNode P n m
+
+        start : EachWaiting Known (initialState P .queue)
+        start = each-first Known P (λ n i h. inl refl)
+
+        few : length (r .steps) ≤ length turns
+        few = ⊎-elim (λ (o : RanOut turns r). omega (arith, o .completedAll)) (λ (o : Halted rule turns r). omega (arith, o .next))
+            (follows .ends)
+
+        next : (k : ℕ) → k < length (r .steps) → EachWaiting Known (stateAt r k .queue) → EachWaiting Known (stateAt r (suc k) .queue)
+        next k h q = subst (Moves (λ e. Known)) (follows .goesOn k h) (moves (λ e. Known) (stateAt r k) (getD turns k 0) (λ e. q)
+            (λ port t w. inr (record { isNode = inside k (omega (arith, few)); port = port; wired = w })))
+
+pub sends-hold : SendsHold
+sends-hold P turns = (
+  accounted P (monitoredTurn P) (λ Q s n. monitored-moves Q P s n) turns (monitoredRun P turns) (demand2 P turns .monitoredFollows)
+      (monitored-takes P),
+  accounted P (turn P) (λ Q s n. turn-moves Q P s n) turns (unmonitoredRun P turns) (demand2 P turns .unmonitoredFollows) (turn-takes P),
+)
+
+pub senders-hold : SendersHold
+unfolding programOf
+senders-hold job b past a =
+    let inside = turns-inside past (reads-valid (a .reads)) in
+    let P = programOf past in
+    let turns = turnsOf past in (
+      known P (monitoredTurn P) (λ Q s n. monitored-moves Q P s n) turns (monitoredRun P turns) (demand2 P turns .monitoredFollows) inside,
+      known P (turn P) (λ Q s n. turn-moves Q P s n) turns (unmonitoredRun P turns) (demand2 P turns .unmonitoredFollows) inside,
+    )
