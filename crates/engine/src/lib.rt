@@ -69,13 +69,13 @@ impl State {
     {
         let i = n.0 as usize;
         let position = self.position[i];
-        let accumulator = self.accumulator[i];
+        let value = self.accumulator[i];
         let message = self.message[i];
         let oldest = self.queue[i * 16];
         let sender = self.sender[i * 16];
         let registers = Registers {
             position: position,
-            accumulator: accumulator,
+            accumulator: value,
             message: message,
         };
         let plan = plan_turn(
@@ -94,16 +94,9 @@ impl State {
         let outcome = plan.outcome;
         let mut waiting = self.waiting;
         change_senders(&mut self.sender, &waiting, tables, n, change);
-        change_queues(
-            &mut self.queue,
-            &mut waiting,
-            tables,
-            n,
-            change,
-            accumulator,
-        );
+        change_queues(&mut self.queue, &mut waiting, tables, n, change, value);
         self.waiting = waiting;
-        change_variable(&mut self.variable, change, accumulator);
+        change_variable(&mut self.variable, change, value);
         self.position[i] = next.position;
         self.accumulator[i] = next.accumulator;
         self.message[i] = next.message;

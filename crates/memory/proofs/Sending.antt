@@ -158,8 +158,10 @@ module _ {all x : ℕ} {ws slots₀ : List ℕ} {k targets : ℕ} {slots : List 
     pub storing-room : targets % 2 ≡ 1 → (k < 32) × (getD ws k 0 < 16)
     storing-room e = let h = ahead-inside (s .ahead) more in (h, s .room k h (ahead-one (s .ahead) e))
 
-    pub storing-few : targets % 2 ≡ 1 → (counts : List ℕ) → counts ≡ counted (bitOf all) ws k → getD counts k 0 < 16
-    storing-few e counts same = rw (same, counted-later (bitOf all) ws k k (omega arith)) (storing-room e .1)
+    pub storing-counted : targets % 2 ≡ 1 → (counts : List ℕ) → counts ≡ counted (bitOf all) ws k → (k < 32) × (getD counts k 0 < 16)
+    storing-counted e counts same =
+        let h = storing-room e in
+        (h .0, rw (same, counted-later (bitOf all) ws k k (omega arith)) (h .1))
 
     pub storing-target : targets % 2 ≡ 1 → Storing all x ws slots₀ (k + 1) (targets / 2) (set slots (k * 16 + getD ws k 0) x)
     storing-target e = record {

@@ -19,15 +19,17 @@ fn sign(sender: &mut [u8; 512], waiting: &[u8; 32], tables: &[u32], n: NodeNum, 
     ensures { λ _. ⌜ now (sender .exit)
         ≡ stored (wiredIn (now (tables .entry)) (n .0) port) (now (waiting .entry)) (n .0) (now (sender .entry)) maxNodes ⌝ }
 {
+    let from = n.0 as u8;
     let mut targets = targets_of(tables, n, port);
-    let mut target: usize = 0;
+    let mut receiver: u8 = 0;
     while targets > 0 {
         if targets % 2 == 1 {
-            let at = target * 16 + waiting[target] as usize;
-            sender[at] = n.0 as u8;
+            let k = receiver as usize;
+            let at = k * 16 + waiting[k] as usize;
+            sender[at] = from;
         }
         targets = targets / 2;
-        target += 1;
+        receiver += 1;
     }
 }
 

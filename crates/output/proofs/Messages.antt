@@ -21,7 +21,7 @@ messages-snoc [] m = refl
 messages-snoc (l ∷ ms) m = ap (λ (b : List ℕ). bytes4 (l .value) ++ (l .sender ∷ b)) (messages-snoc ms m)
 
 -- i messages are written of those from slot number `first` on: what a loop over them keeps
-pub record Written (values senders : List ℕ) (first : ℕ) (before : List ℕ) (at i : ℕ) (buffer : List ℕ) (next : ℕ) : Type 0 where
+pub record MessagesWritten (values senders : List ℕ) (first : ℕ) (before : List ℕ) (at i : ℕ) (buffer : List ℕ) (next : ℕ) : Type 0 where
   pub writes : Writes (messagesBytes (take i (drop first (paired values senders)))) before at buffer next
   pub place : next ≡ at + 5 * i
   pub size : length buffer ≡ length before
@@ -30,16 +30,16 @@ module _ (values senders : List ℕ) (first : ℕ) (before : List ℕ) (at : ℕ
   abbrev part : List Message
   part = drop first (paired values senders)
 
-  pub none-written : Written values senders first before at 0 before at
+  pub none-written : MessagesWritten values senders first before at 0 before at
   unfolding messagesBytes
   none-written = record { writes = writes-nothing before at; place = omega arith; size = refl }
 
   pub one-written :
       (i : ℕ) (buffer : List ℕ) (next : ℕ) (behind : List ℕ) (place : ℕ) (after : List ℕ) (last : ℕ)
       → length values ≡ length senders → first + i < length values → at + 5 * i + 5 ≤ length before → length after ≡ length buffer
-      → Written values senders first before at i buffer next → Writes (bytes4 (getD values (first + i) 0)) buffer next behind place
+      → MessagesWritten values senders first before at i buffer next → Writes (bytes4 (getD values (first + i) 0)) buffer next behind place
       → Writes (getD senders (first + i) 0 ∷ []) behind place after last
-      → Written values senders first before at (i + 1) after last
+      → MessagesWritten values senders first before at (i + 1) after last
   one-written i buffer next behind place after last beside inside fits same w p q =
       let there : i < length part = omega (arith, length-drop first (paired values senders), length-paired values senders beside) in
       let long : length (messagesBytes (take i part)) ≡ 5 * i = length-messages (take i part)

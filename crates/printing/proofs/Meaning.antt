@@ -34,7 +34,7 @@ use Rattle.model.proofs.Walking.{Decides, decode-for-walked}
 use Rattle.model.proofs.Ways.{Makes, left-by, turn-by, monitored-by}
 use Rattle.model.proofs.Words.{unmonitored-words, monitored-words, bytes-spell}
 use Rattle.printing.specs.Printing.{resultLines}
-use Rattle.printing.specs.Meaning.{lineOfEntry, numbersOf, lineOfNode, lineOfVariable}
+use Rattle.printing.specs.Meaning.{lineOfEntry, messageNumbers, lineOfNode, lineOfVariable}
 use Rattle.printing.specs.Meaning.{linesOfEntries, linesOfState, linesOfRun, linesOfJob, LinesHold}
 use Rattle.printing.proofs.Fronts.{same-first, number-front}
 
@@ -103,7 +103,7 @@ unfolding messagesBytes
 messages-cons m ms = refl
 
 -- the numbers of messages one by one
-numbers-each : (q : List Message) → joined (λ i. getD q i noMessage .value ∷ getD q i noMessage .sender ∷ []) (length q) ≡ numbersOf q
+numbers-each : (q : List Message) → joined (λ i. getD q i noMessage .value ∷ getD q i noMessage .sender ∷ []) (length q) ≡ messageNumbers q
 unfolding joined
 numbers-each [] = refl
 numbers-each (m ∷ q) =
@@ -113,7 +113,7 @@ numbers-each (m ∷ q) =
 messages-read :
     (xs : List ℕ) (q : List Message) (rest : List ℕ) (place : ℕ) → place ≡ length xs
     → ((i : ℕ) → i < length q → getD q i noMessage .value < 2 ^ 32)
-    → messagesAt (xs ++ (messagesBytes q ++ rest)) place (length q) ≡ numbersOf q
+    → messagesAt (xs ++ (messagesBytes q ++ rest)) place (length q) ≡ messageNumbers q
 unfolding messagesAt
 messages-read xs q rest place e small =
     same-first (messageIn all place) (λ i. getD q i noMessage .value ∷ getD q i noMessage .sender ∷ []) (length q)
@@ -162,7 +162,7 @@ module _ (s : State) (fits : Fits s) where
     waiting : waitingIn all (length xs) ≡ waitingAt s n
     waiting = past 9 1 ∙ number-one (nodeBytes s n ++ rest) 9
 
-    messages : messagesAt all (length xs + 10) (waitingAt s n) ≡ numbersOf (queueAt s n)
+    messages : messagesAt all (length xs + 10) (waitingAt s n) ≡ messageNumbers (queueAt s n)
     messages =
         let ten = positionAt s n ∷ bytes4 (accumulatorAt s n) ++ bytes4 (messageAt s n) ++ (waitingAt s n ∷ []) in
         ap (λ (l : List ℕ). messagesAt l (length xs + 10) (waitingAt s n)) (sym (append-assoc xs ten (messagesBytes (queueAt s n) ++ rest)))

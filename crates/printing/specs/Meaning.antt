@@ -21,13 +21,13 @@ unfoldable pub lineOfEntry : Entry → List ℕ
 lineOfEntry e = line (decimal (e .node)) (e .kind ∷ e .number ∷ e .value ∷ [])
 
 -- waiting messages: of each the value, then the sender
-abbrev pub numbersOf : List Message → List ℕ
-numbersOf [] = []
-numbersOf (m ∷ ms) = m .value ∷ m .sender ∷ numbersOf ms
+abbrev pub messageNumbers : List Message → List ℕ
+messageNumbers [] = []
+messageNumbers (m ∷ ms) = m .value ∷ m .sender ∷ messageNumbers ms
 
 -- node n of a state: `node`, number, position, accumulator ("hand"), message, waiting count, then the waiting messages, oldest first
 unfoldable pub lineOfNode : State → ℕ → List ℕ
-lineOfNode s n = line nodeWord (n ∷ positionAt s n ∷ accumulatorAt s n ∷ messageAt s n ∷ waitingAt s n ∷ numbersOf (queueAt s n))
+lineOfNode s n = line nodeWord (n ∷ positionAt s n ∷ accumulatorAt s n ∷ messageAt s n ∷ waitingAt s n ∷ messageNumbers (queueAt s n))
 
 -- variable x of a state: `var`, number, value
 unfoldable pub lineOfVariable : State → ℕ → List ℕ

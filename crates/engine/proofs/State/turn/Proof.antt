@@ -16,11 +16,11 @@ mul-position c = search needs
 element-copy-out-position : tie.Need-element-copy-out-position
 element-copy-out-position c = search needs
 
-mul-accumulator : tie.Need-mul-accumulator
-mul-accumulator c = search needs
+mul-value : tie.Need-mul-value
+mul-value c = search needs
 
-element-copy-out-accumulator : tie.Need-element-copy-out-accumulator
-element-copy-out-accumulator c = search needs
+element-copy-out-value : tie.Need-element-copy-out-value
+element-copy-out-value c = search needs
 
 mul-message : tie.Need-mul-message
 mul-message c = search needs
@@ -112,8 +112,8 @@ turn-spec =
     cast-i
     mul-position
     element-copy-out-position
-    mul-accumulator
-    element-copy-out-accumulator
+    mul-value
+    element-copy-out-value
     mul-message
     element-copy-out-message
     mul-oldest

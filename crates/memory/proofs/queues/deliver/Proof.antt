@@ -6,14 +6,17 @@ use native.Mathlib.Omega.{arith}
 use denote.Ref.{now}
 use lib.ListN.{getD}
 use borrow.Author.Needs.{needs}
+use Rattle.declared.proofs.targets_of.Reads as targets-of-reads
 use Rattle.tables.specs.Bits.{bitOf}
 use Rattle.tables.specs.Tables.{wiredIn}
 use Rattle.memory.specs.Queues.{counted}
 use Rattle.memory.proofs.Sending.{ahead-one, ahead-other, ahead-none, counted-target, counted-other, counted-later}
-use Rattle.memory.proofs.Sending.{counted-all, Storing, storing-none, storing-room, storing-few, storing-target, storing-other}
+use Rattle.memory.proofs.Sending.{counted-all, Storing, storing-none, storing-room, storing-counted, storing-target, storing-other}
 use Rattle.memory.proofs.Sending.{storing-all}
 use Rattle.memory.proofs.queues.deliver.Statement.{statement}
 use Rattle.memory.proofs.queues.deliver.Tie as tie
+use Rattle.memory.proofs.queues.deliver.Reads as reads
+use Rattle.memory.proofs.queues.deliver.Lts as lts
 
 abbrev Inv-loop : tie.InvT-loop
 Inv-loop queue₀ waiting₀ t port value all target₀ queue waiting targets target =
@@ -40,45 +43,33 @@ element-copy-out-w c =
     let h = storing-room (l .inv .0) (omega (arith, c .before .loop-test .taken)) (c .if1 .taken) in
     search needs
 
-mul-at : tie.Need-mul-at Inv-loop μ-loop
-mul-at c =
+-- at a target: its number, and how many messages wait there
+here : (c : lts.After-w (targets-of-reads.Asked, targets-of-reads.Learnt) reads.Pre reads.Post Inv-loop μ-loop)
+    → (c .before .before .before .loop .target < 32) × (getD (c .before .before .before .loop .waiting) (c .before .before .before .loop .target) 0 < 16)
+here c =
     let l = c .before .before .before .loop in
-    let h = storing-room (l .inv .0) (omega (arith, c .before .before .loop-test .taken)) (c .before .if1 .taken) in
-    omega arith
+    storing-counted (l .inv .0) (omega (arith, c .before .before .loop-test .taken)) (c .before .if1 .taken) (l .waiting) (l .inv .1)
+
+mul-at : tie.Need-mul-at Inv-loop μ-loop
+mul-at c = let h = here c in omega (arith, h .0, h .1)
 
 cast-at : tie.Need-cast-at Inv-loop μ-loop
-cast-at c =
-    let l = c .before .before .before .loop in
-    omega (arith, storing-few (l .inv .0) (omega (arith, c .before .before .loop-test .taken)) (c .before .if1 .taken) (l .waiting) (l .inv .1))
+cast-at c = let h = here c in omega (arith, h .0, h .1)
 
 add-at : tie.Need-add-at Inv-loop μ-loop
-add-at c =
-    let l = c .before .before .before .loop in
-    let h = storing-room (l .inv .0) (omega (arith, c .before .before .loop-test .taken)) (c .before .if1 .taken) in
-    omega (arith, h .0, storing-few (l .inv .0) (omega (arith, c .before .before .loop-test .taken)) (c .before .if1 .taken) (l .waiting) (l .inv .1))
+add-at c = let h = here c in omega (arith, h .0, h .1)
 
 mul-queue : tie.Need-mul-queue Inv-loop μ-loop
-mul-queue c =
-    let l = c .before .before .before .loop in
-    let h = storing-room (l .inv .0) (omega (arith, c .before .before .loop-test .taken)) (c .before .if1 .taken) in
-    omega (arith, h .0, storing-few (l .inv .0) (omega (arith, c .before .before .loop-test .taken)) (c .before .if1 .taken) (l .waiting) (l .inv .1))
+mul-queue c = let h = here c in omega (arith, h .0, h .1)
 
 element-write-queue : tie.Need-element-write-queue Inv-loop μ-loop
-element-write-queue c =
-    let l = c .before .before .before .loop in
-    let h = storing-room (l .inv .0) (omega (arith, c .before .before .loop-test .taken)) (c .before .if1 .taken) in
-    omega (arith, h .0, storing-few (l .inv .0) (omega (arith, c .before .before .loop-test .taken)) (c .before .if1 .taken) (l .waiting) (l .inv .1))
+element-write-queue c = let h = here c in omega (arith, h .0, h .1)
 
 add-waiting : tie.Need-add-waiting Inv-loop μ-loop
-add-waiting c =
-    let l = c .before .before .before .loop in
-    omega (arith, storing-few (l .inv .0) (omega (arith, c .before .before .loop-test .taken)) (c .before .if1 .taken) (l .waiting) (l .inv .1))
+add-waiting c = let h = here c in omega (arith, h .0, h .1)
 
 element-write-waiting : tie.Need-element-write-waiting Inv-loop μ-loop
-element-write-waiting c =
-    let l = c .before .before .before .loop in
-    let h = storing-room (l .inv .0) (omega (arith, c .before .before .loop-test .taken)) (c .before .if1 .taken) in
-    search needs
+element-write-waiting c = let h = here c in search needs
 
 add-target : tie.Need-add-target Inv-loop μ-loop
 add-target c = let l = c .before .before .loop in omega (arith, l .inv .0 .ahead .inside)

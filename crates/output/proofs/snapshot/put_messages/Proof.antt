@@ -3,12 +3,12 @@ use Prim.Native.Nat.{_-_, _≤_}
 use mathlib.Core.Path.{_≡_}
 use native.Mathlib.Omega.{arith}
 use borrow.Author.Needs.{needs}
-use Rattle.output.proofs.Messages.{Written, none-written, one-written}
+use Rattle.output.proofs.Messages.{MessagesWritten, none-written, one-written}
 use Rattle.output.proofs.snapshot.put_messages.Statement.{statement}
 use Rattle.output.proofs.snapshot.put_messages.Tie as tie
 
 abbrev Inv-loop : tie.InvT-loop
-Inv-loop snapshot₀ at queue sender first count next₀ i₀ snapshot next i = (i ≤ count) × Written queue sender first snapshot₀ at i snapshot next
+Inv-loop snapshot₀ at queue sender first count next₀ i₀ snapshot next i = (i ≤ count) × MessagesWritten queue sender first snapshot₀ at i snapshot next
 
 abbrev μ-loop : tie.MeasureT-loop
 μ-loop snapshot₀ at queue sender first count next₀ i₀ snapshot next i = count - i
