@@ -17,12 +17,12 @@ use Rattle.engine.specs.declared.Turned.{Turned}
 -- the model's state that these arrays stand for: positions, accumulators, messages, how many messages wait, the values and the senders in
 -- their slots, variables
 abbrev pub viewOf : List ℕ → List ℕ → List ℕ → List ℕ → List ℕ → List ℕ → List ℕ → Meant
-viewOf position accumulator message waiting slots senders variable =
+viewOf position accumulator message waiting values senders variable =
     record {
       position = position;
       accumulator = accumulator;
       message = message;
-      queue = queues waiting (paired slots senders);
+      queue = queues waiting (paired values senders);
       variable = variable;
     }
 
@@ -38,10 +38,9 @@ pub record Starts (t : List ℕ) (s : State) : Type 0 where
       (paired (s .queue) (s .sender))
   pub start : (hs : Handlers) → view s ≡ initialState (programIn t hs)
 
--- a turn of node n: no more messages wait at a node than it has slots; nothing but its accumulator, sent by n, is brought into a slot, free
--- ones too;
--- outcome and state are what the turn of the program in the tables comes to, whatever its handlers are, if `fetched` stands in the node's own
--- at its position; and a stop leaves the whole state, free slots included
+-- a turn of node n: no more messages wait at a node than it has slots; nothing but its accumulator, sent by n, is brought into a slot,
+-- free ones too; outcome and state are what the turn of the program in the tables comes to, whatever its handlers are, if `fetched` stands
+-- in the node's own at its position; and a stop leaves the whole state, free slots included
 pub record Turns (t : List ℕ) (fetched : Fetched) (n : ℕ) (monitored : Bool) (before : State) (turned : Turned) : Type 0 where
   pub bounded : BoundedCounts (turned .state .waiting)
   pub slots : BringsOnly (λ k. messageFrom n (accumulatorAt (view before) n)) (paired (before .queue) (before .sender))

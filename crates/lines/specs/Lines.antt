@@ -35,7 +35,7 @@ endLine x =
 abbrev pub messageIn : List ℕ → ℕ → ℕ → List ℕ
 messageIn snapshot place i = numberAt snapshot (place + 5 * i) 4 ∷ numberAt snapshot (place + 5 * i + 4) 1 ∷ []
 
--- the first of them
+-- the first `count` of them
 unfoldable pub messagesAt : List ℕ → ℕ → ℕ → List ℕ
 messagesAt snapshot place count = joined (messageIn snapshot place) count
 

@@ -1,7 +1,7 @@
 -- Slots read as queues: what queue n is, and what it becomes when a message comes or the oldest leaves.
 use Prim.Native.Nat.{ℕ, zero, suc, _+_, _-_, _*_, _≤_, _<_}
 use mathlib.Core.Path.{_≡_, refl, sym, _∙_, ap}
-use mathlib.Core.Bool.{true}
+use mathlib.Core.Bool.{Bool, true}
 use mathlib.Core.List.{List, [], _∷_, _++_, append-assoc}
 use mathlib.Core.Logic.{_⊎_, inl, inr, ⊎-elim}
 use native.Mathlib.Omega.{arith}
@@ -12,7 +12,7 @@ use lib.Seq.{ext-getD, getD-set-same, getD-set-other, drop-drop, drop-set-lt, dr
 use lib.Seq.{getD-take, getD-drop, paste, paste-zero, paste-suc, drop-paste, drop-at, take-append-le, take-take, take-nil}
 use Rattle.model.specs.State.{Message, noMessage}
 use Rattle.model.proofs.Lists.{set-each}
-use Rattle.memory.specs.Queues.{queues, BoundedCounts, BringsOnly, shifted}
+use Rattle.memory.specs.Queues.{queues, BoundedCounts, AllPass, BringsOnly, shifted}
 
 pub length-queues : (ws : List ℕ) (slots : List Message) → length (queues ws slots) ≡ length ws
 length-queues [] slots = refl
@@ -204,20 +204,30 @@ module _ {A : Type 0} (d : A) (slots : List A) (base : ℕ) where
             e,
           )
 
+-- a slot that is set to a message that passes
+set-passes : (test : Message → Bool) (slots : List Message) (at : ℕ) (m : Message) → test m ≡ true → AllPass test slots
+    → AllPass test (set slots at m)
+set-passes test slots at m own all i h =
+    set-each (λ j y. j < length slots → test y ≡ true) noMessage slots at m (λ _. own) all i (omega (arith, length-set slots at m))
+
 -- a slot that is set to one of the messages
 pub brings-set :
     (messages : ℕ → Message) (slots slots′ : List Message) (at : ℕ) (m : Message) (k : ℕ) → m ≡ messages k → BringsOnly messages slots slots′
     → BringsOnly messages slots (set slots′ at m)
-brings-set messages slots slots′ at m k e h test own all =
-    set-each (λ i y. test y ≡ true) noMessage slots′ at m (rw e (own k)) (h test own all)
+brings-set messages slots slots′ at m k e h test own all = set-passes test slots′ at m (rw e (own k)) (h test own all)
 
 -- slots that move down
+shifted-passes : (test : Message → Bool) (slots : List Message) (base k : ℕ) → base + k < length slots → AllPass test slots
+    → (length (shifted slots base k) ≡ length slots) × AllPass test (shifted slots base k)
+shifted-passes test slots base zero h all = rw (← shifted-none noMessage slots base) (refl, all)
+shifted-passes test slots base (suc k) h all =
+    let before = shifted-passes test slots base k (omega arith) all in
+    let e : suc k ≡ k + 1 = omega arith in
+    rw (e, ← shifted-more noMessage slots base k (omega arith)) (
+      length-set (shifted slots base k) (base + k) _ ∙ before .0,
+      set-passes test (shifted slots base k) (base + k) _ (before .1 (base + k + 1) (omega (arith, before .0))) (before .1),
+    )
+
 pub brings-shifted : (slots : List Message) (base k : ℕ) → base + k < length slots → (messages : ℕ → Message)
     → BringsOnly messages slots (shifted slots base k)
-brings-shifted slots base zero h messages test own all = rw (← shifted-none noMessage slots base) all
-brings-shifted slots base (suc k) h messages test own all =
-    let before = brings-shifted slots base k (omega arith) messages test own all in
-    let e : suc k ≡ k + 1 = omega arith in
-    rw (e, ← shifted-more noMessage slots base k (omega arith))
-    (set-each (λ i x. test x ≡ true) noMessage (shifted slots base k) (base + k) (getD (shifted slots base k) (base + k + 1) noMessage)
-    (before (base + k + 1)) before)
+brings-shifted slots base k h messages test own all = shifted-passes test slots base k h all .1

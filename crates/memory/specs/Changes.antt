@@ -1,5 +1,5 @@
 -- A node's registers and what a turn changes besides, and the state that they make.
-use Prim.Native.Nat.{ℕ, _*_, _+_, _-_, _≤_}
+use Prim.Native.Nat.{ℕ, _*_, _-_, _≤_}
 use mathlib.Core.Path.{_≡_}
 use mathlib.Core.Bool.{Bool, true, false}
 use mathlib.Core.List.{List}
@@ -29,7 +29,7 @@ queuesAfter wired n value qs c.Take = withoutOldest qs n
 queuesAfter wired n value qs (c.Send port) = delivered (wired port) (messageFrom n value) qs maxNodes
 queuesAfter wired n value qs (c.Store x) = qs
 
--- an array of slots after it, the values' or the senders': the node's slots move down, or each target of a port gets the number; `ws` says
+-- the values or the senders in the slots after a change of node n: its slots move down, or each target of a port gets the number; `ws` says
 -- how many messages waited before
 abbrev pub slotsAfter : (ℕ → ℕ → Bool) → ℕ → ℕ → List ℕ → List ℕ → Change → List ℕ
 slotsAfter wired n x ws slots c.Nothing = slots

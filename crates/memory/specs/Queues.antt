@@ -1,10 +1,10 @@
 -- All queues in one flat array, 16 slots a node, with the senders in a second one beside it.
-use Prim.Native.Nat.{ℕ, zero, suc, _+_, _*_, _≤_}
+use Prim.Native.Nat.{ℕ, zero, suc, _+_, _*_, _≤_, _<_}
 use mathlib.Core.Path.{_≡_}
 use mathlib.Core.Bool.{Bool, true, cond, _&&_}
 use mathlib.Core.List.{List, [], _∷_}
 use lib.Dec.{leb}
-use lib.ListN.{take, drop, getD, set}
+use lib.ListN.{length, take, drop, getD, set}
 use lib.Seq.{paste}
 use Rattle.model.specs.Table.{maxNodes, maxWaiting}
 use Rattle.model.specs.State.{Message, messageFrom, noMessage}
@@ -34,11 +34,14 @@ pub record Holds (ws : List ℕ) (slots : List Message) (qs : List (List Message
   pub bounded : BoundedCounts ws
   pub same : queues ws slots ≡ qs
 
+-- all slots, free ones too, pass a test
+abbrev pub AllPass : (Message → Bool) → List Message → Type 0
+AllPass test slots = (i : ℕ) → i < length slots → test (getD slots i noMessage) ≡ true
+
 -- only these messages are brought into slots, free ones too: a test that they and all slots before pass, all slots afterwards pass
 abbrev pub BringsOnly : (ℕ → Message) → List Message → List Message → Type 0
 BringsOnly messages slots slots′ =
-    (test : Message → Bool) → ((k : ℕ) → test (messages k) ≡ true) → ((i : ℕ) → test (getD slots i noMessage) ≡ true)
-    → (i : ℕ) → test (getD slots′ i noMessage) ≡ true
+    (test : Message → Bool) → ((k : ℕ) → test (messages k) ≡ true) → AllPass test slots → AllPass test slots′
 
 -- at some target 16 messages wait, where `waiting` says how many wait at each node
 abbrev pub full : (ℕ → Bool) → (ℕ → ℕ) → Bool

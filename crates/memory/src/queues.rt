@@ -2,12 +2,12 @@
 ghost use mathlib.Core.Path.{_≡_};
 ghost use mathlib.Core.Bool.{false};
 ghost use mathlib.Core.List.{map};
-ghost use Prim.Native.Nat.{ℕ, _+_, _≤_, _<_};
+ghost use Prim.Native.Nat.{_+_, _≤_, _<_};
 ghost use lib.ListN.{length, getD};
 ghost use Rattle.model.specs.Table.{maxNodes};
 ghost use Rattle.model.specs.State.{startSender, messageFrom, tabulate};
 ghost use Rattle.tables.specs.Tables.{wiredIn, firstsIn};
-ghost use Rattle.memory.specs.Queues.{countAt, BoundedCounts, Holds, BringsOnly, full, shifted, stored, counted};
+ghost use Rattle.memory.specs.Queues.{countAt, Holds, BringsOnly, full, shifted, stored, counted};
 ghost use Rattle.memory.specs.Changes.{Possible, slotsAfter, countsAfter};
 use crate::Change;
 use command::numbers::NodeNum;
@@ -55,7 +55,7 @@ pub fn has_full(tables: &[u32], n: NodeNum, port: u32, waiting: &[u8; 32]) -> bo
 }
 
 // The value goes to the first free slot of each target of a node's port, and one message more waits there.
-pub fn deliver(
+fn deliver(
     queue: &mut [u32; 512],
     waiting: &mut [u8; 32],
     tables: &[u32],

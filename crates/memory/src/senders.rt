@@ -21,15 +21,15 @@ fn sign(sender: &mut [u8; 512], waiting: &[u8; 32], tables: &[u32], n: NodeNum, 
 {
     let from = n.0 as u8;
     let mut targets = targets_of(tables, n, port);
-    let mut receiver: u8 = 0;
+    let mut target: u8 = 0;
     while targets > 0 {
         if targets % 2 == 1 {
-            let k = receiver as usize;
+            let k = target as usize;
             let at = k * 16 + waiting[k] as usize;
             sender[at] = from;
         }
         targets = targets / 2;
-        receiver += 1;
+        target += 1;
     }
 }
 
@@ -46,7 +46,8 @@ fn shift(sender: &mut [u8; 512], base: usize)
     }
 }
 
-// The senders after a change of a node, where so many messages waited before it: the oldest one's leaves, or the node sends.
+// The senders after a change of a node; `waiting` says how many messages waited before. The sender of its oldest message leaves, or the
+// node becomes the sender of what it sends.
 pub fn change_senders(
     sender: &mut [u8; 512],
     waiting: &[u8; 32],

@@ -16,7 +16,7 @@ use Rattle.model.specs.Examples.{outcome, enough, monitoredRow, unmonito
 use Rattle.model.specs.Examples.{idleNode, waits, ends, noEntry, k1First, k1Last, examples, ExamplesHold}
 use Rattle.model.specs.Readings.{within, nodes, global, turns, orderRows, variable, undeclaredRows, sightRows, declaredRows, turnRows}
 use Rattle.model.specs.Readings.{callingThen, callingOf, calling, span, arg, answered, called, forbidden, spanRows, reply, any}
-use Rattle.model.specs.Readings.{replies, replyRows, read, write, handling, rests, unusedRows, twoSenders, twoSent, senderRows, ReadingsHold}
+use Rattle.model.specs.Readings.{replies, replyRows, read, write, handling, rests, unusedRows, twoSenders, sentBoth, selfSender, senderRows, ReadingsHold}
 
 rows-hold : ExamplesHold × ReadingsHold
 unfolding operandsIn operandsOf isAmong largestIn largestOf
@@ -34,7 +34,7 @@ unfolding operandsIn operandsOf isAmong largestIn largestOf
     callingThen callingOf calling span arg answered called forbidden spanRows
     reply any replies replyRows
     read write handling rests unusedRows
-    twoSenders twoSent senderRows
+    twoSenders sentBoth selfSender senderRows
 rows-hold = (refl, refl)
 
 -- K1 to K11, and 32 and 33 nodes

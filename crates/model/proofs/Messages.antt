@@ -10,7 +10,7 @@ use borrow.Author.Tests.{eqb-true}
 use Rattle.model.specs.Table.{SEND, maxNodes}
 use Rattle.model.specs.Declared.{Instruction}
 use Rattle.model.specs.Program.{Program}
-use Rattle.model.specs.State.{Message, startSender, messageFrom, noMessage, State, positionAt, accumulatorAt, EachWaiting, tabulate}
+use Rattle.model.specs.State.{Message, startSender, messageFrom, noMessage, State, positionAt, accumulatorAt, EachWaiting}
 use Rattle.model.specs.State.{firstQueue, initialState}
 use Rattle.model.specs.Turn.{Entry, entry, Turned, completed, stopped, delivered, entryOf, performed, instructionAt, turn}
 use Rattle.model.specs.Permission.{monitoredTurn}

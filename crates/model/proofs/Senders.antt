@@ -7,20 +7,15 @@ use mathlib.Core.Logic.{_⊎_, inl, inr, ⊎-elim}
 use native.Mathlib.Omega.{arith}
 use native.Mathlib.Decide.{decLt}
 use lib.ListN.{length, getD, length-map, List·getD-eq-default}
-use Rattle.model.specs.Command.{Command}
 use Rattle.model.specs.Declared.{turnsOf}
 use Rattle.model.specs.Program.{Program, programOf}
-use Rattle.model.specs.State.{Message, startSender, messageFrom, State, positionAt, accumulatorAt, waitingAt}
+use Rattle.model.specs.State.{Message, messageFrom, State, positionAt, accumulatorAt, waitingAt}
 use Rattle.model.specs.State.{EachWaiting, initialState}
-use Rattle.model.specs.Turn.{Entry, entry, Turned, completed, stopped, oldest, instructionAt, turn}
+use Rattle.model.specs.Turn.{Entry, entry, Turned, oldest, instructionAt, turn}
 use Rattle.model.specs.Permission.{monitoredTurn}
 use Rattle.model.specs.Run.{Step, Run, statesOf, entriesOf, entryAt, stateAt, monitoredRun, unmonitoredRun}
 use Rattle.model.specs.Following.{RanOut, Halted, Follows}
-use Rattle.model.specs.Refusal.{Sizes}
-use Rattle.model.specs.Conclusion.{Accepts}
-use Rattle.model.specs.Valid.{Valid}
-use Rattle.model.specs.Senders.{Started, SentBy, SentBefore, ComesFrom, takenBy, Accounted, SendsHold, WiredNode, KnownSenders}
-use Rattle.model.specs.Senders.{SendersHold}
+use Rattle.model.specs.Senders.{SentBy, ComesFrom, takenBy, Accounted, OriginsHold, HasSender, Attributed, SendersHold}
 use Rattle.model.proofs.Ways.{Makes, left-by, turn-by, monitored-by}
 use Rattle.model.proofs.Messages.{Moves, each-first, turn-moves, monitored-moves}
 use Rattle.model.proofs.Following.{demand2}
@@ -103,34 +98,43 @@ module _
             let kind : _≡_ {A = ℕ} 0 1 = sym (ap (λ (x : Entry). x .kind) none) ∙ e in
             absurd (omega arith)
 
-    pub accounted : ((s : State) (n : ℕ) → Makes (Takes s) (rule s n)) → Accounted P r
-    accounted takes = record { waiting = all-waiting; taken = taken; sent = λ k e h. ⊎-elim (λ b. absurd (h (ap (λ (m : Message). m .sender) (b .same)))) (λ b. b) (taken k e) }
-      where
-        taken : (k : ℕ) → entryAt r k .kind ≡ 1 → ComesFrom P r k (entryAt r k .node) (takenBy (entryAt r k))
-        taken k e =
-            let told : Takes (stateAt r k) (entryAt r k) = subst (Makes (Takes (stateAt r k))) (follows .goesOn k (completed-one k e)) (takes (stateAt r k) (getD turns k 0)) in
-            subst (ComesFrom P r k (entryAt r k .node)) (told e .1) (all-waiting k (entryAt r k .node) 0 (told e .0))
+    module _ (takes : (s : State) (n : ℕ) → Makes (Takes s) (rule s n)) where
+      -- what holds of the messages that wait holds of the one that is taken
+      take-each : (Q : ℕ → Message → Type 0) (k : ℕ) → EachWaiting Q (stateAt r k .queue) → entryAt r k .kind ≡ 1
+          → Q (entryAt r k .node) (takenBy (entryAt r k))
+      take-each Q k q e =
+          let told : Takes (stateAt r k) (entryAt r k) =
+          subst (Makes (Takes (stateAt r k))) (follows .goesOn k (completed-one k e)) (takes (stateAt r k) (getD turns k 0)) in
+          subst (Q (entryAt r k .node)) (told e .1) (q (entryAt r k .node) 0 (told e .0))
 
-    -- every turn is one of a node
-    pub known : ((k : ℕ) → k < length turns → getD turns k 0 < P .nodes) → KnownSenders P r
-    known inside = at-each (λ k s. EachWaiting Known (s .queue)) start (λ k s q. q) next
-      where
-        Known : ℕ → Message → Type 0
-        Known n m = (m .sender ≡ startSender) ⊎ WiredNode P n m
+      pub accounted : Accounted P r
+      accounted =
+          record {
+            waiting = all-waiting;
+            taken = λ k. take-each (ComesFrom P r k) k (all-waiting k);
+            sent = λ k e h. ⊎-elim (λ b. absurd (h (ap (λ (m : Message). m .sender) (b .same)))) (λ b. b)
+                (take-each (ComesFrom P r k) k (all-waiting k) e);
+          }
 
-        start : EachWaiting Known (initialState P .queue)
-        start = each-first Known P (λ n i h. inl refl)
+      -- every turn is one of a node
+      pub attributed : ((k : ℕ) → k < length turns → getD turns k 0 < P .nodes) → Attributed P r
+      attributed inside = record { origins = accounted; waiting = known; taken = λ k. take-each (HasSender P) k (known k) }
+        where
+          few : length (r .steps) ≤ length turns
+          few = ⊎-elim (λ (o : RanOut turns r). omega (arith, o .completedAll)) (λ (o : Halted rule turns r). omega (arith, o .next))
+              (follows .ends)
 
-        few : length (r .steps) ≤ length turns
-        few = ⊎-elim (λ (o : RanOut turns r). omega (arith, o .completedAll)) (λ (o : Halted rule turns r). omega (arith, o .next))
-            (follows .ends)
+          next : (k : ℕ) → k < length (r .steps) → EachWaiting (HasSender P) (stateAt r k .queue)
+              → EachWaiting (HasSender P) (stateAt r (suc k) .queue)
+          next k h q = subst (Moves (λ e. HasSender P)) (follows .goesOn k h)
+              (moves (λ e. HasSender P) (stateAt r k) (getD turns k 0) (λ e. q)
+              (λ port t w. inr (record { isNode = inside k (omega (arith, few)); port = port; wired = w })))
 
-        next : (k : ℕ) → k < length (r .steps) → EachWaiting Known (stateAt r k .queue) → EachWaiting Known (stateAt r (suc k) .queue)
-        next k h q = subst (Moves (λ e. Known)) (follows .goesOn k h) (moves (λ e. Known) (stateAt r k) (getD turns k 0) (λ e. q)
-            (λ port t w. inr (record { isNode = inside k (omega (arith, few)); port = port; wired = w })))
+          known : (k : ℕ) → EachWaiting (HasSender P) (stateAt r k .queue)
+          known = at-each (λ k s. EachWaiting (HasSender P) (s .queue)) (each-first (HasSender P) P (λ n i h. inl refl)) (λ k s q. q) next
 
-pub sends-hold : SendsHold
-sends-hold P turns = (
+pub origins-hold : OriginsHold
+origins-hold P turns = (
   accounted P (monitoredTurn P) (λ Q s n. monitored-moves Q P s n) turns (monitoredRun P turns) (demand2 P turns .monitoredFollows)
       (monitored-takes P),
   accounted P (turn P) (λ Q s n. turn-moves Q P s n) turns (unmonitoredRun P turns) (demand2 P turns .unmonitoredFollows) (turn-takes P),
@@ -141,7 +145,9 @@ unfolding programOf
 senders-hold job b past a =
     let inside = turns-inside past (reads-valid (a .reads)) in
     let P = programOf past in
-    let turns = turnsOf past in (
-      known P (monitoredTurn P) (λ Q s n. monitored-moves Q P s n) turns (monitoredRun P turns) (demand2 P turns .monitoredFollows) inside,
-      known P (turn P) (λ Q s n. turn-moves Q P s n) turns (unmonitoredRun P turns) (demand2 P turns .unmonitoredFollows) inside,
+    let turns = turnsOf past in
+    let both = demand2 P turns in (
+      attributed P (monitoredTurn P) (λ Q s n. monitored-moves Q P s n) turns (monitoredRun P turns) (both .monitoredFollows)
+          (monitored-takes P) inside,
+      attributed P (turn P) (λ Q s n. turn-moves Q P s n) turns (unmonitoredRun P turns) (both .unmonitoredFollows) (turn-takes P) inside,
     )

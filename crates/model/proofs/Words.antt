@@ -2,12 +2,12 @@
 use Prim.Native.Nat.{ℕ, zero, suc, _+_, _^_, _<_, _/_, _*_, _%_}
 use mathlib.Core.Path.{_≡_, _∙_}
 use mathlib.Core.Bool.{Bool, true, false, cond, _&&_}
-use mathlib.Core.List.{List, [], _∷_, _++_}
+use mathlib.Core.List.{List, [], _∷_}
 use mathlib.Core.Option.{some, Option·getD}
 use native.Mathlib.Omega.{arith}
 use native.Mathlib.Nat.{div-div-eq-div-mul, div-add-mod', mod-eq-of-lt}
 use lib.Dec.{eqb}
-use lib.ListN.{length, getD, set, drop}
+use lib.ListN.{length, getD, set}
 use Rattle.model.specs.Table.{VAR, FUN, START, OperandKind, scope, owner, start, answer, node, port, target, function}
 use Rattle.model.specs.Table.{argument, value, low, high, variable, jump, absent, width, operandAt, maxNodes, maxVariables}
 use Rattle.model.specs.Command.{Operands, Command, is, numberAt, firstAt, secondAt, thirdAt, fourthAt, operandsAt}

@@ -85,7 +85,7 @@ nodePart position accumulator message waiting = position ∷ four accumulator ++
 unfoldable pub idleNode : List ℕ
 idleNode = nodePart 255 0 0 0
 
--- a waiting message below 256 from this sender, as it stands in the snapshot
+-- a waiting message from this sender with a value below 256, as it stands in the snapshot
 unfoldable pub waits : ℕ → ℕ → List ℕ
 waits sender v = four v ++ (sender ∷ [])
 

@@ -35,7 +35,7 @@ unfoldable pub messagesBytes : List Message → List ℕ
 messagesBytes [] = []
 messagesBytes (m ∷ ms) = bytes4 (m .value) ++ (m .sender ∷ messagesBytes ms)
 
--- a node: position, accumulator, message, how many messages wait, and these, oldest first
+-- a node: position, accumulator, message, how many messages wait, and these with their senders, oldest first
 abbrev pub nodeBytes : State → ℕ → List ℕ
 nodeBytes s n = positionAt s n ∷ bytes4 (accumulatorAt s n) ++ bytes4 (messageAt s n) ++ (waitingAt s n ∷ messagesBytes (queueAt s n))
 

@@ -1,8 +1,8 @@
 -- How the definitions read what the paper leaves open or what is easily misread (docs/DECISIONS.md), as rows of one list, claimed once.
-use Prim.Native.Nat.{ℕ}
+use Prim.Native.Nat.{ℕ, _+_}
 use mathlib.Core.Bool.{true}
 use mathlib.Core.List.{List, [], _∷_, _++_}
-use Rattle.model.specs.Turn.{entry}
+use Rattle.model.specs.Turn.{Entry, entry}
 use Rattle.model.specs.Refusal.{refuse, Sizes, sizes}
 use Rattle.model.specs.Result.{Result, refused}
 use Rattle.model.specs.Examples.{Example, RowsHold, monitoredRow, unmonitoredRow, times, four, traced, nodePart, idleNode, ends}
@@ -368,33 +368,45 @@ unusedRows =
     ∷ within (sizes 6 3135 4095) (handling read [] ++ turns 1 0) (refused (refuse 19 14))
     ∷ []
 
--- three nodes: 0 sends its first message, 9, to 1 and 2; 1 sends 7 to 2; with these turns after theirs
-unfoldable pub twoSenders : List ℕ → List ℕ
-twoSenders more =
-    nodes 3 ++ 0x20 ∷ 0x00 ∷ 0x00 ∷ 0x01 ∷ 0x20 ∷ 0x00 ∷ 0x00 ∷ 0x02 ∷ 0x20 ∷ 0x01 ∷ 0x00 ∷ 0x02 ∷ 0x40 ∷ 0x00 ∷ 0x42 ∷ 0x49 ∷ 0x00 ∷ 0x40 ∷
-    0x01 ∷ 0x41 ∷ four 7 ++ 0x49 ∷ 0x00 ∷ 0x50 ∷ 0x00 ∷ four 9 ++ turns 3 0 ++ turns 3 1 ++ more
+-- three nodes: 0 sends its first message, 9, to 1 and 2; 1 sends v to 2; with what is declared besides, the handler of 2, and the turns
+-- after theirs
+unfoldable pub twoSenders : List ℕ → ℕ → List ℕ → List ℕ → List ℕ
+twoSenders others v handler more =
+    nodes 3 ++ others ++ 0x20 ∷ 0x00 ∷ 0x00 ∷ 0x01 ∷ 0x20 ∷ 0x00 ∷ 0x00 ∷ 0x02 ∷ 0x20 ∷ 0x01 ∷ 0x00 ∷ 0x02 ∷ 0x40 ∷ 0x00 ∷ 0x42 ∷ 0x49 ∷ 0x00 ∷
+    0x40 ∷ 0x01 ∷ 0x41 ∷ four v ++ 0x49 ∷ 0x00 ∷ 0x40 ∷ 0x02 ∷ handler ++ 0x50 ∷ 0x00 ∷ four 9 ++ turns 3 0 ++ turns 3 1 ++ more
 
--- the trace of their turns
-unfoldable pub twoSent : List ℕ
-twoSent = traced 0 1 255 9 ++ traced 0 0 0 0 ++ traced 0 6 0 9 ++ traced 1 1 0 9 ++ traced 1 0 0 0 ++ traced 1 6 0 7
+-- what such a job gives after these turns more: stop, attempted entry, their entries, and the part of node 2
+unfoldable pub sentBoth : ℕ → ℕ → ℕ → Entry → List ℕ → List ℕ → Result
+sentBoth v stop count attempted more part =
+    ends stop (6 + count) attempted
+    (traced 0 1 255 9 ++ traced 0 0 0 0 ++ traced 0 6 0 9 ++ traced 1 1 0 9 ++ traced 1 0 0 0 ++ traced 1 6 0 v ++ more)
+    (nodePart 2 9 9 0 ++ nodePart 2 v 9 0 ++ part)
+
+-- a node 1 that sends 6 to itself, with this many turns of it
+unfoldable pub selfSender : ℕ → List ℕ
+selfSender k = nodes 2 ++ 0x20 ∷ 0x01 ∷ 0x00 ∷ 0x01 ∷ 0x40 ∷ 0x01 ∷ 0x41 ∷ four 6 ++ 0x49 ∷ 0x00 ∷ 0x50 ∷ 0x01 ∷ four 4 ++ turns k 1
 
 -- who sent it (S-11)
 unfoldable pub senderRows : List Example
 senderRows =
-    -- two senders at one node wait in order, and are taken in order
-    monitoredRow (twoSenders [])
-    (ends 0 6 noEntry twoSent (nodePart 2 9 9 0 ++ nodePart 2 7 9 0 ++ nodePart 255 0 0 2 ++ waits 0 9 ++ waits 1 7))
-    ∷ monitoredRow (twoSenders (turns 1 2))
-    (ends 0 7 noEntry (twoSent ++ traced 2 1 0 9) (nodePart 2 9 9 0 ++ nodePart 2 7 9 0 ++ nodePart 0 0 9 1 ++ waits 1 7))
-    ∷ monitoredRow (twoSenders (turns 3 2))
-    (ends 0 9 noEntry (twoSent ++ traced 2 1 0 9 ++ traced 2 2 0 0 ++ traced 2 1 1 7)
-    (nodePart 2 9 9 0 ++ nodePart 2 7 9 0 ++ nodePart 0 0 7 0))
-    -- unmonitored alike
-    ∷ unmonitoredRow (twoSenders (turns 1 2))
-    (ends 0 7 noEntry (twoSent ++ traced 2 1 0 9) (nodePart 2 9 9 0 ++ nodePart 2 7 9 0 ++ nodePart 0 0 9 1 ++ waits 1 7))
-    -- a node that sends to itself
-    ∷ monitoredRow
-    (nodes 2 ++ 0x20 ∷ 0x01 ∷ 0x00 ∷ 0x01 ∷ 0x40 ∷ 0x01 ∷ 0x41 ∷ four 6 ++ 0x49 ∷ 0x00 ∷ 0x50 ∷ 0x01 ∷ four 4 ++ turns 5 1)
+    -- messages of two senders wait in order at one node, and are taken in order
+    monitoredRow (twoSenders [] 7 [] []) (sentBoth 7 0 0 noEntry [] (nodePart 255 0 0 2 ++ waits 0 9 ++ waits 1 7))
+    ∷ monitoredRow (twoSenders [] 7 [] (turns 1 2)) (sentBoth 7 0 1 noEntry (traced 2 1 0 9) (nodePart 0 0 9 1 ++ waits 1 7))
+    ∷ monitoredRow (twoSenders [] 7 [] (turns 3 2))
+    (sentBoth 7 0 3 noEntry (traced 2 1 0 9 ++ traced 2 2 0 0 ++ traced 2 1 1 7) (nodePart 0 0 7 0))
+    -- the same value from both
+    ∷ monitoredRow (twoSenders [] 9 [] (turns 3 2))
+    (sentBoth 9 0 3 noEntry (traced 2 1 0 9 ++ traced 2 2 0 0 ++ traced 2 1 1 9) (nodePart 0 0 9 0))
+    -- a forbidden call while one waits; unmonitored it is made
+    ∷ monitoredRow (twoSenders (0x11 ∷ four 5) 7 (0x4A ∷ 0x00 ∷ []) (turns 2 2))
+    (sentBoth 7 1 1 (entry 2 5 0 0) (traced 2 1 0 9) (nodePart 0 0 9 1 ++ waits 1 7))
+    ∷ unmonitoredRow (twoSenders (0x11 ∷ four 5) 7 (0x4A ∷ 0x00 ∷ []) (turns 2 2))
+    (sentBoth 7 0 2 noEntry (traced 2 1 0 9 ++ traced 2 5 0 0) (nodePart 1 5 9 1 ++ waits 1 7))
+    -- a node that sends to itself: the message waits, and is taken
+    ∷ monitoredRow (selfSender 4)
+    (ends 0 4 noEntry (traced 1 1 255 4 ++ traced 1 0 0 0 ++ traced 1 6 0 6 ++ traced 1 2 0 0)
+    (idleNode ++ nodePart 255 0 0 1 ++ waits 1 6))
+    ∷ monitoredRow (selfSender 5)
     (ends 0 5 noEntry (traced 1 1 255 4 ++ traced 1 0 0 0 ++ traced 1 6 0 6 ++ traced 1 2 0 0 ++ traced 1 1 1 6)
     (idleNode ++ nodePart 0 0 6 0))
     ∷ []

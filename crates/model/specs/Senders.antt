@@ -53,8 +53,8 @@ pub record Accounted (P : Program) (r : Run) : Type 0 where
       → SentBefore P r k (entryAt r k .node) (takenBy (entryAt r k))
 
 -- it is so in both runs of any turns of every program
-abbrev pub SendsHold : Type 0
-SendsHold = (P : Program) (turns : List ℕ) → Accounted P (monitoredRun P turns) × Accounted P (unmonitoredRun P turns)
+abbrev pub OriginsHold : Type 0
+OriginsHold = (P : Program) (turns : List ℕ) → Accounted P (monitoredRun P turns) × Accounted P (unmonitoredRun P turns)
 
 -- the sender is a node, and some port of it is wired to node n
 pub record WiredNode (P : Program) (n : ℕ) (m : Message) : Type 0 where
@@ -62,12 +62,18 @@ pub record WiredNode (P : Program) (n : ℕ) (m : Message) : Type 0 where
   pub port : ℕ
   pub wired : P .wired (m .sender) port n ≡ true
 
--- every sender is 255 or such a node, whenever a message waits
-abbrev pub KnownSenders : Program → Run → Type 0
-KnownSenders P r = (k : ℕ) → EachWaiting (λ n m. (m .sender ≡ startSender) ⊎ WiredNode P n m) (stateAt r k .queue)
+-- the sender is 255 or such a node
+abbrev pub HasSender : Program → ℕ → Message → Type 0
+HasSender P n m = (m .sender ≡ startSender) ⊎ WiredNode P n m
+
+-- who sent the messages of a run: where each comes from, and that each that waits, and each that is taken, has a sender of the job
+pub record Attributed (P : Program) (r : Run) : Type 0 where
+  pub origins : Accounted P r
+  pub waiting : (k : ℕ) → EachWaiting (HasSender P) (stateAt r k .queue)
+  pub taken : (k : ℕ) → entryAt r k .kind ≡ 1 → HasSender P (entryAt r k .node) (takenBy (entryAt r k))
 
 -- it is so in both runs of every accepted job
 abbrev pub SendersHold : Type 0
 SendersHold =
     (job : List ℕ) (b : Sizes) (past : List Command) → Accepts job b past
-    → KnownSenders (programOf past) (monitoredOf past) × KnownSenders (programOf past) (unmonitoredOf past)
+    → Attributed (programOf past) (monitoredOf past) × Attributed (programOf past) (unmonitoredOf past)

@@ -14,7 +14,7 @@ pub record Message : Type 0 where
 abbrev pub startSender : ℕ
 startSender = 255
 
--- the message from this sender with this value; no message
+-- the message from this sender with this value; what stands for one where there is none
 abbrev pub messageFrom : ℕ → ℕ → Message
 messageFrom sender value = record { value = value; sender = sender }
 

@@ -110,7 +110,7 @@ pub record ProgramFits (P : Program) : Type 0 where
   pub operand : (n i : ℕ) → instructionAt P n i .operand < 2 ^ 32
   pub firstMessage : (n i : ℕ) → getD (P .firstMessages n) i 0 < 2 ^ 32
 
--- every accumulator ("hand"), message, waiting message and variable is below 2^32
+-- every accumulator ("hand"), message, value of a waiting message and variable is below 2^32
 pub record Fits (s : State) : Type 0 where
   pub accumulator : (n : ℕ) → accumulatorAt s n < 2 ^ 32
   pub message : (n : ℕ) → messageAt s n < 2 ^ 32

@@ -14,7 +14,7 @@ use Rattle.model.specs.Result.{Result, refused, resultOf, monitored, unm
 abbrev pub formerWorkSize : ℕ
 formerWorkSize = 16384
 
--- what was handed over for a job before the request, by the way its turns are run: test 12 asked for that length
+-- what is handed over for a job, by the way its turns are run, if test 12 asks for that length and all else is as it is now
 abbrev pub formerly : (Program → List ℕ → Run) → List ℕ → Sizes → Result
 formerly run job b = resultOf run (andThen (shortBufferAsking formerWorkSize job b) (decodeJob job))
 

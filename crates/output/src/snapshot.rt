@@ -14,7 +14,7 @@ use writing::put_byte;
 use writing::put_word;
 use writing::put_words;
 
-// Writes so many messages, from slot number `first` on: of each the value, then the sender.
+// Writes `count` messages, from slot number `first` on: of each the value, then the sender.
 fn put_messages<'a>(
     snapshot: &mut [u8],
     at: usize,
@@ -39,8 +39,9 @@ fn put_messages<'a>(
     next
 }
 
-// Writes the part of node n: position, accumulator, message, how many messages wait, and these with their senders. It is handed the place of this part, which
-// is the length of all parts before it, and answers that of the next. (All arrays of a state are lent, so that the contract speaks of it.)
+// Writes the part of node n: position, accumulator, message, how many messages wait, and these with their senders. It is handed the place
+// of this part, which is the length of all parts before it, and answers that of the next. (All arrays of a state are lent, so that the
+// contract speaks of it.)
 fn put_node<'a>(
     snapshot: &mut [u8],
     at: usize,

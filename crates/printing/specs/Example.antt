@@ -6,7 +6,7 @@ use Rattle.model.specs.Result.{monitored}
 use Rattle.model.specs.Examples.{enough, k1, k1Read, four}
 use Rattle.printing.specs.Printing.{resultLines}
 
--- the 13 lines of the paper, a line each
+-- the 13 lines of the paper, a line each; the first has the sender that START has (S-11)
 unfoldable pub k1Lines : List ℕ
 k1Lines =
     (48 ∷ 32 ∷ 49 ∷ 32 ∷ 50 ∷ 53 ∷ 53 ∷ 32 ∷ 50 ∷ 10 ∷ [])

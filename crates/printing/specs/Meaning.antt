@@ -25,7 +25,8 @@ abbrev pub messageNumbers : List Message → List ℕ
 messageNumbers [] = []
 messageNumbers (m ∷ ms) = m .value ∷ m .sender ∷ messageNumbers ms
 
--- node n of a state: `node`, number, position, accumulator ("hand"), message, waiting count, then the waiting messages, oldest first
+-- node n of a state: `node`, number, position, accumulator ("hand"), message, waiting count, then the waiting messages with
+-- their senders, oldest first
 unfoldable pub lineOfNode : State → ℕ → List ℕ
 lineOfNode s n = line nodeWord (n ∷ positionAt s n ∷ accumulatorAt s n ∷ messageAt s n ∷ waitingAt s n ∷ messageNumbers (queueAt s n))
 

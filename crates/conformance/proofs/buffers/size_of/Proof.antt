@@ -1,4 +1,4 @@
--- `conformance::buffers::size_of` meets its contract. The place is where the part of the next node begins; a part has at most 1,030 bytes.
+-- `conformance::buffers::size_of` meets its contract. The place is where the part of the next node begins; a part has at most 1,285 bytes.
 use Prim.Native.Nat.{_*_, _≤_, _-_}
 use mathlib.Core.Path.{_≡_, sym, ap}
 use native.Mathlib.Omega.{arith}

@@ -15,10 +15,10 @@ use Rattle.memory.proofs.senders.sign.Reads as reads
 use Rattle.memory.proofs.senders.sign.Lts as lts
 
 abbrev Inv-loop : tie.InvT-loop
-Inv-loop sender₀ waiting t port from all receiver₀ sender targets receiver = Storing all from waiting sender₀ receiver targets sender
+Inv-loop sender₀ waiting t port from all target₀ sender targets target = Storing all from waiting sender₀ target targets sender
 
 abbrev μ-loop : tie.MeasureT-loop
-μ-loop sender₀ waiting t port from all receiver₀ sender targets receiver = targets
+μ-loop sender₀ waiting t port from all target₀ sender targets target = targets
 
 cast-from : tie.Need-cast-from Inv-loop μ-loop
 cast-from c = search needs
@@ -46,7 +46,7 @@ element-copy-out-at c =
 
 -- at a target: its number, and how many messages wait there
 here : (c : lts.After-at (targets-of-reads.Asked, targets-of-reads.Learnt) reads.Pre reads.Post Inv-loop μ-loop)
-    → (c .before .before .before .loop .receiver < 32) × (getD (now (c .before .before .before .before .before .before .before .args .waiting)) (c .before .before .before .loop .receiver) 0 < 16)
+    → (c .before .before .before .loop .target < 32) × (getD (now (c .before .before .before .before .before .before .before .args .waiting)) (c .before .before .before .loop .target) 0 < 16)
 here c =
     storing-room (c .before .before .before .loop .inv) (omega (arith, c .before .before .loop-test .taken)) (c .before .if1 .taken)
 
@@ -59,8 +59,8 @@ add-at c = let h = here c in omega (arith, h .0, h .1)
 element-write-sender : tie.Need-element-write-sender Inv-loop μ-loop
 element-write-sender c = let h = here c in omega (arith, h .0, h .1)
 
-add-receiver : tie.Need-add-receiver Inv-loop μ-loop
-add-receiver c = omega (arith, c .before .before .loop .inv .ahead .inside)
+add-target : tie.Need-add-target Inv-loop μ-loop
+add-target c = omega (arith, c .before .before .loop .inv .ahead .inside)
 
 loop-less : tie.Need-loop-less Inv-loop μ-loop
 loop-less c = search needs
@@ -93,7 +93,7 @@ sign-spec =
     cast-at
     add-at
     element-write-sender
-    add-receiver
+    add-target
     loop-less
     loop-again
     returns)
