@@ -27,9 +27,9 @@ extern "C" {
  *   snapshot  3,136 bytes
  *   work      4,096 bytes
  *   answer    64 bytes
- *   stack     a call takes less than 20,000 bytes of stack; 16,960 were measured, on x86-64, with less than 300 of the caller. The tables
+ *   stack     a call takes less than 20,000 bytes of stack; 17,984 were measured, on x86-64, with less than 300 of the caller. The tables
  *             of the decoded job and the state of the run lie there, in no other memory.
- *   code      11,844 bytes with constants, on x86-64, and memcpy and memset of the C library; no variables of its own
+ *   code      12,357 bytes with constants, on x86-64, and memcpy and memset of the C library; no variables of its own
  *
  * A call takes no heap. */
 
@@ -57,7 +57,8 @@ enum {
 /* Runs a job and stops before the first turn whose entry its lists do not permit.
  *
  *   job, job_len            the job's bytes; only read
- *   trace, trace_len        gets 7 bytes for each completed turn; the number of kind 1, a message taken, is its sender, 255 for START
+ *   trace, trace_len        gets 7 bytes for each completed turn; the number of an entry of kind 1, a message taken, is the sender of
+ *                           the message, 255 for START
  *   snapshot, snapshot_len  gets the state that the run left: each node in order with position (1 byte, 255 idle), accumulator (4),
  *                           message (4), waiting count (1), waiting messages, oldest first, each with its sender's node number behind
  *                           it (4 and 1; the sender is 255 for START); then each variable (4)

@@ -21,6 +21,6 @@ fn groups_and_jobs() {
 fn stack() {
     for group in all() {
         let bytes = most(Engine::Proved, &group);
-        assert!((10_880 + 2_720..20_000).contains(&bytes), "{}: {bytes}", group.name);
+        assert!((10_880 + 3_232..20_000).contains(&bytes), "{}: {bytes}", group.name);
     }
 }
