@@ -66,7 +66,7 @@ pub record WiredNode (P : Program) (n : ℕ) (m : Message) : Type 0 where
 abbrev pub HasSender : Program → ℕ → Message → Type 0
 HasSender P n m = (m .sender ≡ startSender) ⊎ WiredNode P n m
 
--- who sent the messages of a run: where each comes from, and that each that waits, and each that is taken, has a sender of the job
+-- who sent the messages of a run: where each comes from, and that each that waits, and each that is taken, has such a sender
 pub record Attributed (P : Program) (r : Run) : Type 0 where
   pub origins : Accounted P r
   pub waiting : (k : ℕ) → EachWaiting (HasSender P) (stateAt r k .queue)
