@@ -13,6 +13,9 @@ pub mod Output
 -- "When a job is turned away"
 pub mod Refusal
 pub mod Result
+-- the dispatcher (S-2)
+pub mod Dispatch
+pub mod DispatchResult
 -- statements: demands 1, 2 and 3 ("Watched beside bare"), "Jobs worked by hand", open points
 pub mod Conclusion
 pub mod Following
@@ -20,6 +23,8 @@ pub mod Transparency
 pub mod Examples
 pub mod Readings
 -- statements on change requests
+pub mod Dispatching
+pub mod DispatchConclusion
 pub mod LargestCounts
 pub mod LeastPrivilege
 pub mod Parts

@@ -253,17 +253,22 @@ snapshotSize = 3136
 abbrev pub workSize : ℕ
 workSize = 4096
 
--- the trace, snapshot or work buffer is too short, with a given length asked of the work buffer; the place is the job's length
-abbrev pub shortBufferAsking : ℕ → List ℕ → Sizes → List Command → Option Refusal
-shortBufferAsking asked job b past =
-    cond (ltb (b .trace) (7 * countOf TURN past)) (some (refuse 10 (length job)))
+-- the trace buffer for so many turns, the snapshot or the work buffer is too short, with a given length asked of the work buffer; the place
+-- is the job's length
+abbrev pub shortBufferAsking : ℕ → List ℕ → Sizes → ℕ → Option Refusal
+shortBufferAsking asked job b turns =
+    cond (ltb (b .trace) (7 * turns)) (some (refuse 10 (length job)))
     (cond (ltb (b .snapshot) snapshotSize) (some (refuse 11 (length job)))
     (cond (ltb (b .work) asked) (some (refuse 12 (length job)))
     none))
 
--- 10 to 12
+-- 10 to 12, for so many turns
+abbrev pub shortBufferFor : List ℕ → Sizes → ℕ → Option Refusal
+shortBufferFor = shortBufferAsking workSize
+
+-- 10 to 12, for the turns of the job
 abbrev pub shortBuffer : List ℕ → Sizes → List Command → Option Refusal
-shortBuffer = shortBufferAsking workSize
+shortBuffer job b past = shortBufferFor job b (countOf TURN past)
 
 -- the commands of a job after all tests, with buffers of these lengths, or its refusal
 unfoldable pub decodeFor : List ℕ → Sizes → Decoded

@@ -5,6 +5,8 @@ use mathlib.Core.Path.{_≡_}
 use mathlib.Core.Logic.{_⊎_}
 use mathlib.Core.List.{List}
 use lib.ListN.{length}
+use Rattle.model.specs.Table.{TURN}
+use Rattle.model.specs.Declared.{countOf}
 use Rattle.model.specs.Program.{Program}
 use Rattle.model.specs.Run.{Run, monitoredRun, unmonitoredRun}
 use Rattle.model.specs.Refusal.{refuse, decodeJob, andThen, Sizes, workSize, shortBufferAsking}
@@ -16,7 +18,7 @@ formerWorkSize = 16384
 
 -- what is handed over for a job, by the way its turns are run, if test 12 asks for that length and all else is as it is now
 abbrev pub formerly : (Program → List ℕ → Run) → List ℕ → Sizes → Result
-formerly run job b = resultOf run (andThen (shortBufferAsking formerWorkSize job b) (decodeJob job))
+formerly run job b = resultOf run (andThen (λ past. shortBufferAsking formerWorkSize job b (countOf TURN past)) (decodeJob job))
 
 -- what is handed over now is what was handed over before
 pub record SameAsFormerly (run : Program → List ℕ → Run) (result : List ℕ → Sizes → Result) : Type 0 where
