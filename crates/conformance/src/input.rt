@@ -1,13 +1,15 @@
-// The runs on standard input: a head of 10 bytes, then the job's bytes.
+// The runs on standard input: a head of 12 bytes, then the job's bytes.
+use job::schedule::Schedule;
 use libc::STDIN_FILENO;
 ghost use Prim.Native.Nat.{_<_, _≤_};
 ghost use mathlib.Core.Path.{_≡_};
 ghost use lib.ListN.{length};
 ghost use Rattle.conformance.specs.Input.{RecordFits, Short};
 
-// What a run is asked to be: monitored or not, which byte is changed after it, what its buffers hold before it, and the lengths of its job
-// and of its buffers.
+// What a run is asked to be: how its turns are given, monitored or not, which byte is changed after it, what its buffers hold before it,
+// and the lengths of its job and of its buffers.
 pub struct Head {
+    pub schedule: Schedule,
     pub monitored: bool,
     pub change: u8,
     pub seed: u8,
@@ -44,15 +46,24 @@ fn pair(low: u8, high: u8) -> usize {
     wide(low) + wide(high) * 256
 }
 
+// How the turns are given, by the first byte of a head: dispatched with this budget from 16 on.
+fn schedule_of(flags: u8, budget: usize) -> Schedule {
+    if flags < 16 {
+        return Schedule::Written;
+    }
+    Schedule::Dispatched(budget as u64)
+}
+
 // Reads a head; at the end of the input, be it inside a head, there is none.
 fn read_head() -> Record {
-    let mut head = [0u8; 10];
-    if io::read_full(STDIN_FILENO, &mut head) < 10 {
+    let mut head = [0u8; 12];
+    if io::read_full(STDIN_FILENO, &mut head) < 12 {
         return Record::End;
     }
     Record::Run(Head {
+        schedule: schedule_of(head[0], pair(head[10], head[11])),
         monitored: head[0] % 2 == 0,
-        change: head[0] / 2,
+        change: head[0] / 2 % 8,
         seed: head[1],
         job: pair(head[2], head[3]),
         trace: pair(head[4], head[5]),

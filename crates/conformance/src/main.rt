@@ -54,7 +54,16 @@ fn run_filled(
     requires { ⌜ at + 131080 ≤ length (now text) ⌝ }
     ensures { λ r. ⌜ r ≤ at + 131080 ⌝ }
 {
-    let printed = run_to_text(text, at, job, trace, snapshot, work, head.monitored);
+    let printed = run_to_text(
+        text,
+        at,
+        job,
+        head.schedule,
+        trace,
+        snapshot,
+        work,
+        head.monitored,
+    );
     match printed {
         Printed::Put(next, answer) => {
             change_one(trace, snapshot, work, head.change);

@@ -1,5 +1,6 @@
-// Reads a job from standard input, runs it monitored (01's "watched"), or unmonitored with the argument `bare`, and prints the lines of
-// its run.
+// Reads a job from standard input, runs it monitored (01's "watched"), or unmonitored with the last argument `bare`, and prints the lines of
+// its run. With the arguments `dispatch` and a budget its turns are dispatched (S-2), and the last line is the examined total.
+use job::schedule::Schedule;
 use libc::STDERR_FILENO;
 use libc::STDIN_FILENO;
 use libc::STDOUT_FILENO;
@@ -7,12 +8,14 @@ use printing::Printed;
 use printing::TEXT;
 use printing::run_to_text;
 ghost use Prim.Native.Nat.{_≤_};
+ghost use mathlib.Core.Path.{_≡_};
 ghost use lib.ListN.{length};
 ghost use Rattle.model.specs.Refusal.{sizes, snapshotSize, workSize};
 ghost use Rattle.writing.specs.Writing.{Writes};
-ghost use Rattle.run.specs.Answers.{resultFor};
+ghost use Rattle.run.specs.Answers.{handedFor};
 ghost use Rattle.flowrun.specs.Reading.{ReadWithin};
-ghost use Rattle.printing.specs.Printing.{resultLines, textSize};
+ghost use Rattle.flowrun.specs.Numbers.{numberOf, numberAs};
+ghost use Rattle.printing.specs.Printing.{linesBy, textSize};
 
 // The bytes that are read at most: one more than a job may have, so that a longer one is refused for its length.
 const JOB: usize = 16385;
@@ -24,10 +27,16 @@ const SNAPSHOT: usize = 3136;
 
 const WORK: usize = 4096;
 
-// What the program is started for.
+// What the program is started for: a run, its turns given in this way, monitored or not.
 enum Order {
-    Run(bool),
+    Run(Schedule, bool),
     Unknown,
+}
+
+// What a word stands for: a number, or none.
+enum Number {
+    Value(u64),
+    Not,
 }
 
 // What reading gives: the number of bytes that were read, or that a read failed.
@@ -35,6 +44,9 @@ enum Input {
     Bytes(usize),
     Failed,
 }
+
+// The digits that a budget may have at most.
+const DIGITS: usize = 9;
 
 // Whether a word is `bare`.
 fn is_bare(word: &[u8]) -> bool {
@@ -45,18 +57,70 @@ fn is_bare(word: &[u8]) -> bool {
     }
 }
 
-// What the arguments ask for: a monitored run without one, an unmonitored one with `bare` alone.
-fn asked() -> Order {
-    let count = os::arg_count();
-    if count < 2 {
-        return Order::Run(true);
+// Whether a word is `dispatch`.
+fn is_dispatch(word: &[u8]) -> bool {
+    if word.len() == 8 {
+        word[0] == b'd'
+            && word[1] == b'i'
+            && word[2] == b's'
+            && word[3] == b'p'
+            && word[4] == b'a'
+            && word[5] == b't'
+            && word[6] == b'c'
+            && word[7] == b'h'
+    } else {
+        false
+    }
+}
+
+// The number that the digits of a word are; none if there are no digits, too many, or another byte among them.
+fn number_in(word: &[u8]) -> Number
+    ensures { λ r. ⌜ numberOf r ≡ numberAs (now (word .entry)) ⌝ }
+{
+    if (word.len() == 0) | (DIGITS < word.len()) {
+        return Number::Not;
+    }
+    let mut value: u64 = 0;
+    let mut i: usize = 0;
+    while i < word.len() {
+        let c = word[i];
+        if (c < b'0') | (b'9' < c) {
+            return Number::Not;
+        }
+        value = value * 10 + ((c - b'0') as u64);
+        i += 1;
+    }
+    Number::Value(value)
+}
+
+// The run with its turns given in this way: monitored if no argument is left from the next one on, unmonitored if `bare` alone is left.
+fn asked_after(schedule: Schedule, next: usize, count: usize) -> Order {
+    if count <= next {
+        return Order::Run(schedule, true);
     }
     let mut word = [0u8; 8];
-    let size = os::arg(1, &mut word);
-    if count == 2 && is_bare(&word[..size]) {
-        return Order::Run(false);
+    let size = os::arg(next, &mut word);
+    if count - next == 1 && is_bare(&word[..size]) {
+        return Order::Run(schedule, false);
     }
     Order::Unknown
+}
+
+// What the arguments ask for: turns as written, or with `dispatch` and a budget dispatched ones.
+fn asked() -> Order {
+    let count = os::arg_count();
+    let mut word = [0u8; 8];
+    let size = os::arg(1, &mut word);
+    if !is_dispatch(&word[..size]) {
+        return asked_after(Schedule::Written, 1, count);
+    }
+    let mut digits = [0u8; 16];
+    let length = os::arg(2, &mut digits);
+    let budget = number_in(&digits[..length]);
+    match budget {
+        Number::Value(n) => asked_after(Schedule::Dispatched(n), 3, count),
+        Number::Not => Order::Unknown,
+    }
 }
 
 // Reads once from standard input, to the front of a buffer.
@@ -89,11 +153,11 @@ fn read_job(job: &mut [u8]) -> Input
 }
 
 // Puts the lines of a job's run at the front of the text, and answers the place after them.
-fn put_lines(text: &mut [u8], job: &[u8], monitored: bool) -> usize
+fn put_lines(text: &mut [u8], job: &[u8], schedule: Schedule, monitored: bool) -> usize
     requires { ⌜ textSize ≤ length (now text) ⌝ }
     ensures end { λ r. ⌜ r ≤ textSize ⌝ }
     ensures text { λ r. ⌜ Writes
-        (resultLines (now (job .entry)) (resultFor monitored (now (job .entry)) (sizes 28672 snapshotSize workSize)))
+        (linesBy schedule (now (job .entry)) (handedFor schedule monitored (now (job .entry)) (sizes 28672 snapshotSize workSize)))
         (now (text .entry)) 0 (now (text .exit)) r ⌝ }
 {
     let mut trace = [0u8; TRACE];
@@ -103,6 +167,7 @@ fn put_lines(text: &mut [u8], job: &[u8], monitored: bool) -> usize
         text,
         0,
         job,
+        schedule,
         &mut trace,
         &mut snapshot,
         &mut work,
@@ -115,20 +180,20 @@ fn put_lines(text: &mut [u8], job: &[u8], monitored: bool) -> usize
 }
 
 // Prints the lines of a job's run.
-fn print_lines(job: &[u8], monitored: bool) {
+fn print_lines(job: &[u8], schedule: Schedule, monitored: bool) {
     let mut text = [0u8; TEXT];
-    let end = put_lines(&mut text, job, monitored);
+    let end = put_lines(&mut text, job, schedule, monitored);
     if !io::write_all(STDOUT_FILENO, &text[..end]) {
         io::write_all(STDERR_FILENO, b"flowrun: cannot write the lines\n");
     }
 }
 
 // Runs the job on standard input and prints its lines.
-fn print(monitored: bool) {
+fn print(schedule: Schedule, monitored: bool) {
     let mut job = [0u8; JOB];
     let input = read_job(&mut job);
     match input {
-        Input::Bytes(size) => print_lines(&job[..size], monitored),
+        Input::Bytes(size) => print_lines(&job[..size], schedule, monitored),
         Input::Failed => {
             io::write_all(STDERR_FILENO, b"flowrun: cannot read the job\n");
         }
@@ -138,9 +203,9 @@ fn print(monitored: bool) {
 fn main() {
     let order = asked();
     match order {
-        Order::Run(monitored) => print(monitored),
+        Order::Run(schedule, monitored) => print(schedule, monitored),
         Order::Unknown => {
-            io::write_all(STDERR_FILENO, b"usage: flowrun [bare]\n");
+            io::write_all(STDERR_FILENO, b"usage: flowrun [dispatch BUDGET] [bare]\n");
         }
     }
 }

@@ -3,20 +3,23 @@ use Prim.Native.Nat.{ℕ, zero, suc, _+_, _*_, _-_, _/_, _≤_, _<_}
 use mathlib.Core.Path.{_≡_, refl, sym, ap, _∙_}
 use mathlib.Core.Bool.{Bool, true, false, cond, _||_}
 use mathlib.Core.List.{List, [], _∷_, _++_}
+use mathlib.Core.Option.{some}
 use native.Mathlib.Omega.{arith}
 use lib.Dec.{ltb, eqb}
 use lib.ListN.{length, getD, List·getD-append, List·getD-eq-default}
 use lib.Seq.{getD-at}
-use borrow.Author.Tests.{ltb-true, ltb-false, eqb-true, le-ltb}
+use borrow.Author.Tests.{ltb-true, ltb-false, eqb-true, eqb-false, le-ltb}
 use Rattle.model.specs.Table.{TURN, operandsIn, operandsOf, node, groupOf}
 use Rattle.model.specs.Command.{Command, is, whole, readCommand, numberAt}
 use Rattle.model.specs.Declared.{countOf, turnsOf}
-use Rattle.model.specs.Refusal.{groupFalls, violation}
+use Rattle.model.specs.Refusal.{groupFalls, violation, refuse, firstOf}
+use Rattle.model.specs.DispatchResult.{writtenTurn}
 use Rattle.model.specs.Conclusion.{Reads, begin, further}
 use Rattle.model.proofs.Logic.{not-both, or-left, or-right}
 use Rattle.model.proofs.Reading.{read-at, ReadAt, number-one}
 use Rattle.model.proofs.Growth.{count-same, count-other, length-turns, turns-next}
 use Rattle.model.proofs.Valid.{passes}
+use Rattle.model.proofs.DispatchDecoding.{written-turn-next, no-turn-none}
 use Rattle.command.proofs.Known.{known-passes}
 
 -- after a TURN no group is lower than 6
@@ -49,9 +52,10 @@ turn-read job place c next r e =
     let first : numberAt job (place + 1) 1 ≡ c .operands .first = rw k at (ap (λ (d : Command). d .operands .first) (r .command)) in
     (omega arith, sym first ∙ number-one job (place + 1))
 
--- the turns before a place
+-- the turns before a place, and the first one of them
 record Turning (job : List ℕ) (place : ℕ) (past : List Command) : Type 0 where
   room : 2 * countOf TURN past ≤ place
+  first : ¬ (countOf TURN past ≡ 0) → writtenTurn past ≡ some (refuse 14 (place - 2 * countOf TURN past))
   turn : (k : ℕ) → k < countOf TURN past → getD job (place - 2 * countOf TURN past + 2 * k + 1) 0 ≡ getD (turnsOf past) k 0
 
 -- one more command
@@ -67,9 +71,20 @@ module _ (job : List ℕ) (place : ℕ) (past : List Command) (c : Command) (nex
       let base : next - 2 * countOf TURN (c ∷ past) ≡ place - 2 * countOf TURN past = omega (arith, r .0) in
       record {
         room = omega (arith, r .0);
+        first = λ _. written-turn-next c past ∙ rw (e, base) (by-first (eqb (countOf TURN past) 0) refl (t .first));
         turn = λ k g. rw (base, q) (by-turn r l h k (ltb k (countOf TURN past)) refl (omega arith));
       }
     where
+      by-first :
+          (z : Bool) → eqb (countOf TURN past) 0 ≡ z
+          → (¬ (countOf TURN past ≡ 0) → writtenTurn past ≡ some (refuse 14 (place - 2 * countOf TURN past)))
+          → firstOf (writtenTurn past) (some (refuse 14 (c .place))) ≡ some (refuse 14 (place - 2 * countOf TURN past))
+      by-first true z f =
+          let m : countOf TURN past ≡ 0 = eqb-true (countOf TURN past) 0 z in
+          let here : c .place ≡ place - 2 * countOf TURN past = read-at job place c next read .here ∙ omega arith in
+          rw (no-turn-none past m) (ap (λ (k : ℕ). some (refuse 14 k)) here)
+      by-first false z f = rw (f (eqb-false (countOf TURN past) 0 z))
+
       by-turn :
           (next ≡ place + 2) × (c .operands .first ≡ getD job (place + 1) 0) → length (turnsOf past) ≡ countOf TURN past
           → 2 * countOf TURN past ≤ place
@@ -87,7 +102,7 @@ module _ (job : List ℕ) (place : ℕ) (past : List Command) (c : Command) (nex
   further-other e =
       let m = count-other TURN c past e in
       let z = none (countOf TURN past) refl in
-      record { room = omega arith; turn = λ k g. absurd (omega arith) }
+      record { room = omega arith; first = λ n. absurd (n (m ∙ z)); turn = λ k g. absurd (omega arith) }
     where
       none : (k : ℕ) → countOf TURN past ≡ k → countOf TURN past ≡ 0
       none zero p = p
@@ -97,7 +112,7 @@ module _ (job : List ℕ) (place : ℕ) (past : List Command) (c : Command) (nex
 
 turning : {job : List ℕ} {place : ℕ} {past : List Command} → Reads job place past → Turning job place past
 unfolding countOf
-turning begin = record { room = omega arith; turn = λ k h. absurd (omega arith) }
+turning begin = record { room = omega arith; first = λ n. absurd (n refl); turn = λ k h. absurd (omega arith) }
 turning {job} (further place past c next reads h e v) = by-turn (is TURN c) refl (turning reads)
   where
     by-turn : (b : Bool) → is TURN c ≡ b → Turning job place past → Turning job next (c ∷ past)
@@ -109,6 +124,12 @@ pub turn-at :
     (job : List ℕ) (past : List Command) → Reads job (length job) past
     → (k : ℕ) → k < countOf TURN past → getD job (length job - 2 * countOf TURN past + 2 * k + 1) 0 ≡ getD (turnsOf past) k 0
 turn-at job past reads = turning reads .turn
+
+-- the first turn of an accepted job
+pub first-turn :
+    (job : List ℕ) (past : List Command) → Reads job (length job) past
+    → ¬ (countOf TURN past ≡ 0) → writtenTurn past ≡ some (refuse 14 (length job - 2 * countOf TURN past))
+first-turn job past reads = turning reads .first
 
 -- the place of a turn, as the code finds it: inside the job, or after the last turn
 module _ (job : List ℕ) (m k count first left : ℕ) (counted : count ≡ m) (from : first ≡ length job - 2 * count)

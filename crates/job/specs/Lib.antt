@@ -1,2 +1,3 @@
 pub mod Decoding
+pub mod Scheduling
 pub mod Prepared

@@ -6,7 +6,7 @@ use Rattle.model.specs.Command.{numberAt}
 use Rattle.model.specs.Output.{Answer}
 use Rattle.output.specs.Finding.{waitingIn, partAt}
 
--- the words `end`, `node`, `var` and `refused`
+-- the words `end`, `node`, `var`, `refused` and `examined`
 abbrev pub endWord : List ℕ
 endWord = 101 ∷ 110 ∷ 100 ∷ []
 
@@ -18,6 +18,9 @@ varWord = 118 ∷ 97 ∷ 114 ∷ []
 
 abbrev pub refusedWord : List ℕ
 refusedWord = 114 ∷ 101 ∷ 102 ∷ 117 ∷ 115 ∷ 101 ∷ 100 ∷ []
+
+abbrev pub examinedWord : List ℕ
+examinedWord = 101 ∷ 120 ∷ 97 ∷ 109 ∷ 105 ∷ 110 ∷ 101 ∷ 100 ∷ []
 
 -- entry k of the trace, 7 bytes an entry: node, kind, number, value
 unfoldable pub entryLine : List ℕ → ℕ → List ℕ
@@ -71,3 +74,7 @@ runLines x trace snapshot nodes variables =
 -- a refusal: `refused`, number, place
 unfoldable pub refusedLine : ℕ → ℕ → List ℕ
 refusedLine number place = line refusedWord (number ∷ place ∷ [])
+
+-- the examined total of a dispatched run (S-2): `examined`, total
+unfoldable pub examinedLine : ℕ → List ℕ
+examinedLine examined = line examinedWord (examined ∷ [])

@@ -7,7 +7,7 @@ ghost use lib.ListN.{length};
 ghost use Rattle.writing.specs.Writing.{Writes};
 ghost use Rattle.turns.specs.Endings.{answerOf};
 ghost use Rattle.output.specs.Finding.{partAt};
-ghost use Rattle.lines.specs.Lines.{endLine, runLines, refusedLine};
+ghost use Rattle.lines.specs.Lines.{endLine, examinedLine, runLines, refusedLine};
 use command::refusal::Refusal;
 use snapshot::put_snapshot_lines;
 use text::put_line;
@@ -38,6 +38,15 @@ fn put_end(text: &mut [u8], at: usize, ending: Ending) -> usize
         x.value as u64,
     ];
     put_line(text, at, b"end", &numbers)
+}
+
+// Puts the line of the examined total (S-2): `examined`, total.
+pub fn put_examined(text: &mut [u8], at: usize, examined: u32) -> usize
+    requires { ⌜ at + length (examinedLine examined) ≤ length (now text) ⌝ }
+    ensures { λ r. ⌜ Writes (examinedLine examined) (now (text .entry)) at (now (text .exit)) r ⌝ }
+{
+    let numbers = [examined as u64];
+    put_line(text, at, b"examined", &numbers)
 }
 
 // Puts the lines of a run that left this trace and this snapshot (01's "picture"): entries, answer, nodes, variables.

@@ -1,14 +1,17 @@
 -- What is printed for a job ("Jobs worked by hand").
 use Prim.Native.Nat.{ℕ, _+_}
 use mathlib.Core.Bool.{Bool}
-use mathlib.Core.List.{List}
+use mathlib.Core.List.{List, [], _++_}
 use lib.Dec.{leb}
 use lib.ListN.{length}
-use Rattle.lines.specs.Lines.{runLines, refusedLine}
+use Rattle.lines.specs.Lines.{runLines, refusedLine, examinedLine}
 use Rattle.model.specs.Table.{NODE, VAR}
 use Rattle.model.specs.Declared.{countOf}
 use Rattle.model.specs.Refusal.{decodeJob, commandsOf}
 use Rattle.model.specs.Result.{Result, refused, ran}
+use Rattle.model.specs.DispatchResult.{Handed}
+use Rattle.job.specs.declared.schedule.Schedule.{Schedule}
+use Rattle.job.specs.declared.schedule.Schedule.the-variants as s
 use Rattle.run.specs.Answers.{Told, toldBy, toldIn}
 use Rattle.printing.specs.declared.Printed.{Printed}
 use Rattle.printing.specs.declared.Printed.the-variants as p
@@ -24,6 +27,19 @@ variablesIn job = countOf VAR (commandsOf (decodeJob job))
 abbrev pub resultLines : List ℕ → Result → List ℕ
 resultLines job (refused r) = refusedLine (r .number) (r .place)
 resultLines job (ran x trace snapshot) = runLines x trace snapshot (nodesIn job) (variablesIn job)
+
+-- the line after those of a run: the examined total, if its turns were dispatched
+abbrev pub totalLines : Schedule → ℕ → List ℕ
+totalLines s.Written examined = []
+totalLines (s.Dispatched budget) examined = examinedLine examined
+
+abbrev pub totalAfter : Schedule → Result → ℕ → List ℕ
+totalAfter schedule (refused r) examined = []
+totalAfter schedule (ran x trace snapshot) examined = totalLines schedule examined
+
+-- what is printed for a job whose turns are given in this way, by what is handed over: a refusal is one line
+abbrev pub linesBy : Schedule → List ℕ → Handed → List ℕ
+linesBy schedule job h = resultLines job (h .result) ++ totalAfter schedule (h .result) (h .examined)
 
 -- bytes of text that are enough for the lines of every run
 abbrev pub textSize : ℕ
@@ -43,9 +59,9 @@ abbrev pub saidBy : Printed → Said
 saidBy (p.Put next x) = put next (toldBy x)
 saidBy p.NoRoom = noRoom
 
--- what is said of a job with this result whose lines begin at a place
-abbrev pub saidOf : ℕ → List ℕ → Result → Said
-saidOf at job result = put (at + length (resultLines job result)) (toldIn result)
+-- what is said of a job whose lines begin at a place, by what is handed over
+abbrev pub saidOf : ℕ → Schedule → List ℕ → Handed → Said
+saidOf at schedule job h = put (at + length (linesBy schedule job h)) (toldIn (h .result))
 
 -- the place after what was put from a place on
 abbrev pub placeAfter : ℕ → Printed → ℕ

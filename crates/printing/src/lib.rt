@@ -5,16 +5,18 @@ ghost use mathlib.Core.Bool.{cond};
 ghost use lib.ListN.{length};
 ghost use Rattle.model.specs.Refusal.{decodeJob, IsAccepted};
 ghost use Rattle.model.specs.Result.{traceAfter, snapshotAfter, workAfter};
-ghost use Rattle.run.specs.Answers.{resultWith};
+ghost use Rattle.run.specs.Answers.{handedWith};
 ghost use Rattle.writing.specs.Writing.{Writes, placed};
 ghost use Rattle.turns.specs.Endings.{answerOf};
 ghost use Rattle.output.specs.Finding.{partAt};
 ghost use Rattle.lines.specs.Lines.{runLines};
-ghost use Rattle.printing.specs.Printing.{nodesIn, variablesIn, resultLines};
+ghost use Rattle.printing.specs.Printing.{nodesIn, variablesIn, totalLines, linesBy};
 ghost use Rattle.printing.specs.Printing.{textSize, hasRoom, noRoom, saidBy, saidOf, placeAfter};
 use command::bytes;
 use declared::count_of;
 use job::decode;
+use job::schedule::Schedule;
+use lines::put_examined;
 use lines::put_refusal;
 use lines::put_run;
 use run::answer::Answer;
@@ -57,6 +59,17 @@ fn put_ended(
     put_run(text, at, ending, trace, snapshot, nodes, variables)
 }
 
+// Puts the line of the examined total, if the turns were dispatched.
+fn put_total(text: &mut [u8], at: usize, schedule: Schedule, examined: u32) -> usize
+    requires { ⌜ at + length (totalLines schedule examined) ≤ length (now text) ⌝ }
+    ensures { λ r. ⌜ Writes (totalLines schedule examined) (now (text .entry)) at (now (text .exit)) r ⌝ }
+{
+    match schedule {
+        Schedule::Written => at,
+        Schedule::Dispatched(_) => put_examined(text, at, examined),
+    }
+}
+
 // Whether a text has room from a place on for what any run prints.
 fn has_room(text: &[u8], at: usize) -> bool
     ensures { λ r. ⌜ r ≡ hasRoom (now (text .entry)) at ⌝ }
@@ -75,6 +88,7 @@ pub fn run_to_text(
     text: &mut [u8],
     at: usize,
     job: &[u8],
+    schedule: Schedule,
     trace: &mut [u8],
     snapshot: &mut [u8],
     work: &mut [u8],
@@ -82,33 +96,35 @@ pub fn run_to_text(
 ) -> Printed
     ensures end { λ r. ⌜ placeAfter at r ≤ at + textSize ⌝ }
     ensures answer { λ r. ⌜ saidBy r ≡ cond (hasRoom (now (text .entry)) at)
-        (saidOf at (now (job .entry))
-        (resultWith monitored (now (job .entry)) (now (trace .entry)) (now (snapshot .entry)) (now (work .entry)))) noRoom ⌝ }
+        (saidOf at schedule (now (job .entry))
+        (handedWith schedule monitored (now (job .entry)) (now (trace .entry)) (now (snapshot .entry)) (now (work .entry)))) noRoom ⌝ }
     ensures text { λ _. ⌜ now (text .exit) ≡ cond (hasRoom (now (text .entry)) at)
-        (placed (now (text .entry)) at (resultLines (now (job .entry))
-        (resultWith monitored (now (job .entry)) (now (trace .entry)) (now (snapshot .entry)) (now (work .entry)))))
+        (placed (now (text .entry)) at (linesBy schedule (now (job .entry))
+        (handedWith schedule monitored (now (job .entry)) (now (trace .entry)) (now (snapshot .entry)) (now (work .entry)))))
         (now (text .entry)) ⌝ }
     ensures trace { λ _. ⌜ now (trace .exit) ≡ cond (hasRoom (now (text .entry)) at)
-        (traceAfter (resultWith monitored (now (job .entry)) (now (trace .entry)) (now (snapshot .entry)) (now (work .entry)))
+        (traceAfter (handedWith schedule monitored (now (job .entry)) (now (trace .entry)) (now (snapshot .entry)) (now (work .entry)) .result)
         (now (trace .entry))) (now (trace .entry)) ⌝ }
     ensures snapshot { λ _. ⌜ now (snapshot .exit) ≡ cond (hasRoom (now (text .entry)) at)
-        (snapshotAfter (resultWith monitored (now (job .entry)) (now (trace .entry)) (now (snapshot .entry)) (now (work .entry)))
+        (snapshotAfter (handedWith schedule monitored (now (job .entry)) (now (trace .entry)) (now (snapshot .entry)) (now (work .entry)) .result)
         (now (snapshot .entry))) (now (snapshot .entry)) ⌝ }
     ensures work { λ _. ⌜ now (work .exit) ≡ cond (hasRoom (now (text .entry)) at)
-        (workAfter (resultWith monitored (now (job .entry)) (now (trace .entry)) (now (snapshot .entry)) (now (work .entry)))
+        (workAfter (handedWith schedule monitored (now (job .entry)) (now (trace .entry)) (now (snapshot .entry)) (now (work .entry)) .result)
         (now (work .entry))) (now (work .entry)) ⌝ }
 {
     if !has_room(text, at) {
         return Printed::NoRoom;
     }
-    let answer = run(job, trace, snapshot, work, monitored);
+    let report = run(job, schedule, trace, snapshot, work, monitored);
+    let answer = report.answer;
     match answer {
         Answer::Refused(refusal) => {
             let next = put_refusal(text, at, refusal);
             Printed::Put(next, answer)
         }
         Answer::Ended(ending) => {
-            let next = put_ended(text, at, ending, job, trace, snapshot);
+            let end = put_ended(text, at, ending, job, trace, snapshot);
+            let next = put_total(text, end, schedule, report.examined);
             Printed::Put(next, answer)
         }
     }

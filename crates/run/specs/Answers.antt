@@ -7,7 +7,10 @@ use lib.ListN.{length}
 use Rattle.model.specs.Output.{Answer as Meant}
 use Rattle.model.specs.Refusal.{Refusal, Sizes, sizes}
 use Rattle.model.specs.Result.{Result, refused, ran, monitored, unmonitored, Buffers, sizesOf, traceAfter, snapshotAfter, workAfter}
+use Rattle.model.specs.DispatchResult.{Handed, dispatchMonitored, dispatchUnmonitored}
 use Rattle.command.specs.Reading.{refusalOf}
+use Rattle.job.specs.declared.schedule.Schedule.{Schedule}
+use Rattle.job.specs.declared.schedule.Schedule.the-variants as s
 use Rattle.turns.specs.Endings.{answerOf}
 use Rattle.run.specs.declared.answer.Answer.{Answer}
 use Rattle.run.specs.declared.answer.Answer.the-variants as a
@@ -35,6 +38,25 @@ resultFor false job b = unmonitored job b
 -- the same, with these three buffers
 abbrev pub resultWith : Bool → List ℕ → List ℕ → List ℕ → List ℕ → Result
 resultWith m job trace snapshot work = resultFor m job (sizes (length trace) (length snapshot) (length work))
+
+-- what the model hands over for a job whose turns are given in either way, with buffers of these lengths: nothing is examined for written
+-- turns
+abbrev pub handedFor : Schedule → Bool → List ℕ → Sizes → Handed
+handedFor s.Written m job b = record { result = resultFor m job b; examined = 0 }
+handedFor (s.Dispatched budget) true job b = dispatchMonitored budget job b
+handedFor (s.Dispatched budget) false job b = dispatchUnmonitored budget job b
+
+-- the same, with these three buffers
+abbrev pub handedWith : Schedule → Bool → List ℕ → List ℕ → List ℕ → List ℕ → Handed
+handedWith schedule m job trace snapshot work = handedFor schedule m job (sizes (length trace) (length snapshot) (length work))
+
+-- what the model hands over for the monitored ("watched") dispatched run of a job with a budget and these three buffers, and for the
+-- unmonitored ("bare") one
+abbrev pub monitoredUnder : ℕ → List ℕ → List ℕ → List ℕ → List ℕ → Handed
+monitoredUnder budget = handedWith (s.Dispatched budget) true
+
+abbrev pub unmonitoredUnder : ℕ → List ℕ → List ℕ → List ℕ → List ℕ → Handed
+unmonitoredUnder budget = handedWith (s.Dispatched budget) false
 
 -- the model's result of the monitored ("watched") run of a job with these three buffers, and of the unmonitored ("bare") one
 abbrev pub monitoredWith : List ℕ → List ℕ → List ℕ → List ℕ → Result

@@ -7,3 +7,9 @@ pub enum Answer {
     Refused(Refusal),
     Ended(Ending),
 }
+
+// The answer to a job, and how many nodes were examined for the choices of its run.
+pub struct Report {
+    pub answer: Answer,
+    pub examined: u32,
+}

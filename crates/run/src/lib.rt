@@ -1,67 +1,90 @@
-// The run of a job with its buffers, monitored (01's "watched") or unmonitored ("bare"): any bytes and any buffers are allowed.
+// The run of a job with its buffers, monitored (01's "watched") or unmonitored ("bare"), its turns as written or dispatched (S-2): any bytes,
+// any buffers and any budget are allowed.
 pub mod answer;
 mod exports;
 
 ghost use mathlib.Core.Path.{_≡_};
 ghost use Rattle.model.specs.Result.{sizesOf, traceAfter, snapshotAfter, workAfter};
-ghost use Rattle.run.specs.Answers.{toldBy, toldIn, buffers, resultWith, monitoredWith, unmonitoredWith};
+ghost use Rattle.run.specs.Answers.{toldBy, toldIn, buffers, handedWith, monitoredWith, unmonitoredWith};
+ghost use Rattle.run.specs.Answers.{monitoredUnder, unmonitoredUnder};
 ghost use Rattle.run.specs.Delivered.{AcceptedWith, DeliversRun};
 use answer::Answer;
+use answer::Report;
 use handlers::load::load;
 use job::Verdict;
 use job::buffers::WORK;
 use job::buffers::judge;
+use job::schedule::Schedule;
 use tables::cells::CELLS;
-use turns::ending::Ending;
+use turns::ending::Made;
 use turns::run_turns;
 use writing::put_zeros;
 
-// The run of an accepted job: how it ended; its trace and its snapshot (01's "picture") at the front of their buffers, zeros at that of the
-// work buffer.
+// The run of an accepted job: how it ended and what was examined; its trace and its snapshot (01's "picture") at the front of their buffers,
+// zeros at that of the work buffer.
 fn run_accepted(
     job: &[u8],
+    schedule: Schedule,
     tables: &[u32; CELLS],
     trace: &mut [u8],
     snapshot: &mut [u8],
     work: &mut [u8],
     monitored: bool,
-) -> Ending
-    requires { ⌜ AcceptedWith (now job) (now tables) (sizesOf (buffers (now trace) (now snapshot) (now work))) ⌝ }
-    ensures { λ r. ⌜ DeliversRun monitored (now (job .entry))
+) -> Made
+    requires { ⌜ AcceptedWith schedule (now job) (now tables) (sizesOf (buffers (now trace) (now snapshot) (now work))) ⌝ }
+    ensures { λ r. ⌜ DeliversRun schedule monitored (now (job .entry))
         (buffers (now (trace .entry)) (now (snapshot .entry)) (now (work .entry)))
         (buffers (now (trace .exit)) (now (snapshot .exit)) (now (work .exit))) r ⌝ }
 {
     load(job, work);
-    let ending = run_turns(job, tables, work, trace, snapshot, monitored);
+    let made = run_turns(job, tables, work, schedule, trace, snapshot, monitored);
     put_zeros(work, WORK);
-    ending
+    made
 }
 
-// The run of any job with any buffers, monitored or not.
+// The run of any job with any buffers, monitored or not, its turns given in either way.
 pub fn run(
     job: &[u8],
+    schedule: Schedule,
     trace: &mut [u8],
     snapshot: &mut [u8],
     work: &mut [u8],
     monitored: bool,
-) -> Answer
-    ensures told { λ r. ⌜ toldBy r ≡
-        toldIn (resultWith monitored (now (job .entry)) (now (trace .entry)) (now (snapshot .entry)) (now (work .entry))) ⌝ }
+) -> Report
+    ensures told { λ r. ⌜ toldBy (r .answer) ≡ toldIn
+        (handedWith schedule monitored (now (job .entry)) (now (trace .entry)) (now (snapshot .entry)) (now (work .entry)) .result) ⌝ }
+    ensures examined { λ r. ⌜ r .examined ≡
+        handedWith schedule monitored (now (job .entry)) (now (trace .entry)) (now (snapshot .entry)) (now (work .entry)) .examined ⌝ }
     ensures trace { λ _. ⌜ now (trace .exit) ≡ traceAfter
-        (resultWith monitored (now (job .entry)) (now (trace .entry)) (now (snapshot .entry)) (now (work .entry))) (now (trace .entry)) ⌝ }
+        (handedWith schedule monitored (now (job .entry)) (now (trace .entry)) (now (snapshot .entry)) (now (work .entry)) .result)
+        (now (trace .entry)) ⌝ }
     ensures snapshot { λ _. ⌜ now (snapshot .exit) ≡ snapshotAfter
-        (resultWith monitored (now (job .entry)) (now (trace .entry)) (now (snapshot .entry)) (now (work .entry)))
+        (handedWith schedule monitored (now (job .entry)) (now (trace .entry)) (now (snapshot .entry)) (now (work .entry)) .result)
         (now (snapshot .entry)) ⌝ }
     ensures work { λ _. ⌜ now (work .exit) ≡ workAfter
-        (resultWith monitored (now (job .entry)) (now (trace .entry)) (now (snapshot .entry)) (now (work .entry))) (now (work .entry)) ⌝ }
+        (handedWith schedule monitored (now (job .entry)) (now (trace .entry)) (now (snapshot .entry)) (now (work .entry)) .result)
+        (now (work .entry)) ⌝ }
 {
     let mut tables = [0u32; CELLS];
-    let verdict = judge(job, &mut tables, trace.len(), snapshot.len(), work.len());
+    let verdict = judge(
+        job,
+        schedule,
+        &mut tables,
+        trace.len(),
+        snapshot.len(),
+        work.len(),
+    );
     match verdict {
-        Verdict::Refused(r) => Answer::Refused(r),
+        Verdict::Refused(r) => Report {
+            answer: Answer::Refused(r),
+            examined: 0,
+        },
         Verdict::Accepted => {
-            let ending = run_accepted(job, &tables, trace, snapshot, work, monitored);
-            Answer::Ended(ending)
+            let made = run_accepted(job, schedule, &tables, trace, snapshot, work, monitored);
+            Report {
+                answer: Answer::Ended(made.ending),
+                examined: made.examined,
+            }
         }
     }
 }
@@ -77,7 +100,8 @@ pub fn run_monitored(job: &[u8], trace: &mut [u8], snapshot: &mut [u8], work: &m
     ensures work { λ _. ⌜ now (work .exit) ≡ workAfter
         (monitoredWith (now (job .entry)) (now (trace .entry)) (now (snapshot .entry)) (now (work .entry))) (now (work .entry)) ⌝ }
 {
-    run(job, trace, snapshot, work, true)
+    let report = run(job, Schedule::Written, trace, snapshot, work, true);
+    report.answer
 }
 
 // The unmonitored run (01's "bare").
@@ -91,5 +115,64 @@ pub fn run_unmonitored(job: &[u8], trace: &mut [u8], snapshot: &mut [u8], work: 
     ensures work { λ _. ⌜ now (work .exit) ≡ workAfter
         (unmonitoredWith (now (job .entry)) (now (trace .entry)) (now (snapshot .entry)) (now (work .entry))) (now (work .entry)) ⌝ }
 {
-    run(job, trace, snapshot, work, false)
+    let report = run(job, Schedule::Written, trace, snapshot, work, false);
+    report.answer
+}
+
+// The monitored run (01's "watched") of a job without TURN commands, its turns dispatched with a budget.
+pub fn dispatch_monitored(
+    job: &[u8],
+    budget: u64,
+    trace: &mut [u8],
+    snapshot: &mut [u8],
+    work: &mut [u8],
+) -> Report
+    ensures told { λ r. ⌜ toldBy (r .answer) ≡
+        toldIn (monitoredUnder budget (now (job .entry)) (now (trace .entry)) (now (snapshot .entry)) (now (work .entry)) .result) ⌝ }
+    ensures examined { λ r. ⌜ r .examined ≡
+        monitoredUnder budget (now (job .entry)) (now (trace .entry)) (now (snapshot .entry)) (now (work .entry)) .examined ⌝ }
+    ensures trace { λ _. ⌜ now (trace .exit) ≡ traceAfter
+        (monitoredUnder budget (now (job .entry)) (now (trace .entry)) (now (snapshot .entry)) (now (work .entry)) .result) (now (trace .entry)) ⌝ }
+    ensures snapshot { λ _. ⌜ now (snapshot .exit) ≡ snapshotAfter
+        (monitoredUnder budget (now (job .entry)) (now (trace .entry)) (now (snapshot .entry)) (now (work .entry)) .result) (now (snapshot .entry)) ⌝ }
+    ensures work { λ _. ⌜ now (work .exit) ≡ workAfter
+        (monitoredUnder budget (now (job .entry)) (now (trace .entry)) (now (snapshot .entry)) (now (work .entry)) .result) (now (work .entry)) ⌝ }
+{
+    run(
+        job,
+        Schedule::Dispatched(budget),
+        trace,
+        snapshot,
+        work,
+        true,
+    )
+}
+
+// The unmonitored run (01's "bare") of a job without TURN commands, its turns dispatched with a budget.
+pub fn dispatch_unmonitored(
+    job: &[u8],
+    budget: u64,
+    trace: &mut [u8],
+    snapshot: &mut [u8],
+    work: &mut [u8],
+) -> Report
+    ensures told { λ r. ⌜ toldBy (r .answer) ≡
+        toldIn (unmonitoredUnder budget (now (job .entry)) (now (trace .entry)) (now (snapshot .entry)) (now (work .entry)) .result) ⌝ }
+    ensures examined { λ r. ⌜ r .examined ≡
+        unmonitoredUnder budget (now (job .entry)) (now (trace .entry)) (now (snapshot .entry)) (now (work .entry)) .examined ⌝ }
+    ensures trace { λ _. ⌜ now (trace .exit) ≡ traceAfter
+        (unmonitoredUnder budget (now (job .entry)) (now (trace .entry)) (now (snapshot .entry)) (now (work .entry)) .result) (now (trace .entry)) ⌝ }
+    ensures snapshot { λ _. ⌜ now (snapshot .exit) ≡ snapshotAfter
+        (unmonitoredUnder budget (now (job .entry)) (now (trace .entry)) (now (snapshot .entry)) (now (work .entry)) .result) (now (snapshot .entry)) ⌝ }
+    ensures work { λ _. ⌜ now (work .exit) ≡ workAfter
+        (unmonitoredUnder budget (now (job .entry)) (now (trace .entry)) (now (snapshot .entry)) (now (work .entry)) .result) (now (work .entry)) ⌝ }
+{
+    run(
+        job,
+        Schedule::Dispatched(budget),
+        trace,
+        snapshot,
+        work,
+        false,
+    )
 }

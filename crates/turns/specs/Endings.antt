@@ -16,7 +16,8 @@ answerOf x = record { stop = x .stop; turns = x .turns; attempted = entryWith (x
 abbrev pub withoutEntry : ℕ → ℕ → ℕ → Answer
 withoutEntry stop turns node = record { stop = stop; turns = turns; attempted = entry node 0 0 0 }
 
--- the answer of a run after its completed turns: its turns ran out, or the next one was stopped
+-- the answer of a run after its completed turns: its turns ran out, the next one was stopped, or nobody was ready
 abbrev pub answerAt : ℕ → Halt → Answer
 answerAt turns h.RanOut = withoutEntry 0 turns 0
 answerAt turns (h.Stopped x) = record { stop = stopNumber x; turns = turns; attempted = attemptedBy x }
+answerAt turns h.NobodyReady = withoutEntry 4 turns 0

@@ -12,10 +12,17 @@ pub struct Ending {
     pub attempted: Numbers,
 }
 
-// Why a run is over: its turns ran out, or a turn was stopped.
+// How a run ended, and how many nodes were examined for its choices: none, where its turns are written.
+pub struct Made {
+    pub ending: Ending,
+    pub examined: u32,
+}
+
+// Why a run is over: its turns ran out, a turn was stopped, or nobody was ready.
 pub enum Halt {
     RanOut,
     Stopped(Stop),
+    NobodyReady,
 }
 
 // The ending with a stop; of the attempted entry there is no more than the node.
@@ -60,5 +67,6 @@ pub fn ending_of(halt: Halt, turns: u32) -> Ending
     match halt {
         Halt::RanOut => without_entry(0, turns, 0),
         Halt::Stopped(stop) => ending_by(stop, turns),
+        Halt::NobodyReady => without_entry(4, turns, 0),
     }
 }
