@@ -95,6 +95,7 @@ module _ (t : List ℕ) (fetched : Fetched) (s : State) (n : NodeNum) (monitored
         counts places beside bounded inside (p .change) can-change) in
         record {
           bounded = changes .holds .bounded;
+          counts = count-at ws (paired slots senders) (changes .holds .bounded) (omega (arith, changes .counts, changes .places));
           slots = changes .brings;
           comes = λ hs f. subst (Comes (view s) (ruleOf monitored (programIn t hs) (view s) (n .0)) (p .outcome))
               (sym (ap₂ afterwards (changes .holds .same) stored)) (planned hs f .comes);

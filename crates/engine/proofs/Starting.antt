@@ -2,13 +2,16 @@
 use Prim.Native.Nat.{ℕ}
 use mathlib.Core.Path.{_≡_, sym, ap, _∙_}
 use mathlib.Core.List.{List, map}
-use lib.ListN.{length, getD, replicate}
+use native.Mathlib.Omega.{arith}
+use lib.ListN.{length, getD, replicate, length-map}
 use Rattle.model.specs.Table.{maxNodes, maxVariables}
 use Rattle.model.specs.State.{startSender, messageFrom, idle, tabulate, initialState}
+use Rattle.model.proofs.Lists.{length-tabulate}
 use Rattle.tables.specs.Tables.{firstsIn, startIn}
 use Rattle.tables.specs.Programs.{programIn}
 use Rattle.memory.specs.Queues.{paired, Holds, BringsOnly}
 use Rattle.memory.proofs.Pairing.{paired-one}
+use Rattle.memory.proofs.Waiting.{length-queues, count-at}
 use Rattle.engine.specs.declared.State.{State}
 use Rattle.engine.specs.Engine.{Starts}
 
@@ -35,8 +38,12 @@ unfolding initialState programIn
 started t ws slots xs long holds brings stored =
     let same : paired slots (replicate 512 startSender) ≡ map (messageFrom startSender) slots =
     ap (λ (k : ℕ). paired slots (replicate k startSender)) (sym long) ∙ paired-one slots startSender in
+    let filled : length ws ≡ 32 =
+    sym (length-queues ws (map (messageFrom startSender) slots)) ∙ ap length (holds .same) ∙ length-tabulate maxNodes _ in
     record {
       bounded = holds .bounded;
+      counts = rw same (count-at ws (map (messageFrom startSender) slots) (holds .bounded)
+          (omega (arith, length-map slots (messageFrom startSender))));
       slots = rw same brings;
       start = λ hs. rw (same, holds .same, stored);
     }

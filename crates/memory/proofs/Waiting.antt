@@ -228,6 +228,9 @@ shifted-passes test slots base (suc k) h all =
       set-passes test (shifted slots base k) (base + k) _ (before .1 (base + k + 1) (omega (arith, before .0))) (before .1),
     )
 
+pub length-shifted : (slots : List Message) (base k : ℕ) → base + k < length slots → length (shifted slots base k) ≡ length slots
+length-shifted slots base k h = shifted-passes (λ m. true) slots base k h (λ i l. refl) .0
+
 pub brings-shifted : (slots : List Message) (base k : ℕ) → base + k < length slots → (messages : ℕ → Message)
     → BringsOnly messages slots (shifted slots base k)
 brings-shifted slots base k h messages test own all = shifted-passes test slots base k h all .1

@@ -16,8 +16,8 @@ use Rattle.model.specs.State.{Message, messageFrom, startSender, State, 
 use Rattle.model.specs.State.{variableAt, firstQueue, initialState}
 use Rattle.model.specs.Turn.{Entry, Turned, completed, stopped, someBelow, delivered, isFull, blocked, performed, instructionAt, turn}
 use Rattle.model.specs.Permission.{monitoredTurn}
-use Rattle.model.specs.Run.{Run, proceed, runFrom, monitoredRun, unmonitoredRun}
-use Rattle.model.specs.Output.{bytes4, traceBytes, messagesBytes, nodeBytes, nodesBytes, variablesBytes, snapshotBytes}
+use Rattle.model.specs.Run.{Run, Step, proceed, runFrom, entriesOf, monitoredRun, unmonitoredRun}
+use Rattle.model.specs.Output.{bytes4, traceBytes, messagesBytes, nodeBytes, nodesBytes, variablesBytes, snapshotBytes, traceIn}
 use Rattle.model.specs.Valid.{Valid, Bounded}
 use Rattle.model.proofs.Logic.{and-rest}
 use Rattle.model.proofs.Valid.{limits}
@@ -31,6 +31,9 @@ pub length-trace : (es : List Entry) → length (traceBytes es) ≡ 7 * length e
 unfolding traceBytes
 length-trace [] = refl
 length-trace (e ∷ es) = omega (arith, length-trace es)
+
+pub length-trace-in : (r : Run) → length (traceIn r) ≡ 7 * length (r .steps)
+length-trace-in r = omega (arith, length-trace (entriesOf (r .steps)), length-map (r .steps) (λ (t : Step). t .made))
 
 -- 5 bytes a waiting message
 pub length-messages : (ms : List Message) → length (messagesBytes ms) ≡ 5 * length ms

@@ -1,10 +1,10 @@
 -- The proof of `Demand1` for every job and all buffers.
-use Prim.Native.Nat.{ℕ, _*_, _≤_}
-use mathlib.Core.Path.{_≡_, refl, ap, _∙_}
-use mathlib.Core.Logic.{_↔_, _⊎_, inl, inr}
+use Prim.Native.Nat.{ℕ, _≤_}
+use mathlib.Core.Path.{_≡_, refl}
+use mathlib.Core.Logic.{_⊎_, inl, inr}
 use mathlib.Core.List.{List}
 use native.Mathlib.Omega.{arith}
-use lib.ListN.{length, drop, replicate, length-map, length-append, length-drop, length-replicate}
+use lib.ListN.{length, drop, replicate, length-append, length-drop, length-replicate}
 use lib.Seq.{take-append-seam, drop-append-seam}
 use Rattle.model.specs.Command.{Command}
 use Rattle.model.specs.Declared.{turnsOf}
@@ -12,19 +12,18 @@ use Rattle.model.specs.Program.{Program, programOf}
 use Rattle.model.specs.State.{initialState}
 use Rattle.model.specs.Turn.{turn}
 use Rattle.model.specs.Permission.{monitoredTurn}
-use Rattle.model.specs.Run.{Run, Step, entriesOf, monitoredRun, unmonitoredRun}
+use Rattle.model.specs.Run.{Run, monitoredRun, unmonitoredRun}
 use Rattle.model.specs.Output.{traceIn, snapshotBytes}
 use Rattle.model.specs.Refusal.{Refusal, Decoded, accepted, rejected, Sizes, workSize, decodeFor}
-use Rattle.model.specs.Result.{Result, refused, report, resultOf, monitored, unmonitored, Buffers, sizesOf, written}
-use Rattle.model.specs.Conclusion.{Refuses, Accepts, Ends, monitoredOf, unmonitoredOf, BothEnd, Concluded, Filled, Leaves}
-use Rattle.model.specs.Conclusion.{Demand1Holds}
+use Rattle.model.specs.Result.{refused, report, resultOf, monitored, unmonitored, Buffers, sizesOf, written}
+use Rattle.model.specs.Conclusion.{Refuses, Accepts, Ends, BothEnd, Concluded, Filled, Leaves, Demand1Holds}
 use Rattle.model.proofs.Walking.{Decides, decode-for-walked}
 use Rattle.model.proofs.Retracing.{accepts-decodes, refuses-decodes}
 use Rattle.model.proofs.Valid.{reads-valid, limits}
 use Rattle.model.proofs.Growth.{length-turns}
 use Rattle.model.proofs.Results.{buffers-fit, monitored-refused, unmonitored-refused, monitored-ran, unmonitored-ran}
 use Rattle.model.proofs.Stops.{turn-stops, monitored-stops, run-stops, run-not-one}
-use Rattle.model.proofs.Bounds.{RunBounded, length-trace, unmonitored-fits, monitored-fits, snapshot-fits}
+use Rattle.model.proofs.Bounds.{RunBounded, length-trace-in, unmonitored-fits, monitored-fits, snapshot-fits}
 
 -- a run of an accepted job that keeps the bounds
 ends : (job : List ℕ) (b : Sizes) (past : List Command) → Accepts job b past → (r : Run) → r .stop ≤ 3
@@ -35,8 +34,7 @@ ends job b past a r stop bounded =
     let l = limits past v .turns in
     let s = bounded .steps in
     let n = length-turns past in
-    let m : length (traceIn r) ≡ 7 * length (r .steps) = length-trace (entriesOf (r .steps))
-    ∙ ap (λ (k : ℕ). 7 * k) (length-map (r .steps) (λ (t : Step). t .made)) in
+    let m = length-trace-in r in
     let q = buffers .0 in
     record {
       stops = stop;
@@ -77,18 +75,18 @@ both-end job b past a =
     }
 
 -- a refusal comes from decoding
-result-refused : (run : Program → List ℕ → Run) (d : Decoded) (r : Refusal) → resultOf run d ≡ refused r → d ≡ rejected r
+pub result-refused : (run : Program → List ℕ → Run) (d : Decoded) (r : Refusal) → resultOf run d ≡ refused r → d ≡ rejected r
 unfolding report
 result-refused run (accepted past) r e = let w : _≡_ {A = ℕ} 0 1 = cc in absurd (omega arith)
 result-refused run (rejected q) r e = cc
 
 -- what a job comes to, by what it is decoded to
-module _ (job : List ℕ) (b : Sizes) where
-  by-decoded : (d : Decoded) → Decides (Accepts job b) (Refuses job b) d
-      → ((r : Refusal) × Refuses job b r) ⊎ ((past : List Command) × Accepts job b past)
-  by-decoded (accepted past) a = inr (past, a)
-  by-decoded (rejected r) q = inl (r, q)
+pub by-decoded : (Q : List Command → Type 0) (R : Refusal → Type 0) (d : Decoded) → Decides Q R d
+    → ((r : Refusal) × R r) ⊎ ((past : List Command) × Q past)
+by-decoded Q R (accepted past) a = inr (past, a)
+by-decoded Q R (rejected r) q = inl (r, q)
 
+module _ (job : List ℕ) (b : Sizes) where
   cause : (r : Refusal) → decodeFor job b ≡ rejected r → Refuses job b r
   cause r e = rw e at (decode-for-walked job b)
 
@@ -96,7 +94,7 @@ module _ (job : List ℕ) (b : Sizes) where
   unfolding monitored unmonitored
   concluded =
       record {
-        decided = by-decoded (decodeFor job b) (decode-for-walked job b);
+        decided = by-decoded (Accepts job b) (Refuses job b) (decodeFor job b) (decode-for-walked job b);
         monitoredRefuses = λ r. (
           λ e. cause r (result-refused monitoredRun (decodeFor job b) r e),
           λ q. monitored-refused job b r
@@ -127,45 +125,47 @@ refused-leaves r b = record {
       absurd (omega arith);
 }
 
-ran-leaves : (P : Program) (b : Buffers) (r : Run) → Ends P (sizesOf b) r → Leaves (report P r) b
+pub ran-leaves : (P : Program) (b : Buffers) (r : Run) → length (traceIn r) ≤ length (b .trace)
+    → length (snapshotBytes P (r .final)) ≤ length (b .snapshot) → workSize ≤ length (b .work) → Leaves (report P r) b
 unfolding report
-ran-leaves P b r e =
+ran-leaves P b r trace snapshot work =
     record {
       untouched = λ q w. let z : _≡_ {A = ℕ} 0 1 = cc in absurd (omega arith);
       filled = λ a t s w.
           let t-same : traceIn r ≡ t = cc in
           let s-same : snapshotBytes P (r .final) ≡ s = cc in
-          let fits : length (snapshotBytes P (r .final)) ≤ length (b .snapshot) = omega (arith, e .snapshotLength, e .snapshotFits) in
           rw (← t-same, ← s-same) (
-            written-filled (traceIn r) (b .trace) (e .traceFits),
-            written-filled (snapshotBytes P (r .final))
-                (b .snapshot) fits,
-            written-filled (replicate workSize 0) (b .work) (rw (length-replicate {A = ℕ} workSize 0) (e .workFits)),
+            written-filled (traceIn r) (b .trace) trace,
+            written-filled (snapshotBytes P (r .final)) (b .snapshot) snapshot,
+            written-filled (replicate workSize 0) (b .work) (rw (length-replicate {A = ℕ} workSize 0) work),
           );
     }
 
--- the buffers after a run of every job, by what it hands over
+-- the buffers after what is handed over for a job, by what it is decoded to
+pub leaves :
+    (run : Program → List ℕ → Run) (b : Buffers) (Q : List Command → Type 0) (R : Refusal → Type 0) (d : Decoded)
+    → ((past : List Command) → Q past → Leaves (report (programOf past) (run (programOf past) (turnsOf past))) b)
+    → Decides Q R d → Leaves (resultOf run d) b
+leaves run b Q R (accepted past) h q = h past q
+leaves run b Q R (rejected r) h q = refused-leaves r b
+
 module _ (job : List ℕ) (b : Buffers) where
-  leaves :
-      (result : Result) (run : List Command → Run) → ((r : Refusal) → (result ≡ refused r) ↔ Refuses job (sizesOf b) r)
-      → ((past : List Command) → Accepts job (sizesOf b) past
-      → (result ≡ report (programOf past) (run past)) × Ends (programOf past) (sizesOf b) (run past))
-      → Leaves result b
-  leaves result run refuses runs = by-case (concluded job (sizesOf b) .decided)
-    where
-      by-case : ((r : Refusal) × Refuses job (sizesOf b) r) ⊎ ((past : List Command) × Accepts job (sizesOf b) past) → Leaves result b
-      by-case (inl (r, q)) = rw (refuses r .1 q) (refused-leaves r b)
-      by-case (inr (past, a)) = let e = runs past a in rw (e .0) (ran-leaves (programOf past) b (run past) (e .1))
+  leaves-by : (run : Program → List ℕ → Run)
+      → ((past : List Command) → Accepts job (sizesOf b) past → Ends (programOf past) (sizesOf b) (run (programOf past) (turnsOf past)))
+      → Leaves (resultOf run (decodeFor job (sizesOf b))) b
+  leaves-by run ends =
+      leaves run b (Accepts job (sizesOf b)) (Refuses job (sizesOf b)) (decodeFor job (sizesOf b))
+      (λ past a. let e = ends past a in
+      ran-leaves (programOf past) b _ (e .traceFits) (omega (arith, e .snapshotLength, e .snapshotFits)) (e .workFits))
+      (decode-for-walked job (sizesOf b))
 
   pub monitored-leaves : Leaves (monitored job (sizesOf b)) b
-  monitored-leaves =
-      leaves (monitored job (sizesOf b)) monitoredOf (concluded job (sizesOf b) .monitoredRefuses)
-      (λ past a. let e = both-end job (sizesOf b) past a in (e .monitoredReports, e .monitoredEnds))
+  unfolding monitored
+  monitored-leaves = leaves-by monitoredRun (λ past a. both-end job (sizesOf b) past a .monitoredEnds)
 
   pub unmonitored-leaves : Leaves (unmonitored job (sizesOf b)) b
-  unmonitored-leaves =
-      leaves (unmonitored job (sizesOf b)) unmonitoredOf (concluded job (sizesOf b) .unmonitoredRefuses)
-      (λ past a. let e = both-end job (sizesOf b) past a in (e .unmonitoredReports, e .unmonitoredEnds))
+  unfolding unmonitored
+  unmonitored-leaves = leaves-by unmonitoredRun (λ past a. both-end job (sizesOf b) past a .unmonitoredEnds)
 
 -- demand 1
 pub demand1 : Demand1Holds

@@ -6,7 +6,7 @@ use mathlib.Core.List.{List, [], _∷_}
 use mathlib.Core.Option.{none, some}
 use native.Mathlib.Omega.{arith}
 use lib.Dec.{ltb, eqb}
-use borrow.Author.Tests.{ltb-false, eqb-false}
+use borrow.Author.Tests.{le-ltb, ltb-false, ne-eqb, eqb-false}
 use Rattle.model.specs.Table.{TURN, maxTurns}
 use Rattle.model.specs.Command.{Command, is}
 use Rattle.model.specs.Declared.{countOf}
@@ -45,6 +45,10 @@ none-no-turn [] e = refl
 none-no-turn (c ∷ past) e =
     let h = first-none 14 (λ before c. is TURN c) c past e in
     count-other TURN c past (h .1) ∙ none-no-turn past (h .0)
+
+-- a budget that is neither 0 nor above 4,096
+pub budget-good : (budget : ℕ) → 1 ≤ budget → budget ≤ maxTurns → badBudget budget ≡ false
+budget-good budget l h = rw (ne-eqb budget 0 (λ z. omega arith), le-ltb maxTurns budget h)
 
 module _ (budget : ℕ) (job : List ℕ) (b : Sizes) where
   -- 13, before all others

@@ -30,6 +30,11 @@ only-each {A} Q d l true a older new i h = by-place (ltb i (length l)) refl
         let last : length l ≡ i = omega (arith, ltb-false i (length l) q, length-append l (a ∷ [])) in
         rw (getD-at l a [] d i last) (rw last at (new refl))
 
+-- every number of a list is below k
+abbrev pub AllBelow : ℕ → List ℕ → Type 0
+AllBelow k [] = Unit {0}
+AllBelow k (n ∷ ns) = (n < k) × AllBelow k ns
+
 -- another default changes nothing inside a list
 pub getD-default : {A : Type 0} (l : List A) (i : ℕ) (d e : A) → i < length l → getD l i d ≡ getD l i e
 getD-default [] i d e h = absurd (omega arith)

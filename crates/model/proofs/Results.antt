@@ -14,7 +14,7 @@ use Rattle.model.specs.Declared.{countOf, turnsOf}
 use Rattle.model.specs.Program.{programOf}
 use Rattle.model.specs.Run.{monitoredRun, unmonitoredRun}
 use Rattle.model.specs.Refusal.{Refusal, refuse, Decoded, accepted, rejected, decode, acceptUnless, andThen, firstOf, farJump}
-use Rattle.model.specs.Refusal.{unusedPermission, decodeJob, Sizes, shortBuffer, decodeFor}
+use Rattle.model.specs.Refusal.{unusedPermission, decodeJob, Sizes, shortBufferFor, shortBuffer, decodeFor}
 use Rattle.model.specs.Result.{refused, report, monitored, unmonitored}
 
 -- the tests 9 and 19, by what came before
@@ -57,26 +57,26 @@ and-then-accepted test (accepted all) past e = by-test (test all) refl e
     by-test (some r) p q = let w : _≡_ {A = ℕ} 0 1 = cc in absurd (omega arith)
 and-then-accepted test (rejected r) past e = let w : _≡_ {A = ℕ} 0 1 = cc in absurd (omega arith)
 
--- no buffer is too short
-pub buffers-fit : (job : List ℕ) (b : Sizes) (past : List Command) → shortBuffer job b past ≡ none
-    → (7 * countOf TURN past ≤ b .trace) × (3136 ≤ b .snapshot) × (4096 ≤ b .work)
-buffers-fit job b past e = by-tests (ltb (b .trace) (7 * countOf TURN past)) refl (ltb (b .snapshot) 3136) refl (ltb (b .work) 4096) refl e
+-- no buffer is too short for so many turns
+pub buffers-fit-for : (job : List ℕ) (b : Sizes) (turns : ℕ) → shortBufferFor job b turns ≡ none
+    → (7 * turns ≤ b .trace) × (3136 ≤ b .snapshot) × (4096 ≤ b .work)
+buffers-fit-for job b turns e = by-tests (ltb (b .trace) (7 * turns)) refl (ltb (b .snapshot) 3136) refl (ltb (b .work) 4096) refl e
   where
     by-tests :
-        (t : Bool) → ltb (b .trace) (7 * countOf TURN past) ≡ t → (u : Bool) → ltb (b .snapshot) 3136 ≡ u → (v : Bool)
+        (t : Bool) → ltb (b .trace) (7 * turns) ≡ t → (u : Bool) → ltb (b .snapshot) 3136 ≡ u → (v : Bool)
         → ltb (b .work) 4096 ≡ v
         → cond t (some (refuse 10 (length job))) (cond u (some (refuse 11 (length job)))
         (cond v (some (refuse 12 (length job))) none)) ≡ none
-        → (7 * countOf TURN past ≤ b .trace) × (3136 ≤ b .snapshot) × (4096 ≤ b .work)
+        → (7 * turns ≤ b .trace) × (3136 ≤ b .snapshot) × (4096 ≤ b .work)
     by-tests true p u q v r z = let w : _≡_ {A = ℕ} 0 1 = cc in absurd (omega arith)
     by-tests false p true q v r z = let w : _≡_ {A = ℕ} 0 1 = cc in absurd (omega arith)
     by-tests false p false q true r z = let w : _≡_ {A = ℕ} 0 1 = cc in absurd (omega arith)
-    by-tests false p false q false r z = (
-      ltb-false (b .trace) (7 * countOf TURN past) p,
-      ltb-false (b .snapshot) 3136 q,
-      ltb-false
-          (b .work) 4096 r,
-    )
+    by-tests false p false q false r z = (ltb-false (b .trace) (7 * turns) p, ltb-false (b .snapshot) 3136 q, ltb-false (b .work) 4096 r)
+
+-- for the turns of the job
+pub buffers-fit : (job : List ℕ) (b : Sizes) (past : List Command) → shortBuffer job b past ≡ none
+    → (7 * countOf TURN past ≤ b .trace) × (3136 ≤ b .snapshot) × (4096 ≤ b .work)
+buffers-fit job b past = buffers-fit-for job b (countOf TURN past)
 
 module _ (job : List ℕ) (b : Sizes) where
   pub decode-for-rejected : (r : Refusal) → decodeJob job ≡ rejected r → decodeFor job b ≡ rejected r

@@ -21,11 +21,11 @@ use Rattle.model.proofs.Stops.{run-not-one}
 use Rattle.model.proofs.Conclusion.{both-end, concluded, monitored-leaves, unmonitored-leaves}
 
 -- a run that is stopped at its turn n
-abbrev haltedRun : Run → ℕ → Run
+abbrev pub haltedRun : Run → ℕ → Run
 haltedRun r n = record { steps = take n (r .steps); stop = 1; attempted = redacted (entryAt r n); final = stateAt r n }
 
 -- a run and the same run under the lists: they agree, or the second one is the first stopped at its first forbidden turn
-data Compared (P : Program) (u m : Run) : Type 0 where
+pub data Compared (P : Program) (u m : Run) : Type 0 where
   agree : AllPermitted P u → m ≡ u → Compared P u m
   halt : (n : ℕ) → FirstForbidden P u n → m ≡ haltedRun u n → Compared P u m
 
@@ -55,7 +55,7 @@ step-compared P s e u m p (halt n first same) = halt (suc n) front (ap (after s 
     }
 
 -- one turn and what follows it, by what the turn comes to
-turn-compared :
+pub turn-compared :
     (P : Program) (s : State) (rest rest′ : State → Run) (t : Turned)
     → ((s′ : State) → Compared P (rest s′) (rest′ s′))
     → Compared P (proceed rest s t) (proceed rest′ s (enforced P t))
@@ -100,7 +100,7 @@ module _ (P : Program) (u m : Run) where
   decided (agree all same) = inr all
   decided (halt n first same) = inl (n, first)
 
-  identical : Compared P u m → AllPermitted P u → m ≡ u
+  pub identical : Compared P u m → AllPermitted P u → m ≡ u
   identical (agree _ same) all = same
   identical (halt n first same) all = absurd (none-forbidden all n (first .isForbidden))
 
@@ -122,7 +122,7 @@ module _ (P : Program) (u m : Run) where
       omega arith
 
   -- where turn n is the first forbidden one, the second run is the first one stopped there
-  stops : Compared P u m → (n : ℕ) → FirstForbidden P u n → m ≡ haltedRun u n
+  pub stops : Compared P u m → (n : ℕ) → FirstForbidden P u n → m ≡ haltedRun u n
   stops (agree all same) n first = absurd (none-forbidden all n (first .isForbidden))
   stops (halt k first′ same) n first = same ∙ ap (haltedRun u) (same-first k n first′ first)
 
@@ -140,20 +140,23 @@ halted-report : (P : Program) (r : Run) (n : ℕ) → n < length (r .steps) → 
 unfolding report
 halted-report P r n h = let le : n ≤ length (r .steps) = omega arith in rw (length-take-le n (r .steps) le, entries-take n (r .steps))
 
--- both runs of any turns of any program
-pub runs-compared : (P : Program) (turns : List ℕ) → Comparison P (unmonitoredRun P turns) (monitoredRun P turns)
-unfolding unmonitoredRun monitoredRun
-runs-compared P turns =
-    let u = runFrom (turn P) turns (initialState P) in
-    let m = runFrom (monitoredTurn P) turns (initialState P) in
-    let both = run-compared P turns (initialState P) in
+-- two runs that compare so
+pub comparison : (P : Program) (u m : Run) → (u .stop ≡ 1 → ⊥) → Compared P u m → Comparison P u m
+comparison P u m never both =
     record {
       decided = decided P u m both;
       identical = λ all. ap (report P) (identical P u m both all);
       stops = λ n first. ap (report P) (stops P u m both n first) ∙ halted-report P u n (first .isForbidden .isCompleted);
-      stopOne = stop-one P u m (run-not-one P turns (initialState P)) both;
+      stopOne = stop-one P u m never both;
       safe = safe P u m both;
     }
+
+-- both runs of any turns of any program
+pub runs-compared : (P : Program) (turns : List ℕ) → Comparison P (unmonitoredRun P turns) (monitoredRun P turns)
+unfolding unmonitoredRun monitoredRun
+runs-compared P turns =
+    comparison P (runFrom (turn P) turns (initialState P)) (runFrom (monitoredTurn P) turns (initialState P))
+    (run-not-one P turns (initialState P)) (run-compared P turns (initialState P))
 
 -- demand 3
 pub demand3 : Demand3Holds

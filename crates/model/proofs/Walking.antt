@@ -21,6 +21,13 @@ abbrev pub Decides : (List Command → Type 0) → (Refusal → Type 0) → Deco
 Decides Q R (accepted past) = Q past
 Decides Q R (rejected r) = R r
 
+-- where other properties follow
+pub decides-on :
+    (Q S : List Command → Type 0) (R T : Refusal → Type 0) (d : Decoded)
+    → ((past : List Command) → Q past → S past) → ((r : Refusal) → R r → T r) → Decides Q R d → Decides S T d
+decides-on Q S R T (accepted past) pass fail q = pass past q
+decides-on Q S R T (rejected r) pass fail q = fail r q
+
 -- the walk over a job that is neither empty nor too long
 module _ (job : List ℕ) (b : Sizes) (size : HasLength job) where
   abbrev Walked : Decoded → Type 0
@@ -67,11 +74,6 @@ pub decode-walked : (job : List ℕ) (b : Sizes) → Decides (PassedEight job) (
 unfolding decode
 decode-walked job b = by-length (eqb (length job) 0) refl (ltb maxJob (length job)) refl
   where
-    sized : (size : HasLength job) (d : Decoded) → Decides (Reads job (length job)) (Refuses job b) d
-        → Decides (PassedEight job) (Refuses job b) d
-    sized size (accepted past) q = record { size = size; reads = q }
-    sized size (rejected r) q = q
-
     by-length :
         (t : Bool) → eqb (length job) 0 ≡ t → (u : Bool) → ltb maxJob (length job) ≡ u
         → Decides (PassedEight job) (Refuses job b) (cond (t || u) (rejected (refuse 1 0)) (decodeFrom (length job) job 0 []))
@@ -83,10 +85,12 @@ decode-walked job b = by-length (eqb (length job) 0) refl (ltb maxJob (length jo
           highest = ltb-false maxJob
               (length job) q;
         } in
-        sized size (decodeFrom (length job) job 0 []) (from-walked job b size (length job) 0 [] begin (omega arith) (omega arith))
+        decides-on (Reads job (length job)) (PassedEight job) (Refuses job b) (Refuses job b) (decodeFrom (length job) job 0 [])
+        (λ past q. record { size = size; reads = q }) (λ r q. q)
+        (from-walked job b size (length job) 0 [] begin (omega arith) (omega arith))
 
 -- a further test, if all commands are accepted so far
-and-then-walked :
+pub and-then-walked :
     (Q S : List Command → Type 0) (R : Refusal → Type 0) (test : List Command → Option Refusal) (d : Decoded)
     → ((past : List Command) → Q past → test past ≡ none → S past)
     → ((past : List Command) (r : Refusal) → Q past → test past ≡ some r → R r)

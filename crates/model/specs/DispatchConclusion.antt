@@ -70,7 +70,8 @@ pub record BothDispatched (budget : ℕ) (job : List ℕ) (b : Sizes) (past : Li
   pub unmonitoredHands : dispatchUnmonitored budget job b ≡ handed (programOf past) (unmonitoredDispatch (programOf past) budget)
   pub monitoredEnds : DispatchEnds (programOf past) budget b (monitoredDispatch (programOf past) budget .run)
   pub unmonitoredEnds : DispatchEnds (programOf past) budget b (unmonitoredDispatch (programOf past) budget .run)
-  -- the choices as TURN commands after the job give the same trace, snapshot and answer, with stop 0 for 4, if the longer job is short enough
+  -- the choices as TURN commands after the job give the same trace, snapshot and answer, with stop 0 for 4, if the longer job has at most
+  -- 16,384 bytes
   pub monitoredWritten :
       length (withChoices job (monitoredDispatch (programOf past) budget)) ≤ maxJob
       → monitored (withChoices job (monitoredDispatch (programOf past) budget)) b
@@ -87,10 +88,13 @@ refusedWith r = record { result = refused r; examined = 0 }
 -- what a dispatched job with any budget and any buffers comes to, whatever they hold
 pub record DispatchConcluded (budget : ℕ) (job : List ℕ) (b : Buffers) : Type 0 where
   -- it is refused or accepted
-  pub decided : ((r : Refusal) × DispatchRefuses budget job (sizesOf b) r) ⊎ ((past : List Command) × DispatchAccepts budget job (sizesOf b) past)
+  pub decided : ((r : Refusal) × DispatchRefuses budget job (sizesOf b) r)
+      ⊎ ((past : List Command) × DispatchAccepts budget job (sizesOf b) past)
   -- both runs refuse it exactly so
-  pub monitoredRefuses : (r : Refusal) → (dispatchMonitored budget job (sizesOf b) ≡ refusedWith r) ↔ DispatchRefuses budget job (sizesOf b) r
-  pub unmonitoredRefuses : (r : Refusal) → (dispatchUnmonitored budget job (sizesOf b) ≡ refusedWith r) ↔ DispatchRefuses budget job (sizesOf b) r
+  pub monitoredRefuses : (r : Refusal)
+      → (dispatchMonitored budget job (sizesOf b) ≡ refusedWith r) ↔ DispatchRefuses budget job (sizesOf b) r
+  pub unmonitoredRefuses : (r : Refusal)
+      → (dispatchUnmonitored budget job (sizesOf b) ≡ refusedWith r) ↔ DispatchRefuses budget job (sizesOf b) r
   -- if it is accepted, both runs end, and compare
   pub runs : (past : List Command) → DispatchAccepts budget job (sizesOf b) past → BothDispatched budget job (sizesOf b) past
   pub compared : (past : List Command) → DispatchAccepts budget job (sizesOf b) past

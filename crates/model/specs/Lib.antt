@@ -25,6 +25,7 @@ pub mod Readings
 -- statements on change requests
 pub mod Dispatching
 pub mod DispatchConclusion
+pub mod DispatchExamples
 pub mod LargestCounts
 pub mod LeastPrivilege
 pub mod Parts

@@ -21,7 +21,6 @@ use declared::count_of;
 use ending::Halt;
 use ending::Made;
 use ending::ending_of;
-use engine::State;
 use engine::start;
 use entries::Outcome;
 use handlers::fetch::fetch;
@@ -33,14 +32,14 @@ use output::snapshot::put_snapshot;
 use output::trace::put_entry;
 
 // Whose turn k is: the node of the job's TURN k, for which nobody is examined, or the dispatcher's choice, going round from a number on.
-fn choice_of(
+fn choice_of<'a>(
     job: &[u8],
     tables: &[u32],
     schedule: Schedule,
     k: u32,
     from: u32,
-    position: &[u32; 32],
-    waiting: &[u8; 32],
+    position: &'a [u32; 32],
+    waiting: &'a [u8; 32],
 ) -> Choice
     requires { ⌜ countIn (now tables) NODE ≤ 32 ⌝ }
     requires { ⌜ from ≤ countIn (now tables) NODE ⌝ }
@@ -53,26 +52,8 @@ fn choice_of(
     }
 }
 
-// Puts the snapshot (01's "picture") of a state: the nodes and the variables that the tables stand for.
-fn put_state(snapshot: &mut [u8], s: &State, tables: &[u32]) {
-    let nodes = count_of(tables, bytes::NODE) as usize;
-    let variables = count_of(tables, bytes::VAR) as usize;
-    put_snapshot(
-        snapshot,
-        &s.position,
-        &s.accumulator,
-        &s.message,
-        &s.waiting,
-        &s.queue,
-        &s.sender,
-        &s.variable,
-        nodes,
-        variables,
-    );
-}
-
 // The run of an accepted job from the start to its last turn or a stop, its turns given in either way: how it ended and what was examined,
-// its entries in the trace, and the snapshot of its last state.
+// its entries in the trace, and the snapshot (01's "picture") of its last state.
 pub fn run_turns(
     job: &[u8],
     tables: &[u32],
@@ -126,6 +107,19 @@ pub fn run_turns(
         }
     }
     let ending = ending_of(halt, k);
-    put_state(snapshot, &s, tables);
+    let nodes = count_of(tables, bytes::NODE) as usize;
+    let variables = count_of(tables, bytes::VAR) as usize;
+    put_snapshot(
+        snapshot,
+        &s.position,
+        &s.accumulator,
+        &s.message,
+        &s.waiting,
+        &s.queue,
+        &s.sender,
+        &s.variable,
+        nodes,
+        variables,
+    );
     Made { ending, examined }
 }
