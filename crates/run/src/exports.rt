@@ -37,7 +37,8 @@ fn numbers_in(answer: Answer) -> [u64; 8]
 fn numbers_with(report: Report) -> [u64; 9]
     ensures { λ r. ⌜ r ≡ numbersWith (toldBy (report .answer)) (report .examined) ⌝ }
 {
-    let n = numbers_in(report.answer);
+    let answer = report.answer;
+    let n = numbers_in(answer);
     [
         n[0],
         n[1],

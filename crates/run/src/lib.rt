@@ -81,8 +81,9 @@ pub fn run(
         },
         Verdict::Accepted => {
             let made = run_accepted(job, schedule, &tables, trace, snapshot, work, monitored);
+            let ending = made.ending;
             Report {
-                answer: Answer::Ended(made.ending),
+                answer: Answer::Ended(ending),
                 examined: made.examined,
             }
         }

@@ -3,7 +3,7 @@ use denote.Ref.{now}
 use borrow.Author.Needs.{needs}
 use Rattle.job.proofs.Judged.{is-accepted, is-refused}
 use Rattle.run.specs.Answers.{buffers}
-use Rattle.run.proofs.Delivering.{delivers-refused, delivers-ran}
+use Rattle.run.proofs.Delivering.{reports-refused, reports-ran}
 use Rattle.run.proofs.run.Statement.{statement}
 use Rattle.run.proofs.run.Tie as tie
 
@@ -25,9 +25,10 @@ run-accepted-requires c κs =
 returns : tie.Need-returns
 returns c =
     let z = c .before .before .before .before .before .before .before .before .before .args in
-    let d = delivers-refused (z .monitored) (now (z .job)) (buffers (now (z .trace)) (now (z .snapshot)) (now (z .work))) _
+    let d = reports-refused (z .schedule) (z .monitored) (now (z .job)) (buffers (now (z .trace)) (now (z .snapshot)) (now (z .work))) _
     (is-refused _ _ _ _ (c .before .before .before .judge .ensures .judged) (c .before .verdict .given .1)) in
-    (d .told, (d .left .trace, (d .left .snapshot, d .left .work)))
+    let l = d .delivers .left in
+    (d .delivers .told, (d .examined, (l .trace, (l .snapshot, l .work))))
 
 same-length : tie.Need-same-length
 same-length c = search needs
@@ -40,15 +41,15 @@ same-length-3 c = search needs
 
 returns-2 : tie.Need-returns-2
 returns-2 c =
-    let p6 = c .before .before .before .before .before .before in
-    let p11 = p6 .before .before .before .before .before in
-    let p13 = p11 .before .before in
-    let p19 = p13 .before .before .before .before .before .before in
-    let z = p19 .args in
-    let a = is-accepted _ _ _ (p13 .judge .ensures .judged) (p11 .enum-told .given .1) in
-    let d = delivers-ran (z .monitored) (now (z .job)) (buffers (now (z .trace)) (now (z .snapshot)) (now (z .work))) (buffers _ _ _) _
-    (a .past) (a .decoded) (p6 .run-accepted .ensures) in
-    (d .told, (d .left .trace, (d .left .snapshot, d .left .work)))
+    let p7 = c .before .before .before .before .before .before .before in
+    let p12 = p7 .before .before .before .before .before in
+    let p14 = p12 .before .before in
+    let z = p14 .before .before .before .before .before .before .args in
+    let a = is-accepted _ _ _ (p14 .judge .ensures .judged) (p12 .enum-told .given .1) in
+    let d = reports-ran (z .schedule) (z .monitored) (now (z .job)) (buffers (now (z .trace)) (now (z .snapshot)) (now (z .work))) (buffers _ _ _) _
+    (a .past) (a .decoded) (p7 .run-accepted .ensures) in
+    let l = d .delivers .left in
+    (d .delivers .told, (d .examined, (l .trace, (l .snapshot, l .work))))
 
 pub run-spec : {M : Type 1} → statement M
 run-spec =
