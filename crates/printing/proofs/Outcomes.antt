@@ -1,18 +1,19 @@
 -- What a run delivers can be printed, and what is printed of it is the text of the model's result.
 use Prim.Native.Nat.{ℕ, _+_, _*_, _≤_}
-use mathlib.Core.Path.{_≡_, refl, ap, _∙_, subst}
+use mathlib.Core.Path.{_≡_, refl, sym, ap, _∙_, subst}
 use mathlib.Core.Bool.{Bool, true, false, cond}
-use mathlib.Core.List.{List, _++_}
+use mathlib.Core.List.{List, _++_, append-nil}
 use native.Mathlib.Omega.{arith}
 use lib.ListN.{length, drop, length-append, length-map}
 use Rattle.run.specs.declared.answer.Answer.{Answer}
 use Rattle.run.specs.declared.answer.Answer.the-variants as a
-use Rattle.run.specs.Answers.{resultFor, Delivers}
+use Rattle.run.specs.Answers.{handedFor, Delivers}
 use Rattle.writing.specs.Writing.{Writes, placed}
+use Rattle.writing.proofs.Placing.{length-placed}
 use Rattle.output.specs.Finding.{partAt}
 use Rattle.output.proofs.Finding.{parts-of}
-use Rattle.lines.specs.Lines.{runLines}
-use Rattle.run.proofs.Delivering.{result-ran, result-refused}
+use Rattle.lines.specs.Lines.{runLines, refusedLine}
+use Rattle.run.proofs.Delivering.{handed-ran, handed-refused}
 use Rattle.model.specs.Table.{NODE, VAR}
 use Rattle.model.specs.Command.{Command}
 use Rattle.model.specs.Declared.{countOf, turnsOf}
@@ -20,10 +21,16 @@ use Rattle.model.specs.Program.{programOf}
 use Rattle.model.specs.State.{State}
 use Rattle.model.specs.Run.{Run, monitoredRun, unmonitoredRun, entriesOf}
 use Rattle.model.specs.Output.{answerIn, traceIn, nodesBytes, variablesBytes, snapshotBytes}
-use Rattle.model.specs.Refusal.{Decoded, accepted, rejected, decodeJob, shortBuffer, decodeFor}
+use Rattle.model.specs.Dispatch.{monitoredDispatch, unmonitoredDispatch}
+use Rattle.model.specs.DispatchResult.{Handed, handed}
+use Rattle.model.specs.DispatchConclusion.{DispatchEnds}
+use Rattle.model.specs.Refusal.{Refusal, Decoded, accepted, rejected, decodeJob, Sizes, shortBuffer, decodeFor}
 use Rattle.model.specs.Result.{Result, refused, ran, report, Buffers, sizesOf, written, traceAfter, snapshotAfter, workAfter}
 use Rattle.model.specs.Valid.{Bytes, Valid}
 use Rattle.model.proofs.Results.{and-then-accepted}
+use Rattle.model.proofs.DispatchDecoding.{under-accepted}
+use Rattle.model.proofs.DispatchWalking.{walked}
+use Rattle.model.proofs.DispatchConclusion.{dispatch-concludes}
 use Rattle.model.proofs.Valid.{job-valid, limits}
 use Rattle.model.proofs.Growth.{length-turns}
 use Rattle.model.proofs.Bounds.{length-trace, length-variables, RunBounded, monitored-fits, unmonitored-fits, snapshot-fits}
@@ -33,11 +40,14 @@ use Rattle.model.specs.Refusal.{IsAccepted, commandsOf}
 use Rattle.tables.specs.Stands.{Stands}
 use Rattle.job.specs.declared.Verdict.{Verdict}
 use Rattle.job.specs.Decoding.{Decides}
+use Rattle.job.specs.declared.schedule.Schedule.{Schedule}
+use Rattle.job.specs.declared.schedule.Schedule.the-variants as s
+use Rattle.job.specs.Scheduling.{decodeBy}
 use Rattle.turns.specs.declared.ending.Ending.{Ending}
 use Rattle.turns.specs.Endings.{answerOf}
 use Rattle.turns.specs.Runs.{runOf}
 use Rattle.printing.specs.declared.Printed.the-variants as p
-use Rattle.printing.specs.Printing.{nodesIn, variablesIn, resultLines, textSize, noRoom, saidBy, saidOf}
+use Rattle.printing.specs.Printing.{nodesIn, variablesIn, totalLines, linesBy, textSize, noRoom, saidBy, saidOf}
 use Rattle.printing.proofs.Fronts.{parts-end, run-front}
 use Rattle.printing.proofs.Short.{run-short}
 
@@ -53,47 +63,84 @@ refused-result (refused p) before after x q d e = let told = rw e at (d .told) i
 refused-result (ran y trace snapshot) before after x q d e = let told = rw e at (d .told) in let w : _≡_ {A = ℕ} 0 1 = cc in absurd (omega
     arith)
 
+-- a run of a job's commands whose lines fit: at most 4,096 turns, and a snapshot of at most 3,136 bytes
+pub record Shown (past : List Command) (r : Run) : Type 0 where
+  pub steps : length (r .steps) ≤ 4096
+  pub snapshot : length (snapshotBytes (programOf past) (r .final)) ≤ 3136
+
+-- both runs of written turns
+bounded-shown : (past : List Command) → Valid past → (r : Run) → RunBounded (length (turnsOf past)) r → Shown past r
+bounded-shown past v r bounded = record {
+  steps = omega (arith, bounded .steps, length-turns past, limits past v .turns);
+  snapshot = snapshot-fits past v (turnsOf past) (r .final) (bounded .final);
+}
+
+-- and of dispatched ones
+ends-shown : (past : List Command) (budget : ℕ) (b : Sizes) (r : Run) → budget ≤ 4096 → DispatchEnds (programOf past) budget b r → Shown past r
+ends-shown past budget b r few ends = record { steps = omega (arith, ends .turns); snapshot = ends .snapshotLength }
+
+runs-shown : (schedule : Schedule) (m : Bool) (job : List ℕ) (b : Buffers) (past : List Command) → decodeBy schedule job (sizesOf b) ≡ accepted past
+    → decodeJob job ≡ accepted past → Shown past (runOf schedule m past .run)
+unfolding monitoredRun unmonitoredRun monitoredDispatch unmonitoredDispatch
+runs-shown s.Written true job b past e d =
+    let v = job-valid job past d .commands in
+    bounded-shown past v (runOf s.Written true past .run) (monitored-fits past v (turnsOf past))
+runs-shown s.Written false job b past e d =
+    let v = job-valid job past d .commands in
+    bounded-shown past v (runOf s.Written false past .run) (unmonitored-fits past v (turnsOf past))
+runs-shown (s.Dispatched budget) true job b past e d =
+    let a = rw e at (walked budget job (sizesOf b)) in
+    ends-shown past budget (sizesOf b) _ (a .hasBudget .highest) (dispatch-concludes budget job b .runs past a .monitoredEnds)
+runs-shown (s.Dispatched budget) false job b past e d =
+    let a = rw e at (walked budget job (sizesOf b)) in
+    ends-shown past budget (sizesOf b) _ (a .hasBudget .highest) (dispatch-concludes budget job b .runs past a .unmonitoredEnds)
+
+-- a job that is accepted in either way is accepted by the tests of every job
+decoded-by : (schedule : Schedule) (job : List ℕ) (b : Sizes) (past : List Command) → decodeBy schedule job b ≡ accepted past
+    → decodeJob job ≡ accepted past
+unfolding decodeFor
+decoded-by s.Written job b past e = and-then-accepted (shortBuffer job b) (decodeJob job) past e .0
+decoded-by (s.Dispatched budget) job b past e = under-accepted budget job b past e .0
+
 -- a run that ended is the model's run of the commands of an accepted job
-pub record EndedAs (m : Bool) (job : List ℕ) (before after : Buffers) (x : Ending) : Type 0 where
+pub record EndedAs (schedule : Schedule) (m : Bool) (job : List ℕ) (before after : Buffers) (x : Ending) : Type 0 where
   pub past : List Command
   pub decoded : decodeJob job ≡ accepted past
-  pub result : resultFor m job (sizesOf before) ≡ report (programOf past) (runOf m past)
-  pub answered : answerOf x ≡ answerIn (runOf m past)
-  pub trace : after .trace ≡ written (traceIn (runOf m past)) (before .trace)
-  pub snapshot : after .snapshot ≡ written (snapshotBytes (programOf past) (runOf m past .final)) (before .snapshot)
+  pub handsOver : handedFor schedule m job (sizesOf before) ≡ handed (programOf past) (runOf schedule m past)
+  pub answered : answerOf x ≡ answerIn (runOf schedule m past .run)
+  pub trace : after .trace ≡ written (traceIn (runOf schedule m past .run)) (before .trace)
+  pub snapshot : after .snapshot ≡ written (snapshotBytes (programOf past) (runOf schedule m past .run .final)) (before .snapshot)
+  pub isShown : Shown past (runOf schedule m past .run)
 
 pub ended-as :
-    (m : Bool) (job : List ℕ) (before after : Buffers) (x : Answer) (y : Ending)
-    → Delivers (resultFor m job (sizesOf before)) before after x → x ≡ a.Ended y → EndedAs m job before after y
-unfolding report decodeFor
-ended-as m job before after x y d e = by-decoded (decodeFor job (sizesOf before)) refl
+    (schedule : Schedule) (m : Bool) (job : List ℕ) (before after : Buffers) (x : Answer) (y : Ending)
+    → Delivers (handedFor schedule m job (sizesOf before) .result) before after x → x ≡ a.Ended y → EndedAs schedule m job before after y
+unfolding report
+ended-as schedule m job before after x y d e = by-decoded (decodeBy schedule job (sizesOf before)) refl
   where
-    by-decoded : (f : Decoded) → decodeFor job (sizesOf before) ≡ f → EndedAs m job before after y
+    by-decoded : (f : Decoded) → decodeBy schedule job (sizesOf before) ≡ f → EndedAs schedule m job before after y
     by-decoded (accepted past) p =
-        let same = result-ran m job (sizesOf before) past p in
-        let given : Delivers (report (programOf past) (runOf m past)) before after (a.Ended y) = subst (λ (z : Answer). Delivers (report
-        (programOf past) (runOf m past)) before after z) e (subst (λ (r : Result). Delivers r before after x) same d) in
+        let same = handed-ran schedule m job (sizesOf before) past p in
+        let given : Delivers (report (programOf past) (runOf schedule m past .run)) before after (a.Ended y) =
+        subst (λ (z : Answer). Delivers (report (programOf past) (runOf schedule m past .run)) before after z) e
+        (subst (λ (h : Handed). Delivers (h .result) before after x) same d) in
         let told = given .told in
+        let plain = decoded-by schedule job (sizesOf before) past p in
         record {
           past = past;
-          decoded = and-then-accepted (shortBuffer job (sizesOf before)) (decodeJob job) past p .0;
-          result = same;
+          decoded = plain;
+          handsOver = same;
           answered = cc;
           trace = given .left .trace;
           snapshot = given .left .snapshot;
+          isShown = runs-shown schedule m job before past p plain;
         }
     by-decoded (rejected r) p =
-        let same = result-refused m job (sizesOf before) r p in
+        let same = handed-refused schedule m job (sizesOf before) r p in
         let given : Delivers (refused r) before after (a.Ended y) = subst (λ (z : Answer). Delivers (refused r) before after z) e (subst
-        (λ (q : Result). Delivers q before after x) same d) in
+        (λ (h : Handed). Delivers (h .result) before after x) same d) in
         let told = given .told in
         let w : _≡_ {A = ℕ} 0 1 = cc in absurd (omega arith)
-
--- both runs are bounded
-runs-bounded : (past : List Command) → Valid past → (m : Bool) → RunBounded (length (turnsOf past)) (runOf m past)
-unfolding monitoredRun unmonitoredRun
-runs-bounded past v true = monitored-fits past v (turnsOf past)
-runs-bounded past v false = unmonitored-fits past v (turnsOf past)
 
 -- the snapshot of a state, by its parts
 module _ (past : List Command) (s : State) where
@@ -108,24 +155,19 @@ module _ (past : List Command) (s : State) where
       omega (arith, parts-of s (countOf NODE past) variables, length-append nodes variables, length-variables s (countOf VAR past))
 
 -- what is printed of a run that ended
-module _ (m : Bool) (job : List ℕ) (before after : Buffers) (x : Ending) (e : EndedAs m job before after x) where
+module _ (schedule : Schedule) (m : Bool) (job : List ℕ) (before after : Buffers) (x : Ending)
+    (e : EndedAs schedule m job before after x) where
   abbrev past : List Command
   past = e .past
 
   abbrev run : Run
-  run = runOf m past
+  run = runOf schedule m past .run
 
   abbrev snapshot : List ℕ
   snapshot = snapshotBytes (programOf past) (run .final)
 
-  bounded : RunBounded (length (turnsOf past)) run
-  bounded = runs-bounded past (job-valid job past (e .decoded) .commands) m
-
   turns-same : x .turns ≡ length (run .steps)
   turns-same = ap (λ a. a .turns) (e .answered)
-
-  turns-most : x .turns ≤ 4096
-  turns-most = omega (arith, turns-same, bounded .steps, length-turns past, limits past (job-valid job past (e .decoded) .commands) .turns)
 
   trace-size : 7 * (x .turns) ≡ length (traceIn run)
   trace-size = omega (arith, turns-same, length-trace (entriesOf (run .steps)), length-map (run .steps) (λ t. t .made))
@@ -155,39 +197,53 @@ module _ (m : Bool) (job : List ℕ) (before after : Buffers) (x : Ending) (e : 
 
   pub lines-short :
       Bytes (after .trace) → Bytes (after .snapshot)
-      → length (runLines (answerOf x) (after .trace) (after .snapshot) (nodesIn job) (variablesIn job)) ≤ textSize
+      → length (runLines (answerOf x) (after .trace) (after .snapshot) (nodesIn job) (variablesIn job)) + 30 ≤ textSize
   lines-short b c =
       omega (
         arith,
         run-short (answerOf x) (after .trace) (after .snapshot) b c (nodesIn job) (variablesIn job),
-        turns-most,
+        turns-same,
+        e .isShown .steps,
         parts,
-        snapshot-fits past (job-valid job past (e .decoded) .commands) (turnsOf past) (run .final) (bounded .final),
+        e .isShown .snapshot,
       )
 
-  pub lines-same : runLines (answerOf x) (after .trace) (after .snapshot) (nodesIn job) (variablesIn job) ≡ resultLines job (resultFor m
-      job (sizesOf before))
+  pub lines-same : (examined : ℕ) → examined ≡ handedFor schedule m job (sizesOf before) .examined
+      → runLines (answerOf x) (after .trace) (after .snapshot) (nodesIn job) (variablesIn job) ++ totalLines schedule examined
+      ≡ linesBy schedule job (handedFor schedule m job (sizesOf before))
   unfolding report
-  lines-same =
+  lines-same examined counted =
       let fits = parts-fit past (run .final) in
-      rw (e .result, e .trace, e .snapshot, ← e .answered)
+      rw (counted, e .handsOver, e .trace, e .snapshot, ← e .answered)
+      (ap (λ (l : List ℕ). l ++ totalLines schedule (handed (programOf past) (runOf schedule m past) .examined))
       (run-front (answerOf x) (traceIn run) (drop (length (traceIn run)) (before .trace)) snapshot (drop (length snapshot) (before
       .snapshot)) (nodesIn job) (variablesIn job) (omega (arith, trace-size)) (rw (nodes-same, variables-same) (omega (
         arith,
         fits,
-      ))))
+      )))))
 
--- what a call with room says and leaves: the lines of the result, and its buffers
+-- the lines of a refusal
+pub refused-same : (schedule : Schedule) (job : List ℕ) (h : Handed) (r : Refusal) → h .result ≡ refused r
+    → refusedLine (r .number) (r .place) ≡ linesBy schedule job h
+refused-same schedule job h r e = rw e (sym (append-nil (refusedLine (r .number) (r .place))))
+
+-- a text is as long as it was
+pub kept-length : (bytes before : List ℕ) (at : ℕ) (after : List ℕ) (next : ℕ) → Writes bytes before at after next
+    → at + length bytes ≤ length before → length after ≡ length before
+kept-length bytes before at after next w h = ap length (w .buffer) ∙ length-placed before at bytes h
+
+-- what a call with room says and leaves: the lines of what is handed over, and its buffers
 pub put-as :
-    (room : Bool) (job text : List ℕ) (at : ℕ) (printed : List ℕ) (next : ℕ) (r : Result) (before after : Buffers) (x : Answer)
-    → room ≡ true → Writes (resultLines job r) text at printed next → Delivers r before after x
-    → (saidBy (p.Put next x) ≡ cond room (saidOf at job r) noRoom)
-    × ((printed ≡ cond room (placed text at (resultLines job r)) text)
-    × ((after .trace ≡ cond room (traceAfter r (before .trace)) (before .trace))
-    × ((after .snapshot ≡ cond room (snapshotAfter r (before .snapshot)) (before .snapshot))
-    × (after .work ≡ cond room (workAfter r (before .work)) (before .work)))))
-put-as true job text at printed next r before after x e w d =
+    (room : Bool) (schedule : Schedule) (job text : List ℕ) (at : ℕ) (printed : List ℕ) (next : ℕ) (h : Handed) (before after : Buffers)
+    (x : Answer)
+    → room ≡ true → Writes (linesBy schedule job h) text at printed next → Delivers (h .result) before after x
+    → (saidBy (p.Put next x) ≡ cond room (saidOf at schedule job h) noRoom)
+    × ((printed ≡ cond room (placed text at (linesBy schedule job h)) text)
+    × ((after .trace ≡ cond room (traceAfter (h .result) (before .trace)) (before .trace))
+    × ((after .snapshot ≡ cond room (snapshotAfter (h .result) (before .snapshot)) (before .snapshot))
+    × (after .work ≡ cond room (workAfter (h .result) (before .work)) (before .work)))))
+put-as true schedule job text at printed next h before after x e w d =
     let place = w .place in
     let told = d .told in
     (cc, (w .buffer, (d .left .trace, (d .left .snapshot, d .left .work))))
-put-as false job text at printed next r before after x e w d = let z : _≡_ {A = ℕ} 0 1 = cc in absurd (omega arith)
+put-as false schedule job text at printed next h before after x e w d = let z : _≡_ {A = ℕ} 0 1 = cc in absurd (omega arith)

@@ -8,7 +8,10 @@ use lib.ListN.{length, length-append}
 use Rattle.text.specs.Text.{decimal, field, fields, line, joined}
 use Rattle.output.specs.Finding.{waitingIn, partAt}
 use Rattle.lines.specs.Lines.{endWord, nodeWord, varWord, refusedWord, entryLine, endLine, messagesAt, nodeLine, partLine}
-use Rattle.lines.specs.Lines.{variableLine, nodeLines, snapshotLines, runLines, refusedLine}
+use Rattle.lines.specs.Lines.{variableLine, nodeLines, snapshotLines, runLines, refusedLine, examinedWord, examinedLine}
+use Rattle.job.specs.declared.schedule.Schedule.{Schedule}
+use Rattle.job.specs.declared.schedule.Schedule.the-variants as s
+use Rattle.printing.specs.Printing.{totalLines}
 use Rattle.text.proofs.Decimals.{decimal-short, decimal-20}
 use Rattle.lines.proofs.Texts.{messageFields, messages-each}
 use Rattle.model.specs.Command.{numberAt}
@@ -195,6 +198,13 @@ refused-short number place =
       field-21 number,
       field-21 place,
     )
+
+-- the examined total
+pub total-short : (schedule : Schedule) (examined : ℕ) → length (totalLines schedule examined) ≤ 30
+unfolding examinedLine
+total-short s.Written examined = omega arith
+total-short (s.Dispatched budget) examined =
+    omega (arith, length-line examinedWord (examined ∷ []), length-fields examined [], no-fields, field-21 examined)
 
 -- a run
 pub run-short :

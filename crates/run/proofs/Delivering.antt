@@ -133,7 +133,7 @@ module _ (schedule : Schedule) (job t : List ℕ) (before : Buffers) (f : Accept
       subst (λ (p : List Command). DeliversRunOf (runOf schedule m p) p before (buffers trace snapshot work) x) same given
 
 -- what the model hands over for a job that is accepted, and for one that is refused
-handed-ran : (schedule : Schedule) (m : Bool) (job : List ℕ) (b : Sizes) (past : List Command) → decodeBy schedule job b ≡ accepted past
+pub handed-ran : (schedule : Schedule) (m : Bool) (job : List ℕ) (b : Sizes) (past : List Command) → decodeBy schedule job b ≡ accepted past
     → handedFor schedule m job b ≡ handed (programOf past) (runOf schedule m past)
 unfolding monitored unmonitored monitoredRun unmonitoredRun dispatchMonitored dispatchUnmonitored monitoredDispatch unmonitoredDispatch
     examinedIn
@@ -142,7 +142,7 @@ handed-ran s.Written false job b past e = rw e
 handed-ran (s.Dispatched budget) true job b past e = rw e
 handed-ran (s.Dispatched budget) false job b past e = rw e
 
-handed-refused : (schedule : Schedule) (m : Bool) (job : List ℕ) (b : Sizes) (r : Refusal) → decodeBy schedule job b ≡ rejected r
+pub handed-refused : (schedule : Schedule) (m : Bool) (job : List ℕ) (b : Sizes) (r : Refusal) → decodeBy schedule job b ≡ rejected r
     → handedFor schedule m job b ≡ record { result = refused r; examined = 0 }
 unfolding monitored unmonitored dispatchMonitored dispatchUnmonitored
 handed-refused s.Written true job b r e = rw e

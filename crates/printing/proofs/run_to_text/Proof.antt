@@ -7,12 +7,14 @@ use denote.Ref.{now}
 use borrow.Author.Tests.{not-true, not-false, leb-true}
 use Rattle.run.specs.declared.answer.Answer.the-variants as a
 use Rattle.model.specs.Result.{sizesOf}
-use Rattle.run.specs.Answers.{buffers, resultFor}
+use Rattle.command.specs.Reading.{refusalOf}
+use Rattle.run.specs.Answers.{buffers, handedFor}
+use Rattle.writing.proofs.Placing.{writes-on}
 use Rattle.run.proofs.Delivering.{delivers-by}
-use Rattle.printing.specs.Printing.{resultLines, textSize}
+use Rattle.printing.specs.Printing.{textSize}
 use Rattle.printing.proofs.Outcomes.{refused-result, ended-as, is-accepted, trace-inside, snapshot-inside, lines-short, lines-same}
-use Rattle.printing.proofs.Outcomes.{put-as}
-use Rattle.printing.proofs.Short.{refused-short}
+use Rattle.printing.proofs.Outcomes.{refused-same, kept-length, put-as}
+use Rattle.printing.proofs.Short.{refused-short, total-short}
 use borrow.Author.Needs.{needs}
 use Rattle.printing.proofs.run_to_text.Statement.{statement}
 use Rattle.printing.proofs.run_to_text.Tie as tie
@@ -36,41 +38,46 @@ enum-known-answer c = search needs
 
 put-refusal-requires : tie.Need-put-refusal-requires
 put-refusal-requires c κs =
-    let p14 = c .before .before .before .before .before .before .before .before .before .before .before .before .before .before in
-    let p15 = p14 .before in
-    let p22 = p15 .before .before .before .before .before .before .before in
-    let z = p22 .args in
-    let room = leb-true (z .at + textSize) (length (now (z .text))) (sym (p15 .has-room .ensures) ∙ not-false _ (p14 .if1 .left)) in
+    let g = c .before .before .before .before .before .before .before .before .before .before in
+    let z = g .before .before .before .before .before .before .before .before .before .before .before .before .args in
+    let room = sym (g .before .before .before .before .before .has-room .ensures) ∙ not-false _ (g .before .before .before .before .if1 .left) in
+    let large = leb-true (z .at + textSize) (length (now (z .text))) room in
     let q = c .before .before .answer .given .0 .0 in
-    omega (arith, room, refused-short (q .number) (q .place))
+    omega (arith, large, refused-short (q .number) (q .place))
 
 enum-known-answer-2 : tie.Need-enum-known-answer-2
 enum-known-answer-2 c = search needs
 
 put-ended-requires : tie.Need-put-ended-requires
 put-ended-requires c κs =
-    let p8 = c .before .before .before .before .before .before .before .before in
-    let p10 = p8 .before .before in
-    let p12 = p10 .before .before in
-    let p16 = p12 .before .before .before .before in
-    let p17 = p16 .before in
-    let p24 = p17 .before .before .before .before .before .before .before in
-    let z = p24 .args in
-    let r = p12 .run in
-    let b = buffers (now (z .trace)) (now (z .snapshot)) (now (z .work)) in
-    let d = delivers-by (resultFor (z .monitored) (now (z .job)) (sizesOf b)) b (buffers _ _ _) (r .result) (r .ensures .0)
-    (r .ensures .1 .0) (r .ensures .1 .1 .0) (r .ensures .1 .1 .1) in
-    let room = leb-true (z .at + textSize) (length (now (z .text))) (sym (p17 .has-room .ensures) ∙ not-false _ (p16 .if1 .left)) in
-    let e = ended-as (z .monitored) (now (z .job)) (buffers (now (z .trace)) (now (z .snapshot)) (now (z .work))) _ _ _ d
-    (c .before .before .before .before .answer2 .given .1) in
-    let short = lines-short _ _ _ _ _ e (λ i. omega (
-      arith,
-      p10 .slice-known5 .given i,
-    )) (λ i. omega (
-      arith,
-      p8 .slice-known6 .given i,
-    )) in
-    (is-accepted _ _ _ _ _ e, (trace-inside _ _ _ _ _ e, (snapshot-inside _ _ _ _ _ e, omega (arith, room, short))))
+    let g = c .before .before .before .before .before .before .before .before .before .before .before .before in
+    let z = g .before .before .before .before .before .before .before .before .before .before .before .before .args in
+    let r = g .run in
+    let before = buffers (now (z .trace)) (now (z .snapshot)) (now (z .work)) in
+    let h = handedFor (z .schedule) (z .monitored) (now (z .job)) (sizesOf before) in
+    let d = delivers-by (h .result) before (buffers _ _ _) (r .result .answer) (r .ensures .0) (r .ensures .1 .1 .0) (r .ensures .1 .1 .1 .0) (r .ensures .1 .1 .1 .1) in
+    let room = sym (g .before .before .before .before .before .has-room .ensures) ∙ not-false _ (g .before .before .before .before .if1 .left) in
+    let large = leb-true (z .at + textSize) (length (now (z .text))) room in
+    let given = c .before .before .before .before .answer2 .given in
+    let e = ended-as (z .schedule) (z .monitored) (now (z .job)) before _ _ _ d (given .1) in
+    let short = lines-short _ _ _ _ _ _ e (λ i. omega (arith, c .before .before .before .before .before .before .before .before .before .before .slice-known5 .given i)) (λ i. omega (arith, c .before .before .before .before .before .before .before .before .slice-known6 .given i)) in
+    (is-accepted _ _ _ _ _ _ e, (trace-inside _ _ _ _ _ _ e, (snapshot-inside _ _ _ _ _ _ e, omega (arith, large, short))))
+
+put-total-requires : tie.Need-put-total-requires
+put-total-requires c κs =
+    let g = c .before .before .before .before .before .before .before .before .before .before .before .before .before .before .before .before in
+    let z = g .before .before .before .before .before .before .before .before .before .before .before .before .args in
+    let r = g .run in
+    let before = buffers (now (z .trace)) (now (z .snapshot)) (now (z .work)) in
+    let h = handedFor (z .schedule) (z .monitored) (now (z .job)) (sizesOf before) in
+    let d = delivers-by (h .result) before (buffers _ _ _) (r .result .answer) (r .ensures .0) (r .ensures .1 .1 .0) (r .ensures .1 .1 .1 .0) (r .ensures .1 .1 .1 .1) in
+    let room = sym (g .before .before .before .before .before .has-room .ensures) ∙ not-false _ (g .before .before .before .before .if1 .left) in
+    let large = leb-true (z .at + textSize) (length (now (z .text))) room in
+    let given = c .before .before .before .before .before .before .before .before .answer2 .given in
+    let e = ended-as (z .schedule) (z .monitored) (now (z .job)) before _ _ _ d (given .1) in
+    let short = lines-short _ _ _ _ _ _ e (λ i. omega (arith, c .before .before .before .before .before .before .before .before .before .before .before .before .before .before .slice-known5 .given i)) (λ i. omega (arith, c .before .before .before .before .before .before .before .before .before .before .before .before .slice-known6 .given i)) in
+    let w = c .before .before .before .put-ended .ensures in
+    omega (arith, large, short, w .place, kept-length _ _ _ _ _ w (omega (arith, large, short)), total-short (z .schedule) (r .result .examined))
 
 same-length-2 : tie.Need-same-length-2
 same-length-2 c = search needs
@@ -86,23 +93,20 @@ same-length-5 c = search needs
 
 returns-2 : tie.Need-returns-2
 returns-2 c =
-    let p13 = c .before .before .before .before .before .before .before .before .before .before .before .before .before in
-    let p17 = p13 .before .before .before .before in
-    let p18 = p17 .before in
-    let p25 = p18 .before .before .before .before .before .before .before in
-    let z = p25 .args in
-    let r = p13 .run in
-    let b = buffers (now (z .trace)) (now (z .snapshot)) (now (z .work)) in
-    let d = delivers-by (resultFor (z .monitored) (now (z .job)) (sizesOf b)) b (buffers _ _ _) (r .result) (r .ensures .0)
-    (r .ensures .1 .0) (r .ensures .1 .1 .0) (r .ensures .1 .1 .1) in
-    let room = sym (p18 .has-room .ensures) ∙ not-false _ (p17 .if1 .left) in
+    let g = c .before .before .before .before .before .before .before .before .before .before .before .before .before in
+    let z = g .before .before .before .before .before .before .before .before .before .before .before .before .args in
+    let r = g .run in
+    let before = buffers (now (z .trace)) (now (z .snapshot)) (now (z .work)) in
+    let h = handedFor (z .schedule) (z .monitored) (now (z .job)) (sizesOf before) in
+    let d = delivers-by (h .result) before (buffers _ _ _) (r .result .answer) (r .ensures .0) (r .ensures .1 .1 .0) (r .ensures .1 .1 .1 .0) (r .ensures .1 .1 .1 .1) in
+    let room = sym (g .before .before .before .before .before .has-room .ensures) ∙ not-false _ (g .before .before .before .before .if1 .left) in
     let given = c .before .before .before .before .before .answer .given in
     let q = given .0 .0 in
-    let same = ap (resultLines (now (z .job))) (refused-result _ _ _ _ _ d (given .1)) in
-    let puts = rw (← same) at (c .before .before .put-refusal .ensures) in
+    let same = refused-same (z .schedule) (now (z .job)) h (refusalOf q) (refused-result _ _ _ _ _ d (given .1)) in
+    let puts = rw same at (c .before .before .put-refusal .ensures) in
     let run = rw (given .1) at d in (
       omega (arith, c .before .before .put-refusal .ensures .place, refused-short (q .number) (q .place)),
-      put-as _ (now (z .job)) _ _ _ _ _ (buffers (now (z .trace)) (now (z .snapshot)) (now (z .work))) _ (a.Refused q) room puts run,
+      put-as _ (z .schedule) (now (z .job)) _ _ _ _ h before _ (a.Refused q) room puts run,
     )
 
 same-length-6 : tie.Need-same-length-6
@@ -119,33 +123,24 @@ same-length-9 c = search needs
 
 returns-3 : tie.Need-returns-3
 returns-3 c =
-    let p7 = c .before .before .before .before .before .before .before in
-    let p11 = p7 .before .before .before .before in
-    let p13 = p11 .before .before in
-    let p15 = p13 .before .before in
-    let p19 = p15 .before .before .before .before in
-    let p20 = p19 .before in
-    let p27 = p20 .before .before .before .before .before .before .before in
-    let z = p27 .args in
-    let r = p15 .run in
-    let b = buffers (now (z .trace)) (now (z .snapshot)) (now (z .work)) in
-    let d = delivers-by (resultFor (z .monitored) (now (z .job)) (sizesOf b)) b (buffers _ _ _) (r .result) (r .ensures .0)
-    (r .ensures .1 .0) (r .ensures .1 .1 .0) (r .ensures .1 .1 .1) in
-    let room = sym (p20 .has-room .ensures) ∙ not-false _ (p19 .if1 .left) in
-    let given = p7 .answer2 .given in
-    let e = ended-as (z .monitored) (now (z .job)) (buffers (now (z .trace)) (now (z .snapshot)) (now (z .work))) _ _ _ d (given .1) in
-    let short = lines-short _ _ _ _ _ e (λ i. omega (
-      arith,
-      p13 .slice-known5 .given i,
-    )) (λ i. omega (
-      arith,
-      p11 .slice-known6 .given i,
-    )) in
-    let puts = rw (lines-same _ _ _ _ _ e) at (c .before .before .put-ended .ensures) in
+    let g = c .before .before .before .before .before .before .before .before .before .before .before .before .before .before .before .before .before .before .before in
+    let z = g .before .before .before .before .before .before .before .before .before .before .before .before .args in
+    let r = g .run in
+    let before = buffers (now (z .trace)) (now (z .snapshot)) (now (z .work)) in
+    let h = handedFor (z .schedule) (z .monitored) (now (z .job)) (sizesOf before) in
+    let d = delivers-by (h .result) before (buffers _ _ _) (r .result .answer) (r .ensures .0) (r .ensures .1 .1 .0) (r .ensures .1 .1 .1 .0) (r .ensures .1 .1 .1 .1) in
+    let room = sym (g .before .before .before .before .before .has-room .ensures) ∙ not-false _ (g .before .before .before .before .if1 .left) in
+    let large = leb-true (z .at + textSize) (length (now (z .text))) room in
+    let given = c .before .before .before .before .before .before .before .before .before .before .before .answer2 .given in
+    let e = ended-as (z .schedule) (z .monitored) (now (z .job)) before _ _ _ d (given .1) in
+    let short = lines-short _ _ _ _ _ _ e (λ i. omega (arith, c .before .before .before .before .before .before .before .before .before .before .before .before .before .before .before .before .before .slice-known5 .given i)) (λ i. omega (arith, c .before .before .before .before .before .before .before .before .before .before .before .before .before .before .before .slice-known6 .given i)) in
+    let first = c .before .before .before .before .before .before .put-ended .ensures in
+    let more = total-short (z .schedule) (r .result .examined) in
+    let both = writes-on _ _ _ _ _ _ _ _ (omega (arith, large, short, more)) first (c .before .before .put-total .ensures) in
+    let puts = rw (lines-same _ _ _ _ _ _ e (r .result .examined) (r .ensures .1 .0)) at both in
     let run = rw (given .1) at d in (
-      omega (arith, c .before .before .put-ended .ensures .place, short),
-      put-as _ (now (z .job)) _ _ _ _ _ (buffers (now (z .trace)) (now (z .snapshot)) (now (z .work))) _ (a.Ended (given .0 .0)) room puts
-          run,
+      omega (arith, first .place, c .before .before .put-total .ensures .place, short, more),
+      put-as _ (z .schedule) (now (z .job)) _ _ _ _ h before _ (a.Ended (given .0 .0)) room puts run,
     )
 
 pub run-to-text-spec : {M : Type 1} → statement M
@@ -160,6 +155,7 @@ run-to-text-spec =
     put-refusal-requires
     enum-known-answer-2
     put-ended-requires
+    put-total-requires
     same-length-2
     same-length-3
     same-length-4
