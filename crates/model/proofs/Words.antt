@@ -11,15 +11,15 @@ use lib.ListN.{length, getD, set}
 use Rattle.model.specs.Table.{VAR, FUN, START, OperandKind, scope, owner, start, answer, node, port, target, function}
 use Rattle.model.specs.Table.{argument, value, low, high, variable, jump, absent, width, operandAt, maxNodes, maxVariables}
 use Rattle.model.specs.Command.{Operands, Command, is, numberAt, firstAt, secondAt, thirdAt, fourthAt, operandsAt}
-use Rattle.model.specs.Declared.{countOf, declared, isReply, replyOf, belongs, Instruction, instruction, handlerOf, startsOf, turnsOf}
+use Rattle.model.specs.Declared.{countOf, declared, isReply, replyOf, belongs, Instruction, instruction, handlerOf, startsOf}
 use Rattle.model.specs.Program.{Program, programOf}
 use Rattle.model.specs.State.{State, positionAt, accumulatorAt, initialState}
 use Rattle.model.specs.Turn.{sum32, performed, instructionAt, turn}
 use Rattle.model.specs.Permission.{monitoredTurn}
 use Rattle.model.specs.Run.{stateAt, monitoredRun, unmonitoredRun}
 use Rattle.model.specs.Output.{bytes4}
-use Rattle.model.specs.Refusal.{Sizes, accepted, decodeJob}
-use Rattle.model.specs.Conclusion.{Reads, begin, further, Accepts, monitoredOf, unmonitoredOf}
+use Rattle.model.specs.Refusal.{accepted, decodeJob}
+use Rattle.model.specs.Conclusion.{Reads, begin, further}
 use Rattle.model.specs.Valid.{Bytes, ProgramFits, Fits}
 use Rattle.model.proofs.Lists.{getD-each, only-each, set-each, tabulate-each, replicate-each}
 use Rattle.model.proofs.Valid.{job-accepted}
@@ -211,19 +211,19 @@ module _ (P : Program) (fit : ProgramFits P) (s : State) (n : ℕ) (h : Fits s) 
   pub monitored-turn-fits : Keeps Fits (monitoredTurn P s n)
   monitored-turn-fits = monitored-by (Keeps Fits) P s n turn-fits (λ e. tt)
 
--- every state of both runs of a job of bytes
-module _ (job : List ℕ) (b : Sizes) (past : List Command) (bytes : Bytes job) (a : Accepts job b past) where
+-- every state of both runs of a job of bytes, with any turns
+module _ (job : List ℕ) (past : List Command) (bytes : Bytes job) (reads : Reads job (length job) past) (turns : List ℕ) where
   fitting : ProgramFits (programOf past)
-  fitting = program-fits past (reads-fit bytes (a .reads))
+  fitting = program-fits past (reads-fit bytes reads)
 
-  pub unmonitored-words : (k : ℕ) → Fits (stateAt (unmonitoredOf past) k)
+  pub unmonitored-words : (k : ℕ) → Fits (stateAt (unmonitoredRun (programOf past) turns) k)
   unfolding unmonitoredRun
-  unmonitored-words = run-each Fits (turn (programOf past)) (turn-fits (programOf past) fitting) (turnsOf past)
+  unmonitored-words = run-each Fits (turn (programOf past)) (turn-fits (programOf past) fitting) turns
       (initialState (programOf past)) (initial-fits (programOf past) fitting)
 
-  pub monitored-words : (k : ℕ) → Fits (stateAt (monitoredOf past) k)
+  pub monitored-words : (k : ℕ) → Fits (stateAt (monitoredRun (programOf past) turns) k)
   unfolding monitoredRun
-  monitored-words = run-each Fits (monitoredTurn (programOf past)) (monitored-turn-fits (programOf past) fitting) (turnsOf past)
+  monitored-words = run-each Fits (monitoredTurn (programOf past)) (monitored-turn-fits (programOf past) fitting) turns
       (initialState (programOf past)) (initial-fits (programOf past) fitting)
 
 -- the 4 bytes of a number below 2^32 are bytes, and spell it again

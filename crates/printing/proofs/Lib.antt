@@ -3,4 +3,5 @@ pub mod Short
 pub mod Outcomes
 pub mod Worked
 pub mod Meaning
+pub mod Dispatched
 pub mod Room

@@ -211,11 +211,11 @@ module _ (s : State) (fits : Fits s) where
       rw (nodes-read (P .nodes) variables, parts-of s (P .nodes) variables, ← append-nil variables, variables-read nodes (P .variables) [])
 
 -- a run whose values are below 2^32
-record Readable (r : Run) : Type 0 where
-  values : (k : ℕ) → k < length (r .steps) → entryAt r k .value < 2 ^ 32
-  final : Fits (r .final)
+pub record Readable (r : Run) : Type 0 where
+  pub values : (k : ℕ) → k < length (r .steps) → entryAt r k .value < 2 ^ 32
+  pub final : Fits (r .final)
 
-run-read :
+pub run-read :
     (P : Program) (r : Run) → Readable r
     → runLines (answerIn r) (traceIn r) (snapshotBytes P (r .final)) (P .nodes) (P .variables) ≡ linesOfRun P r
 unfolding runLines linesOfRun
@@ -228,7 +228,7 @@ run-read P r fits =
         (λ k h. entry-read (entriesOf (r .steps)) k (omega arith) (fits .values k h))
 
 -- the value of an entry that a turn makes is below 2^32
-abbrev Small : Entry → Type 0
+abbrev pub Small : Entry → Type 0
 Small e = e .value < 2 ^ 32
 
 module _ (P : Program) (s : State) (n : ℕ) (fits : Fits s) where
@@ -238,17 +238,17 @@ module _ (P : Program) (s : State) (n : ℕ) (fits : Fits s) where
       left-by Small P s n i (λ _. fits .variable x) (λ _. fits .variable x) (λ _. fits .accumulator n) (λ _. fits .accumulator n)
       (λ _. fits .accumulator n) (omega arith)
 
-  turn-small : Makes Small (turn P s n)
+  pub turn-small : Makes Small (turn P s n)
   turn-small =
       turn-by (Makes Small) P s n (λ p w. tt) (λ p w. fits .queue n 0 (omega (arith, w))) (λ l b. tt)
       (λ l b. left-small (instructionAt P n (positionAt s n)))
       (λ l. omega arith)
 
-  monitored-small : Makes Small (monitoredTurn P s n)
+  pub monitored-small : Makes Small (monitoredTurn P s n)
   monitored-small = monitored-by (Makes Small) P s n turn-small (λ e. tt)
 
 -- a run that goes by such turns, on states whose values are
-readable :
+pub readable :
     {rule : State → ℕ → Turned} {turns : List ℕ} {s : State} {r : Run} → ((s : State) (n : ℕ) → Fits s → Makes Small (rule s n))
     → Follows rule turns s r → ((k : ℕ) → Fits (stateAt r k)) → Readable r
 readable {rule} {turns} {s} {r} small follows fits =
@@ -284,10 +284,10 @@ lines-hold job b bytes =
           job-read job b monitoredRun
           (λ past a.
           let follows = demand2 (programOf past) (turnsOf past) .monitoredFollows in
-          readable (monitored-small (programOf past)) follows (monitored-words job b past bytes a));
+          readable (monitored-small (programOf past)) follows (monitored-words job past bytes (a .reads) (turnsOf past)));
       unmonitoredPrints =
           job-read job b unmonitoredRun
           (λ past a.
           let follows = demand2 (programOf past) (turnsOf past) .unmonitoredFollows in
-          readable (turn-small (programOf past)) follows (unmonitored-words job b past bytes a));
+          readable (turn-small (programOf past)) follows (unmonitored-words job past bytes (a .reads) (turnsOf past)));
     }

@@ -4,7 +4,7 @@ use mathlib.Core.Path.{_≡_}
 use mathlib.Core.List.{List, [], _∷_, _++_}
 use lib.ListN.{length}
 use Rattle.text.specs.Text.{decimal, line, joined}
-use Rattle.lines.specs.Lines.{nodeWord, varWord, endLine, refusedLine}
+use Rattle.lines.specs.Lines.{nodeWord, varWord, endLine, refusedLine, examinedLine}
 use Rattle.model.specs.Declared.{turnsOf}
 use Rattle.model.specs.Program.{Program, programOf}
 use Rattle.model.specs.State.{Message, State, positionAt, accumulatorAt, messageAt, queueAt, waitingAt, variableAt}
@@ -13,8 +13,11 @@ use Rattle.model.specs.Run.{Run, entryAt, monitoredRun, unmonitoredRun}
 use Rattle.model.specs.Output.{answerIn}
 use Rattle.model.specs.Refusal.{Decoded, accepted, rejected, Sizes, decodeFor}
 use Rattle.model.specs.Result.{monitored, unmonitored}
+use Rattle.model.specs.Dispatch.{Dispatched, examinedIn, monitoredDispatch, unmonitoredDispatch}
+use Rattle.model.specs.DispatchResult.{decodeDispatch, dispatchMonitored, dispatchUnmonitored}
 use Rattle.model.specs.Valid.{Bytes}
-use Rattle.printing.specs.Printing.{resultLines}
+use Rattle.job.specs.declared.schedule.Schedule.the-variants as s
+use Rattle.printing.specs.Printing.{resultLines, linesBy}
 
 -- an entry: node, kind, number, value
 unfoldable pub lineOfEntry : Entry → List ℕ
@@ -59,3 +62,20 @@ pub record PrintsRuns (job : List ℕ) (b : Sizes) : Type 0 where
 -- it is so for every job of bytes and all buffers
 abbrev pub LinesHold : Type 0
 LinesHold = (job : List ℕ) (b : Sizes) → Bytes job → PrintsRuns job b
+
+-- a dispatched job (S-2), by the way it is dispatched: the lines of its run, then that of the examined total; or the line of its refusal
+abbrev pub linesOfDispatch : (Program → Dispatched) → Decoded → List ℕ
+linesOfDispatch dispatch (accepted past) =
+    linesOfRun (programOf past) (dispatch (programOf past) .run) ++ examinedLine (examinedIn (dispatch (programOf past) .choices))
+linesOfDispatch dispatch (rejected r) = refusedLine (r .number) (r .place)
+
+-- what is printed by the bytes handed over is what the dispatched run means, monitored ("watched") and unmonitored ("bare")
+pub record PrintsDispatches (budget : ℕ) (job : List ℕ) (b : Sizes) : Type 0 where
+  pub monitoredPrints : linesBy (s.Dispatched budget) job (dispatchMonitored budget job b)
+      ≡ linesOfDispatch (λ P. monitoredDispatch P budget) (decodeDispatch budget job b)
+  pub unmonitoredPrints : linesBy (s.Dispatched budget) job (dispatchUnmonitored budget job b)
+      ≡ linesOfDispatch (λ P. unmonitoredDispatch P budget) (decodeDispatch budget job b)
+
+-- it is so for every job of bytes, every budget and all buffers
+abbrev pub DispatchLinesHold : Type 0
+DispatchLinesHold = (budget : ℕ) (job : List ℕ) (b : Sizes) → Bytes job → PrintsDispatches budget job b

@@ -5,7 +5,7 @@ use mathlib.Core.Bool.{Bool, true, false}
 use mathlib.Core.List.{List, [], _∷_, _++_}
 use mathlib.Core.Option.{none}
 use native.Mathlib.Omega.{arith}
-use lib.ListN.{length, getD, length-append, length-map}
+use lib.ListN.{length, length-append, length-map}
 use Rattle.model.specs.Table.{NODE, VAR}
 use Rattle.model.specs.Command.{Command}
 use Rattle.model.specs.Program.{Program, programOf}
@@ -33,8 +33,6 @@ use Rattle.job.specs.Prepared.{Prepared}
 use Rattle.job.specs.Scheduling.{budgetRefusal, turnsBy}
 use Rattle.job.proofs.Prepared.{prepared}
 use Rattle.job.proofs.Buffered.{budget-few}
-use Rattle.chooser.specs.declared.Choice.{Choice}
-use Rattle.chooser.specs.Choosing.{choiceOf}
 use Rattle.chooser.proofs.Searching.{choose-shown}
 use Rattle.entries.specs.declared.Entry.{Entry}
 use Rattle.entries.specs.declared.Outcome.{Outcome}

@@ -1,9 +1,9 @@
 -- `chooser::choose` meets its contract.
-use Prim.Native.Nat.{_-_, _<_}
+use Prim.Native.Nat.{_-_}
 use native.Mathlib.Omega.{arith}
 use denote.Ref.{now}
 use borrow.Author.Needs.{needs}
-use mathlib.Core.Path.{_≡_, sym, _∙_, ap, subst}
+use mathlib.Core.Path.{sym, _∙_}
 use Rattle.chooser.proofs.Searching.{Searched, searched-none, searched-over, searched-inside, searched-found, searched-next}
 use Rattle.chooser.proofs.choose.Statement.{statement}
 use Rattle.chooser.proofs.choose.Tie as tie

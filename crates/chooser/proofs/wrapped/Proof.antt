@@ -1,5 +1,4 @@
 -- `chooser::wrapped` meets its contract.
-use mathlib.Core.Path.{refl}
 use native.Mathlib.Omega.{arith}
 use borrow.Author.Tests.{lt-ltb, le-ltb}
 use Rattle.chooser.proofs.wrapped.Statement.{statement}
