@@ -1,8 +1,8 @@
-/* Running a job, monitored or not: the C functions of the static library librun.a.
+/* Running a job, monitored or not, with its written turns or dispatched: the C functions of the static library librun.a.
  *
- * Document 01, with requests S-1, S-5, S-7, S-9 and S-11 of document 02, says what a job is, what a run does and when a job is refused.
- * "Monitored" is 01's "watched", "unmonitored" its "bare", "snapshot" its "end picture". Both functions are proved to do what the
- * definitions of 01, S-1, S-5, S-7, S-9 and S-11 say, for any bytes and any lengths. */
+ * Document 01, with requests S-1, S-2, S-5, S-7, S-9 and S-11 of document 02, says what a job is, what a run does and when a job is
+ * refused. "Monitored" is 01's "watched", "unmonitored" its "bare", "snapshot" its "end picture". All four functions are proved to do
+ * what the definitions of 01, S-1, S-2, S-5, S-7, S-9 and S-11 say, for any bytes, lengths and budgets. */
 #ifndef LEQSUMIR_H
 #define LEQSUMIR_H
 
@@ -13,7 +13,8 @@
 extern "C" {
 #endif
 
-/* Lengths that are enough for every job. A trace needs only LEQSUMIR_ENTRY_BYTES for each TURN of its job. */
+/* Lengths that are enough for every job. A trace needs only LEQSUMIR_ENTRY_BYTES for each TURN of its job; of a dispatched job, for each
+ * turn of the budget. */
 #define LEQSUMIR_JOB_BYTES 16384     /* the longest job that is accepted */
 #define LEQSUMIR_ENTRY_BYTES 7       /* an entry: node 1 byte, kind 1, number 1, value 4, lowest first */
 #define LEQSUMIR_TRACE_BYTES 28672   /* 4,096 turns of 7 bytes */
@@ -23,35 +24,40 @@ extern "C" {
 /* What a caller must have:
  *
  *   job       the job's bytes, at most 16,384; the turns read the handler commands there, so nothing may write them during the call
- *   trace     7 bytes for each TURN of the job, at most 28,672
+ *   trace     7 bytes for each TURN of the job or, dispatched, for each turn of the budget, at most 28,672
  *   snapshot  3,136 bytes
  *   work      4,096 bytes
- *   answer    64 bytes
+ *   answer    64 bytes; dispatched, 72
  *   stack     a call takes less than 20,000 bytes of stack; 17,984 were measured, on x86-64, with less than 300 of the caller. The tables
  *             of the decoded job and the state of the run lie there, in no other memory.
  *   code      12,357 bytes with constants, on x86-64, and memcpy and memset of the C library; no variables of its own
  *
  * A call takes no heap. */
 
-/* The numbers of the answer. All eight are always written. */
+/* The numbers of the answer. All are always written: eight, of a dispatched job nine. */
 enum {
-    LEQSUMIR_REFUSAL = 0, /* 0: the job ran; 1 to 12, 15 or 19: why it was refused, in the numbers of 01, of S-5 (15) and of S-7 (19) */
-    LEQSUMIR_PLACE = 1,   /* of a refusal: the offset of the offending command; 0 for 1, the job's length for 10 to 12 */
+    LEQSUMIR_REFUSAL = 0, /* 0: the job ran; 1 to 12, 15 or 19: why it was refused, in the numbers of 01, of S-5 (15) and of S-7 (19); */
+                          /* dispatched also those of S-2: 13, the budget is 0 or above 4,096; 14, the job has a TURN */
+    LEQSUMIR_PLACE = 1,   /* of a refusal: the offset of the offending command, the first TURN for 14; 0 for 1 and 13, the job's length */
+                          /* for 10 to 12 */
     LEQSUMIR_STOP = 2,    /* of a run: one of the stops below */
     LEQSUMIR_TURNS = 3,   /* of a run: the completed turns, which are the entries of the trace */
-    LEQSUMIR_NODE = 4,    /* of a run: the attempted entry, from here to the value: zeros for stop 0, */
+    LEQSUMIR_NODE = 4,    /* of a run: the attempted entry, from here to the value: zeros for stops 0 and 4, */
     LEQSUMIR_KIND = 5,    /* node and zeros for stop 2, the entry not made for stops 1 and 3, */
     LEQSUMIR_NUMBER = 6,  /* with value 0 for a read */
     LEQSUMIR_VALUE = 7,
-    LEQSUMIR_ANSWER = 8   /* how many numbers there are */
+    LEQSUMIR_ANSWER = 8,         /* how many numbers there are with written turns */
+    LEQSUMIR_EXAMINED = 8,       /* of a dispatched run: the examined total, the sum over all choices; 0 for a refusal */
+    LEQSUMIR_DISPATCH_ANSWER = 9 /* how many numbers there are of a dispatched job */
 };
 
 /* Why a run stopped. */
 enum {
-    LEQSUMIR_RAN_OUT = 0, /* every turn was completed */
-    LEQSUMIR_FORBIDDEN = 1, /* the lists do not permit the entry; monitored runs alone */
-    LEQSUMIR_UNREADY = 2, /* the node is idle and no message waits */
-    LEQSUMIR_FULL = 3       /* a target of the send already holds 16 messages */
+    LEQSUMIR_RAN_OUT = 0,     /* every turn was completed; dispatched, as many as are budgeted */
+    LEQSUMIR_FORBIDDEN = 1,   /* the lists do not permit the entry; monitored runs alone */
+    LEQSUMIR_UNREADY = 2,     /* the node is idle and no message waits; written turns alone */
+    LEQSUMIR_FULL = 3,        /* a target of the send already holds 16 messages */
+    LEQSUMIR_NOBODY_READY = 4 /* turns of the budget are left, and no node is ready; dispatched runs alone */
 };
 
 /* Runs a job and stops before the first turn whose entry its lists do not permit.
@@ -76,6 +82,25 @@ void leqsumir_run_monitored(const uint8_t *job, size_t job_len, uint8_t *trace, 
 /* The same without the lists: a run that ignores them, with the same refusals. */
 void leqsumir_run_unmonitored(const uint8_t *job, size_t job_len, uint8_t *trace, size_t trace_len, uint8_t *snapshot,
                               size_t snapshot_len, uint8_t *work, size_t work_len, uint64_t answer[8]);
+
+/* Dispatches a job, monitored: a job without TURN, and at most so many turns as the budget says.
+ *
+ * A node is ready unless it is idle with an empty queue. Before each turn there is a choice: nodes are examined one after the other, the
+ * first time from node 0 on, later from the node after the one served last, round to that one itself; the first ready one gets the turn.
+ * A choice that finds nobody has examined all nodes and ends the run. When the budgeted turns are made, no further choice is made.
+ *
+ *   budget   1 to 4,096; every other number is a refusal, 13, that goes before all others
+ *   answer   gets nine numbers: those of a run, and how many nodes were examined for all choices, the last fruitless or stopped one
+ *            included
+ *
+ * A job with a TURN is refused by 14, behind 1 to 9, 15 and 19 and before 10 to 12. Refusal 10 asks for 7 bytes for each turn of the
+ * budget, made or not. All else is as above. */
+void leqsumir_dispatch_monitored(const uint8_t *job, size_t job_len, uint64_t budget, uint8_t *trace, size_t trace_len,
+                                 uint8_t *snapshot, size_t snapshot_len, uint8_t *work, size_t work_len, uint64_t answer[9]);
+
+/* The same without the lists. */
+void leqsumir_dispatch_unmonitored(const uint8_t *job, size_t job_len, uint64_t budget, uint8_t *trace, size_t trace_len,
+                                   uint8_t *snapshot, size_t snapshot_len, uint8_t *work, size_t work_len, uint64_t answer[9]);
 
 #ifdef __cplusplus
 }

@@ -4,7 +4,8 @@ use flow_reference::outcome::stop;
 use flow_reference::table::MAX_TURNS;
 use flow_reference::Mode;
 
-use crate::groups;
+use crate::dispatched::{Dispatched, Shape};
+use crate::groups::{self, Task};
 use crate::runs::{self, Bench, Case, Engine};
 
 /// What the buffers hold before.
@@ -14,8 +15,8 @@ const BYTE: u8 = 0xA5;
 /// that are meant; the error says what is wrong.
 pub fn compare() -> Result<(), String> {
     for group in groups::all().map_err(|error| format!("the examples: {error}"))? {
-        for (mode, job) in group.runs() {
-            agree(mode, job).map_err(|what| format!("{}, {mode:?}: {what}", group.name))?;
+        for (mode, task) in group.runs() {
+            agree(mode, task).map_err(|what| format!("{}, {mode:?}: {what}", group.name))?;
         }
     }
     for (mode, case) in runs::all() {
@@ -27,21 +28,32 @@ pub fn compare() -> Result<(), String> {
     Ok(())
 }
 
-/// Stop and completed turns of a run, and the attempted node.
-fn expected(case: Case) -> [u64; 8] {
-    let (stop, turns, node) = match case {
-        Case::Turns | Case::Spread | Case::Single => (stop::TURNS_OUT, MAX_TURNS, 0),
-        Case::Replies(form) if form.turns => (stop::TURNS_OUT, MAX_TURNS, 0),
-        Case::Stopped => (stop::NOT_READY, 0, 1),
-        Case::None | Case::Large | Case::Replies(_) => (stop::TURNS_OUT, 0, 0),
+/// Stop and completed turns of a run, the attempted node and the examined total.
+fn expected(case: Case) -> [u64; 9] {
+    let (stop, turns, node, examined) = match case {
+        Case::Turns | Case::Spread | Case::Single => (stop::TURNS_OUT, MAX_TURNS, 0, 0),
+        Case::Replies(form) if form.turns => (stop::TURNS_OUT, MAX_TURNS, 0, 0),
+        Case::Stopped => (stop::NOT_READY, 0, 1, 0),
+        Case::None | Case::Large | Case::Replies(_) => (stop::TURNS_OUT, 0, 0, 0),
+        Case::Dispatched(dispatched) => expected_dispatched(dispatched),
     };
-    [0, 0, stop.into(), turns as u64, node, 0, 0, 0]
+    [0, 0, stop.into(), turns as u64, node, 0, 0, 0, examined]
+}
+
+/// The same of a dispatched run.
+fn expected_dispatched(Dispatched { shape, budget }: Dispatched) -> (u8, usize, u64, u64) {
+    match (shape, budget) {
+        (_, 1) => (stop::TURNS_OUT, 1, 0, 1),
+        (Shape::Script, _) => (stop::TURNS_OUT, MAX_TURNS, 0, 5_270),
+        (Shape::Idle, _) => (stop::NOBODY_READY, 3_002, 0, 1 + 32 * 3_002),
+        (Shape::Lone, _) => (stop::NOBODY_READY, 3_002, 0, 3_003),
+    }
 }
 
 /// Both accept the job and hand over the same.
-fn agree(mode: Mode, job: &[u8]) -> Result<(), String> {
-    let [mut proved, mut reference] =
-        [Engine::Proved, Engine::Reference].map(|engine| Bench::of(engine, mode, job.to_vec(), BYTE));
+fn agree(mode: Mode, Task { job, budget }: &Task) -> Result<(), String> {
+    let [mut proved, mut reference] = [Engine::Proved, Engine::Reference]
+        .map(|engine| Bench::dispatched(engine, mode, *budget, job.clone(), BYTE));
     let answers = [proved.run(), reference.run()];
     if answers[0] != answers[1] || answers[0][0] != 0 {
         return Err(format!("the answers are {answers:?}"));

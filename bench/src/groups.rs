@@ -2,33 +2,55 @@
 
 use std::{fs, io};
 
+use flow_reference::generate::dispatched::without_turns;
 use flow_reference::{decode, Mode};
 
-use crate::runs::{cases, Case, MODES};
+use crate::dispatched::MOST;
+use crate::runs::{cases, MODES};
 use crate::{largest, snapshots};
 
 /// The folder of the repository's examples.
 const EXAMPLES: &str = concat!(env!("CARGO_MANIFEST_DIR"), "/../examples");
 
+/// A job and, if it is dispatched, its budget.
+pub struct Task {
+    pub job: Vec<u8>,
+    pub budget: Option<u64>,
+}
+
+impl Task {
+    fn written(job: Vec<u8>) -> Task {
+        Task { job, budget: None }
+    }
+
+    /// A job with its written turns; and without them, dispatched with the largest budget.
+    fn both(job: Vec<u8>) -> [Task; 2] {
+        let dispatched = Task { job: without_turns(&job), budget: Some(MOST) };
+        [Task::written(job), dispatched]
+    }
+}
+
 /// Jobs with a name.
 pub struct Group {
     pub name: &'static str,
-    pub jobs: Vec<Vec<u8>>,
+    pub tasks: Vec<Task>,
 }
 
 impl Group {
     /// Each job, monitored and bare.
-    pub fn runs(&self) -> impl Iterator<Item = (Mode, &Vec<u8>)> {
-        self.jobs.iter().flat_map(|job| MODES.map(|mode| (mode, job)))
+    pub fn runs(&self) -> impl Iterator<Item = (Mode, &Task)> {
+        self.tasks.iter().flat_map(|task| MODES.map(|mode| (mode, task)))
     }
 }
 
-/// The accepted example jobs, those of the cases and of the snapshots, which the tables are about, and the largest.
+/// The accepted example jobs, those of the cases and of the snapshots, which the tables are about, and the largest. The
+/// examples and the largest are also dispatched.
 pub fn all() -> io::Result<[Group; 3]> {
+    let cases = cases().into_iter().map(|case| Task { job: case.job(), budget: case.budget() });
     Ok([
-        Group { name: "examples", jobs: examples()? },
-        Group { name: "tables", jobs: cases().into_iter().map(Case::job).chain(snapshots::jobs()).collect() },
-        Group { name: "largest job", jobs: vec![largest::job()] },
+        Group { name: "examples", tasks: examples()?.into_iter().flat_map(Task::both).collect() },
+        Group { name: "tables", tasks: cases.chain(snapshots::jobs().map(Task::written)).collect() },
+        Group { name: "largest job", tasks: Task::both(largest::job()).into() },
     ])
 }
 

@@ -3,6 +3,7 @@
 pub mod arguments;
 pub mod buffers;
 pub mod compare;
+pub mod dispatched;
 pub mod groups;
 pub mod job;
 pub mod large;

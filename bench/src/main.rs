@@ -1,21 +1,23 @@
 //! Runs a job, takes the time, compares both implementations, or tells what the script is, how many calls the
-//! jobs with long lists or replies make, how many instructions of a trace write a snapshot and how much stack the
-//! runs take.
+//! jobs with long lists or replies make, how many nodes the dispatched ones examine, how many instructions of a trace
+//! write a snapshot and how much stack the runs take.
 
 use std::fs::File;
 use std::io::BufReader;
 use std::process::ExitCode;
 
 use flow_bench::compare::compare;
+use flow_bench::dispatched::Dispatched;
 use flow_bench::groups::{self, Group};
 use flow_bench::replies::FORMS;
-use flow_bench::runs::Engine;
+use flow_bench::runs::{Bench, Case, Engine};
 use flow_bench::script::Script;
 use flow_bench::snapshots::{self, Queues};
 use flow_bench::{arguments, lists, stack, window};
+use flow_reference::Mode;
 
 const USAGE: &str = "usage: bench ENGINE MODE CASE RUNS | bench time ENGINE MODE CASE RUNS |
-    bench compare | bench mix | bench calls | bench stack |
+    bench compare | bench mix | bench calls | bench examined CASE | bench stack |
     bench snapshot ENGINE NODES empty|full | bench window MARK SNAPSHOT BYTES TRACE";
 
 /// The completed turns of all runs.
@@ -49,6 +51,14 @@ fn print_calls() {
         FORMS.into_iter().filter(|(_, form)| form.replies && form.turns).map(|(_, form)| form.job());
     let jobs = [lists::spread(), lists::single()].into_iter().chain(replies);
     println!("{}", jobs.map(|job| lists::calls(&job).to_string()).collect::<Vec<_>>().join(" "));
+}
+
+/// Stop, completed turns and examined total of a dispatched run, monitored.
+fn print_examined(word: &str) -> Option<()> {
+    let case = Case::Dispatched(Dispatched::named(word)?);
+    let [_, _, stop, turns, .., examined] = Bench::new(Engine::Reference, Mode::Monitored, case, 0).run();
+    println!("{stop} {turns} {examined}");
+    Some(())
 }
 
 /// Runs a job of the snapshots: the addresses of mark and snapshot, in hexadecimal, and the snapshot's bytes.
@@ -119,6 +129,7 @@ fn execute(words: &[&str]) -> Option<ExitCode> {
         ["compare"] => return Some(print_comparison()),
         ["mix"] => print_mix(),
         ["calls"] => print_calls(),
+        ["examined", word] => print_examined(word)?,
         ["stack"] => return Some(print_stack()),
         ["time", words @ ..] => print_time(words)?,
         ["snapshot", words @ ..] => print_snapshot(words)?,

@@ -1,24 +1,12 @@
-//! The second implementation, its answer in the eight numbers of the proved run.
+//! The second implementation, its answer in the numbers of the proved run.
 
-use flow_reference::{Answer, Mode, Outcome, Refusal};
+use flow_reference::{run_or_dispatch, Mode};
 
 use crate::buffers::Buffers;
 
-/// Runs a job; the eight numbers of the answer.
+/// Runs a job, dispatched if there is a budget; the nine numbers of the answer.
 #[inline(never)]
-pub fn run(job: &[u8], mode: Mode, buffers: &mut Buffers) -> [u64; 8] {
+pub fn run(job: &[u8], budget: Option<u64>, mode: Mode, buffers: &mut Buffers) -> [u64; 9] {
     let Buffers { trace, snapshot, work } = buffers;
-    match flow_reference::run(job, mode, trace, snapshot, work) {
-        Outcome::Refused(Refusal { number, place }) => [number.into(), place as u64, 0, 0, 0, 0, 0, 0],
-        Outcome::Ran(Answer { stop, turns, attempted }) => [
-            0,
-            0,
-            stop.into(),
-            turns as u64,
-            attempted.node.into(),
-            attempted.kind.into(),
-            attempted.number.into(),
-            attempted.value.into(),
-        ],
-    }
+    run_or_dispatch(job, budget, mode, trace, snapshot, work).numbers()
 }

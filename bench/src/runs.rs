@@ -6,6 +6,7 @@ use std::time::{Duration, Instant};
 use flow_reference::Mode;
 
 use crate::buffers::Buffers;
+use crate::dispatched::{Dispatched, DISPATCHED};
 use crate::replies::{Form, FORMS};
 use crate::script::Script;
 use crate::{job, large, lists, proved, reference};
@@ -45,6 +46,8 @@ pub enum Case {
     Single,
     /// A job with 128 REPLY commands, or the same job without them or without turns.
     Replies(Form),
+    /// A dispatched run.
+    Dispatched(Dispatched),
 }
 
 pub const MODES: [Mode; 2] = [Mode::Monitored, Mode::Unmonitored];
@@ -52,7 +55,12 @@ pub const MODES: [Mode; 2] = [Mode::Monitored, Mode::Unmonitored];
 /// Every case.
 pub fn cases() -> Vec<Case> {
     let cases = [Case::Turns, Case::Stopped, Case::None, Case::Large, Case::Spread, Case::Single];
-    cases.into_iter().chain(FORMS.map(|(_, form)| Case::Replies(form))).collect()
+    let replies = FORMS.map(|(_, form)| Case::Replies(form));
+    cases
+        .into_iter()
+        .chain(replies)
+        .chain(DISPATCHED.map(|(_, dispatched)| Case::Dispatched(dispatched)))
+        .collect()
 }
 
 /// Every case, monitored and bare.
@@ -69,6 +77,7 @@ impl Case {
             Case::Spread => lists::spread(),
             Case::Single => lists::single(),
             Case::Replies(form) => form.job(),
+            Case::Dispatched(dispatched) => dispatched.job(),
             Case::Turns | Case::Stopped => Script::new().job,
         };
         if self == Case::Stopped {
@@ -76,6 +85,14 @@ impl Case {
             job[job::without_turns().len() + 1] = 1;
         }
         job
+    }
+
+    /// The budget, if it is a dispatched run.
+    pub fn budget(self) -> Option<u64> {
+        match self {
+            Case::Dispatched(dispatched) => Some(dispatched.budget),
+            _ => None,
+        }
     }
 }
 
@@ -98,6 +115,8 @@ fn on_new_page<T>(work: impl FnOnce() -> T) -> T {
 pub struct Bench {
     engine: Engine,
     mode: Mode,
+    /// Of a dispatched run.
+    budget: Option<u64>,
     job: Vec<u8>,
     pub buffers: Box<Buffers>,
 }
@@ -105,28 +124,33 @@ pub struct Bench {
 impl Bench {
     /// The buffers hold this byte everywhere before the first run.
     pub fn new(engine: Engine, mode: Mode, case: Case, byte: u8) -> Bench {
-        Bench::of(engine, mode, case.job(), byte)
+        Bench::dispatched(engine, mode, case.budget(), case.job(), byte)
     }
 
-    /// The same for any job.
+    /// The same for any job with its written turns.
     pub fn of(engine: Engine, mode: Mode, job: Vec<u8>, byte: u8) -> Bench {
-        Bench { engine, mode, job, buffers: Buffers::filled(byte) }
+        Bench::dispatched(engine, mode, None, job, byte)
+    }
+
+    /// The same for any job, dispatched if there is a budget.
+    pub fn dispatched(engine: Engine, mode: Mode, budget: Option<u64>, job: Vec<u8>, byte: u8) -> Bench {
+        Bench { engine, mode, budget, job, buffers: Buffers::filled(byte) }
     }
 
     /// Runs once; the answer. Always a call: the stack it takes does not depend on the rest of the harness.
     #[inline(never)]
-    pub fn run(&mut self) -> [u64; 8] {
+    pub fn run(&mut self) -> [u64; 9] {
         self.run_here()
     }
 
     /// The same, never a call: the instructions it takes do not depend on the rest of the harness.
     #[inline(always)]
-    fn run_here(&mut self) -> [u64; 8] {
+    fn run_here(&mut self) -> [u64; 9] {
         // The compiler may not take a run's result from the run before.
         let job = black_box(&self.job);
         match self.engine {
-            Engine::Proved => proved::run(job, self.mode, &mut self.buffers),
-            Engine::Reference => reference::run(job, self.mode, &mut self.buffers),
+            Engine::Proved => proved::run(job, self.budget, self.mode, &mut self.buffers),
+            Engine::Reference => reference::run(job, self.budget, self.mode, &mut self.buffers),
         }
     }
 

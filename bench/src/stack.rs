@@ -7,7 +7,7 @@
 use std::arch::asm;
 use std::hint::black_box;
 
-use crate::groups::Group;
+use crate::groups::{Group, Task};
 use crate::runs::{Bench, Engine};
 
 /// Far more than a run takes.
@@ -16,8 +16,8 @@ const BYTES: usize = 1 << 20;
 /// The bytes that a whole run takes, the most of a group's jobs, monitored and bare. Each is run on two
 /// paints, as a byte that it writes may be that of one paint.
 pub fn most(engine: Engine, group: &Group) -> usize {
-    let deepest = |(mode, job): (_, &Vec<u8>)| {
-        let mut bench = Bench::of(engine, mode, job.clone(), 0);
+    let deepest = |(mode, Task { job, budget }): (_, &Task)| {
+        let mut bench = Bench::dispatched(engine, mode, *budget, job.clone(), 0);
         painted(&mut bench, 0x5A).max(painted(&mut bench, 0xA5))
     };
     group.runs().map(deepest).max().unwrap_or_default()

@@ -11,9 +11,12 @@ fn all() -> [Group; 3] {
 
 #[test]
 fn groups_and_jobs() {
-    let counts = all().map(|group| (group.name, group.jobs.len()));
-    assert_eq!(counts, [("examples", 19), ("tables", 26), ("largest job", 1)]);
-    assert!(all().iter().flat_map(|group| &group.jobs).all(|job| decode(job).is_ok()));
+    let counts = all().map(|group| (group.name, group.tasks.len()));
+    assert_eq!(counts, [("examples", 54), ("tables", 32), ("largest job", 2)]);
+    for task in all().iter().flat_map(|group| &group.tasks) {
+        let program = decode(&task.job).expect("a valid job");
+        assert!(task.budget.is_none() || program.turns.is_empty());
+    }
 }
 
 /// The tables and a state lie on the stack, so there is some to find.

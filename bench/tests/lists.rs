@@ -56,7 +56,7 @@ fn monitored_and_bare_runs_are_the_same() {
         let [mut monitored, mut bare] = [Mode::Monitored, Mode::Unmonitored]
             .map(|mode| Bench::of(Engine::Reference, mode, job.clone(), 0xA5));
         let answers = [monitored.run(), bare.run()];
-        assert_eq!(answers, [[0, 0, 0, 4_096, 0, 0, 0, 0]; 2]);
+        assert_eq!(answers, [[0, 0, 0, 4_096, 0, 0, 0, 0, 0]; 2]);
         assert!(monitored.buffers == bare.buffers);
     }
 }

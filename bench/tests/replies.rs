@@ -69,7 +69,7 @@ fn monitored_and_bare_runs_are_the_same() {
         let job = Form { shape, replies: true, turns: true }.job();
         let [mut monitored, mut bare] = [Mode::Monitored, Mode::Unmonitored]
             .map(|mode| Bench::of(Engine::Reference, mode, job.clone(), 0xA5));
-        assert_eq!([monitored.run(), bare.run()], [[0, 0, 0, 4_096, 0, 0, 0, 0]; 2]);
+        assert_eq!([monitored.run(), bare.run()], [[0, 0, 0, 4_096, 0, 0, 0, 0, 0]; 2]);
         assert!(monitored.buffers == bare.buffers);
     }
 }

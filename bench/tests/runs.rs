@@ -2,6 +2,7 @@
 
 use flow_bench::arguments;
 use flow_bench::compare::compare;
+use flow_bench::dispatched::DISPATCHED;
 use flow_bench::replies::FORMS;
 use flow_bench::runs::{Bench, Case, Engine};
 use flow_reference::Mode;
@@ -23,6 +24,7 @@ fn every_case_has_a_word() {
     names("spread", Case::Spread);
     names("single", Case::Single);
     FORMS.into_iter().for_each(|(word, form)| names(word, Case::Replies(form)));
+    DISPATCHED.into_iter().for_each(|(word, dispatched)| names(word, Case::Dispatched(dispatched)));
 }
 
 #[test]

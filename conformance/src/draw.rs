@@ -1,8 +1,10 @@
-//! Fresh runs: a generated job in both modes, with seeds and buffer lengths of their own. A tenth of the jobs is
-//! drawn to have its handlers moved to later places: those of them that are accepted and stay short enough.
+//! Fresh runs: a generated job in both modes, with its written turns and dispatched, with seeds and buffer lengths of
+//! their own. A tenth of the jobs is drawn to have its handlers moved to later places: those of them that are accepted
+//! and stay short enough.
 
 use flow_reference::corpus::{Change, Run};
 use flow_reference::generate::buffers::{self, Lengths};
+use flow_reference::generate::dispatched::any;
 use flow_reference::generate::{case, Kind, Random};
 use flow_reference::output::WORK_BYTES;
 use flow_reference::{decode, Mode};
@@ -13,8 +15,9 @@ use crate::late;
 const LONGEST: [usize; 5] = [60, 200, 600, 2_000, usize::MAX];
 const WEIGHTS: [usize; 5] = [8, 12, 20, 20, 40];
 
-/// Both runs of the job `index` of a seed.
-pub fn runs(seed: u64, index: u64, kind: Kind) -> [Run; 2] {
+/// The four runs of the job `index` of a seed: both modes with its written turns, then dispatched. Most of the dispatched
+/// jobs have lost their turns and have a budget that is accepted.
+pub fn runs(seed: u64, index: u64, kind: Kind) -> Vec<Run> {
     // Other numbers than those from which the generator makes the job.
     let mut random = Random::for_case(!seed, index);
     let longest = LONGEST[random.weighted(&WEIGHTS)];
@@ -23,9 +26,17 @@ pub fn runs(seed: u64, index: u64, kind: Kind) -> [Run; 2] {
         job = late::moved(&job, &mut random);
     }
     let turns = decode(&job).map_or_else(|_| random.below(40), |program| program.turns.len());
+    let written = both(&job, None, turns, &mut random);
+    let drawn = any(&job, &mut random);
+    let dispatched = both(&drawn.job, Some(drawn.budget), drawn.turns(), &mut random);
+    [written, dispatched].concat()
+}
+
+/// Both modes of a job, with buffers for about so many turns.
+fn both(job: &[u8], budget: Option<u64>, turns: usize, random: &mut Random) -> [Run; 2] {
     [Mode::Monitored, Mode::Unmonitored].map(|mode| {
-        let (lengths, seed) = (lengths(&mut random, turns), random.below(256) as u8);
-        Run { mode, change: Change::Nothing, seed, lengths, job: job.clone() }
+        let (lengths, seed) = (lengths(random, turns), random.below(256) as u8);
+        Run { mode, budget, change: Change::Nothing, seed, lengths, job: job.to_vec() }
     })
 }
 

@@ -3,23 +3,27 @@
 use std::collections::BTreeSet;
 use std::fmt;
 
-/// Runs by refusal (0: none) and by stop, the places of 19, and runs that differ.
+use crate::compare::Answer;
+
+/// Runs of one order, written or dispatched: by refusal (0: none) and by stop, the places of 19, and runs that differ.
 #[derive(Default)]
 pub struct Tally {
     runs: u64,
     turns: u64,
+    examined: u64,
     refusals: [u64; 20],
     unused_places: BTreeSet<u64>,
-    stops: [u64; 4],
+    stops: [u64; 5],
     pub differences: u64,
 }
 
 impl Tally {
     /// Counts a run with this answer.
-    pub fn note(&mut self, answer: &[u64; 8], differs: bool) {
-        let [refusal, place, stop, turns, ..] = *answer;
+    pub fn note(&mut self, answer: &Answer, differs: bool) {
+        let [refusal, place, stop, turns, .., examined] = *answer;
         self.runs += 1;
         self.turns += turns;
+        self.examined += examined;
         self.refusals[refusal as usize] += 1;
         match refusal {
             0 => self.stops[stop as usize] += 1,
@@ -38,13 +42,14 @@ fn list(counts: &[u64], first: usize) -> String {
 
 impl fmt::Display for Tally {
     fn fmt(&self, f: &mut fmt::Formatter) -> fmt::Result {
-        let Tally { runs, turns, refusals, unused_places, stops, differences } = self;
-        // There is no 13, 14, 16, 17 or 18.
-        let refusals = [list(&refusals[1..=12], 1), list(&refusals[15..=15], 15), list(&refusals[19..], 19)];
-        let (refusals, places, stops) = (refusals.concat(), unused_places.len(), list(stops, 0));
+        let Tally { runs, turns, examined, refusals, unused_places, stops, differences } = self;
+        // There is no 16, 17 or 18.
+        let refusals = [list(&refusals[1..=15], 1), list(&refusals[19..], 19)].concat();
+        let (places, stops) = (unused_places.len(), list(stops, 0));
         write!(
             f,
-            "{runs} runs, {turns} turns, refusals{refusals} at {places} places, stops{stops}, {differences} differences"
+            "{runs} runs, {turns} turns, {examined} examined, refusals{refusals} at {places} places, stops{stops}, \
+             {differences} differences"
         )
     }
 }

@@ -1,6 +1,7 @@
-//! Running a job, monitored or not, from Rust: the functions of the proved static library librun.a.
+//! Running a job, monitored or not, with its written turns or dispatched, from Rust: the functions of the proved static
+//! library librun.a.
 //!
-//! Document 01, with requests S-1, S-5, S-7, S-9 and S-11 of document 02, says what a job is, what a run does and
+//! Document 01, with requests S-1, S-2, S-5, S-7, S-9 and S-11 of document 02, says what a job is, what a run does and
 //! when a job is refused; `include/leqsumir.h` says what the functions promise. The lengths below are enough for
 //! every job.
 
@@ -10,7 +11,7 @@ pub const JOB_BYTES: usize = 16_384;
 /// An entry of the trace: node 1 byte, kind 1, number 1, value 4, lowest first.
 pub const ENTRY_BYTES: usize = 7;
 
-/// 4,096 entries. A trace needs only an entry for each TURN of its job.
+/// 4,096 entries. A trace needs only an entry for each TURN of its job, or for each turn of the budget.
 pub const TRACE_BYTES: usize = 28_672;
 
 /// Asked of every job: the longest snapshot, of 32 nodes with 16 waiting messages and their senders, and 64 variables.
@@ -22,6 +23,10 @@ pub const WORK_BYTES: usize = 4_096;
 
 /// Job, trace, snapshot and work, each as pointer and length, and the eight numbers of the answer.
 type Run = unsafe extern "C" fn(*const u8, usize, *mut u8, usize, *mut u8, usize, *mut u8, usize, *mut u64);
+
+/// The same with the budget behind the job, and nine numbers.
+type Dispatch =
+    unsafe extern "C" fn(*const u8, usize, u64, *mut u8, usize, *mut u8, usize, *mut u8, usize, *mut u64);
 
 extern "C" {
     fn leqsumir_run_monitored(
@@ -38,6 +43,30 @@ extern "C" {
     fn leqsumir_run_unmonitored(
         job: *const u8,
         job_len: usize,
+        trace: *mut u8,
+        trace_len: usize,
+        snapshot: *mut u8,
+        snapshot_len: usize,
+        work: *mut u8,
+        work_len: usize,
+        answer: *mut u64,
+    );
+    fn leqsumir_dispatch_monitored(
+        job: *const u8,
+        job_len: usize,
+        budget: u64,
+        trace: *mut u8,
+        trace_len: usize,
+        snapshot: *mut u8,
+        snapshot_len: usize,
+        work: *mut u8,
+        work_len: usize,
+        answer: *mut u64,
+    );
+    fn leqsumir_dispatch_unmonitored(
+        job: *const u8,
+        job_len: usize,
+        budget: u64,
         trace: *mut u8,
         trace_len: usize,
         snapshot: *mut u8,
@@ -64,17 +93,75 @@ pub fn run_unmonitored(job: &[u8], trace: &mut [u8], snapshot: &mut [u8], work: 
     call(leqsumir_run_unmonitored, job, trace, snapshot, work)
 }
 
+/// Runs a job without TURN by the dispatcher, which serves the first ready node after the one served last, at most
+/// `budget` times, and stops before the first turn whose entry the lists do not permit.
+///
+/// Any budget is allowed: 0 and those above 4,096 are a refusal (13), as is a job with a TURN (14). The answer: the eight
+/// numbers of a run, with 13 and 14 among the refusals and 4, nobody ready, among the stops; and how many nodes were
+/// examined for all choices.
+#[inline]
+pub fn dispatch_monitored(
+    job: &[u8],
+    budget: u64,
+    trace: &mut [u8],
+    snapshot: &mut [u8],
+    work: &mut [u8],
+) -> [u64; 9] {
+    call_dispatch(leqsumir_dispatch_monitored, job, budget, trace, snapshot, work)
+}
+
+/// The same without the lists.
+#[inline]
+pub fn dispatch_unmonitored(
+    job: &[u8],
+    budget: u64,
+    trace: &mut [u8],
+    snapshot: &mut [u8],
+    work: &mut [u8],
+) -> [u64; 9] {
+    call_dispatch(leqsumir_dispatch_unmonitored, job, budget, trace, snapshot, work)
+}
+
 /// Inlined as its callers are: they then cost no more than the C function.
 #[inline]
 fn call(run: Run, job: &[u8], trace: &mut [u8], snapshot: &mut [u8], work: &mut [u8]) -> [u64; 8] {
     // No answer has this number: one of the eight that is not written would be seen.
     let mut answer = [u64::MAX; 8];
-    // SAFETY: `run` is one of the two functions above, which keep no pointer. Every slice is passed
+    // SAFETY: `run` is one of the functions above, which keep no pointer. Every slice is passed
     // with its length, those that are written overlap no other, and the answer has eight numbers.
     unsafe {
         run(
             job.as_ptr(),
             job.len(),
+            trace.as_mut_ptr(),
+            trace.len(),
+            snapshot.as_mut_ptr(),
+            snapshot.len(),
+            work.as_mut_ptr(),
+            work.len(),
+            answer.as_mut_ptr(),
+        );
+    }
+    answer
+}
+
+/// The same for a dispatched run.
+#[inline]
+fn call_dispatch(
+    dispatch: Dispatch,
+    job: &[u8],
+    budget: u64,
+    trace: &mut [u8],
+    snapshot: &mut [u8],
+    work: &mut [u8],
+) -> [u64; 9] {
+    let mut answer = [u64::MAX; 9];
+    // SAFETY: as for `call`; the answer has nine numbers.
+    unsafe {
+        dispatch(
+            job.as_ptr(),
+            job.len(),
+            budget,
             trace.as_mut_ptr(),
             trace.len(),
             snapshot.as_mut_ptr(),

@@ -1,6 +1,8 @@
-//! Second implementation of the flow runner, written from the papers alone: 01, and S-1, S-5, S-7, S-9 and S-11 of 02.
+//! Second implementation of the flow runner, written from the papers alone: 01, and S-1, S-2, S-5, S-7, S-9 and
+//! S-11 of 02.
 //!
-//! `run` takes a job and three buffers; `Runner` steps through a decoded job turn by turn.
+//! `run` takes a job and three buffers, `dispatch` a budget of turns as well; `Runner` steps through a decoded job turn
+//! by turn.
 
 mod builder;
 mod checks;
@@ -8,6 +10,7 @@ pub mod command;
 pub mod corpus;
 pub mod decode;
 pub mod dirt;
+pub mod dispatch;
 pub mod engine;
 pub mod generate;
 pub mod hex;
@@ -21,6 +24,7 @@ pub mod table;
 mod unused;
 
 pub use decode::decode;
+pub use dispatch::{dispatch, run_or_dispatch};
 pub use outcome::{Answer, Entry, Mode, Outcome, Refusal};
 pub use program::Program;
 pub use run::{run, Runner, Step};

@@ -26,6 +26,8 @@ pub mod stop {
     pub const FORBIDDEN: u8 = 1;
     pub const NOT_READY: u8 = 2;
     pub const QUEUE_FULL: u8 = 3;
+    /// Of dispatched runs alone.
+    pub const NOBODY_READY: u8 = 4;
 }
 
 /// A trace entry.
@@ -51,6 +53,8 @@ pub struct Answer {
     /// Completed turns.
     pub turns: usize,
     pub attempted: Entry,
+    /// Of a dispatched run: the examined nodes of all its choices.
+    pub examined: Option<usize>,
 }
 
 /// Why a job was turned away, and at which offset.
@@ -64,4 +68,25 @@ pub struct Refusal {
 pub enum Outcome {
     Refused(Refusal),
     Ran(Answer),
+}
+
+impl Outcome {
+    /// In nine numbers: refusal and place; stop, completed turns; node, kind, number and value of the attempted entry;
+    /// the examined total, 0 with written turns.
+    pub fn numbers(&self) -> [u64; 9] {
+        match *self {
+            Outcome::Refused(Refusal { number, place }) => [number.into(), place as u64, 0, 0, 0, 0, 0, 0, 0],
+            Outcome::Ran(Answer { stop, turns, attempted, examined }) => [
+                0,
+                0,
+                stop.into(),
+                turns as u64,
+                attempted.node.into(),
+                attempted.kind.into(),
+                attempted.number.into(),
+                attempted.value.into(),
+                examined.unwrap_or(0) as u64,
+            ],
+        }
+    }
 }

@@ -1,20 +1,31 @@
-//! The printing program's text, made from the bytes that a run hands over.
+//! The printing program's text, made from the bytes that a run hands over. Writing into a string never fails, so these
+//! results are dropped.
 
 use std::fmt::Write;
 
 use crate::decode::decode;
+use crate::dispatch::run_or_dispatch;
 use crate::outcome::{Answer, Entry, Mode, Outcome, Refusal};
 use crate::output::{entry_from_bytes, ENTRY_BYTES, SNAPSHOT_BYTES, WORK_BYTES};
 use crate::program::Program;
-use crate::run::run;
+use crate::table::MAX_TURNS;
 
-/// Runs a job with buffers of its own and gives the text to print.
+/// Runs a job with its written turns and gives the text to print.
 pub fn print(job: &[u8], mode: Mode) -> String {
-    let turns = decode(job).map_or(0, |program| program.turns.len());
-    let mut trace = vec![0; ENTRY_BYTES * turns];
+    print_run(job, None, mode)
+}
+
+/// Runs a job by the dispatcher and gives the text to print.
+pub fn print_dispatched(job: &[u8], budget: u64, mode: Mode) -> String {
+    print_run(job, Some(budget), mode)
+}
+
+/// Runs a job, dispatched if there is a budget, with buffers of its own that are long enough for every job.
+pub fn print_run(job: &[u8], budget: Option<u64>, mode: Mode) -> String {
+    let mut trace = vec![0; ENTRY_BYTES * MAX_TURNS];
     let mut snapshot = vec![0; SNAPSHOT_BYTES];
     let mut work = vec![0; WORK_BYTES];
-    let outcome = run(job, mode, &mut trace, &mut snapshot, &mut work);
+    let outcome = run_or_dispatch(job, budget, mode, &mut trace, &mut snapshot, &mut work);
     text(job, &outcome, &trace, &snapshot)
 }
 
@@ -31,10 +42,11 @@ pub fn text(job: &[u8], outcome: &Outcome, trace: &[u8], snapshot: &[u8]) -> Str
     push_answer(&mut text, answer);
     let program = decode(job).expect("the job was accepted");
     push_snapshot(&mut text, &program, snapshot);
+    if let Some(examined) = answer.examined {
+        let _ = writeln!(text, "examined {examined}");
+    }
     text
 }
-
-// Writing into a string never fails, so the results below are dropped.
 
 fn push_entry(text: &mut String, entry: &Entry) {
     let Entry { node, kind, number, value } = entry;

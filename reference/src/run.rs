@@ -7,10 +7,32 @@ use crate::output::{entry_bytes, write_snapshot, ENTRY_BYTES, SNAPSHOT_BYTES, WO
 use crate::program::Program;
 use crate::state::State;
 
+/// Which node gets the next turn.
+pub trait Order {
+    /// The node of the next turn, behind so many completed ones; or the stop of a run that has no next turn.
+    fn next(&mut self, program: &Program, state: &State, turns: usize) -> Result<u8, u8>;
+
+    /// The nodes examined so far, if any are.
+    fn examined(&self) -> Option<usize> {
+        None
+    }
+}
+
+/// The job's TURN commands, one after the other.
+pub struct Written;
+
+impl Order for Written {
+    #[inline]
+    fn next(&mut self, program: &Program, _: &State, turns: usize) -> Result<u8, u8> {
+        program.turns.get(turns).copied().ok_or(stop::TURNS_OUT)
+    }
+}
+
 /// A program under way.
-pub struct Runner<'p> {
+pub struct Runner<'p, O = Written> {
     program: &'p Program,
     mode: Mode,
+    order: O,
     state: State,
     turns: usize,
 }
@@ -21,8 +43,15 @@ pub enum Step {
 }
 
 impl<'p> Runner<'p> {
+    /// A run of the written turns.
     pub fn new(program: &'p Program, mode: Mode) -> Runner<'p> {
-        Runner { program, mode, state: State::new(program), turns: 0 }
+        Runner::in_order(program, mode, Written)
+    }
+}
+
+impl<'p, O: Order> Runner<'p, O> {
+    pub fn in_order(program: &'p Program, mode: Mode, order: O) -> Runner<'p, O> {
+        Runner { program, mode, order, state: State::new(program), turns: 0 }
     }
 
     /// The state before the next turn.
@@ -35,11 +64,17 @@ impl<'p> Runner<'p> {
         self.turns
     }
 
-    /// The schedule's next turn. After a stop, every further step stops the same way.
+    /// The nodes examined so far, if the order examines any.
+    pub fn examined(&self) -> Option<usize> {
+        self.order.examined()
+    }
+
+    /// The next turn. After a stop, every further step stops the same way, but a dispatcher examines nodes again.
     #[inline]
     pub fn step(&mut self) -> Step {
-        let Some(&node) = self.program.turns.get(self.turns) else {
-            return Step::Stopped(Halt { stop: stop::TURNS_OUT, attempted: Entry::default() });
+        let node = match self.order.next(self.program, &self.state, self.turns) {
+            Ok(node) => node,
+            Err(stop) => return Step::Stopped(Halt { stop, attempted: Entry::default() }),
         };
         match turn(self.program, &mut self.state, node, self.mode) {
             Ok(entry) => {
@@ -49,56 +84,47 @@ impl<'p> Runner<'p> {
             Err(halt) => Step::Stopped(halt),
         }
     }
-}
 
-/// Refusals 10 to 12.
-fn short_buffer(turns: usize, trace: usize, snapshot: usize, work: usize) -> Option<u8> {
-    if trace < ENTRY_BYTES * turns {
-        Some(10)
-    } else if snapshot < SNAPSHOT_BYTES {
-        Some(11)
-    } else if work < WORK_BYTES {
-        Some(12)
-    } else {
-        None
+    /// Makes turns until a stop; the buffers must be long enough. The handlers lie in the program, so the work
+    /// buffer only gets its zeros.
+    pub fn complete(mut self, trace: &mut [u8], snapshot: &mut [u8], work: &mut [u8]) -> Answer {
+        let mut slots = trace.chunks_exact_mut(ENTRY_BYTES);
+        let halt = loop {
+            match self.step() {
+                Step::Completed(entry) => {
+                    let slot = slots.next().expect("7 bytes a turn");
+                    slot.copy_from_slice(&entry_bytes(&entry));
+                }
+                Step::Stopped(halt) => break halt,
+            }
+        };
+        write_snapshot(self.program, &self.state, snapshot);
+        work[..WORK_BYTES].fill(0);
+        let examined = self.order.examined();
+        Answer { stop: halt.stop, turns: self.turns, attempted: halt.attempted, examined }
     }
 }
 
-/// Runs a job. A refusal changes none of the buffers. After an accepted run the trace holds 7 bytes
-/// a completed turn, the snapshot its real length, and the first 4,096 bytes of `work` are 0; every
+/// Refusals 10 to 12 of a job that gets so many turns; the lengths are those of trace, snapshot and work.
+pub(crate) fn test_buffers(job: &[u8], turns: usize, lengths: [usize; 3]) -> Result<(), Refusal> {
+    let needed = [ENTRY_BYTES * turns, SNAPSHOT_BYTES, WORK_BYTES];
+    let mut pairs = (10..).zip(lengths.into_iter().zip(needed));
+    match pairs.find(|(_, (length, needed))| length < needed) {
+        Some((number, _)) => Err(Refusal { number, place: job.len() }),
+        None => Ok(()),
+    }
+}
+
+/// Runs a job with its written turns. A refusal changes none of the buffers. After an accepted run the trace holds
+/// 7 bytes a completed turn, the snapshot its real length, and the first 4,096 bytes of `work` are 0; every
 /// byte beyond is unchanged.
 pub fn run(job: &[u8], mode: Mode, trace: &mut [u8], snapshot: &mut [u8], work: &mut [u8]) -> Outcome {
     let program = match decode(job) {
         Ok(program) => program,
         Err(refusal) => return Outcome::Refused(refusal),
     };
-    if let Some(number) = short_buffer(program.turns.len(), trace.len(), snapshot.len(), work.len()) {
-        return Outcome::Refused(Refusal { number, place: job.len() });
+    match test_buffers(job, program.turns.len(), [trace.len(), snapshot.len(), work.len()]) {
+        Ok(()) => Outcome::Ran(Runner::new(&program, mode).complete(trace, snapshot, work)),
+        Err(refusal) => Outcome::Refused(refusal),
     }
-    Outcome::Ran(run_program(&program, mode, trace, snapshot, work))
-}
-
-/// Runs a decoded job; the buffers must be long enough. The handlers lie in the program, so the work
-/// buffer only gets its zeros.
-pub fn run_program(
-    program: &Program,
-    mode: Mode,
-    trace: &mut [u8],
-    snapshot: &mut [u8],
-    work: &mut [u8],
-) -> Answer {
-    let mut runner = Runner::new(program, mode);
-    let mut slots = trace.chunks_exact_mut(ENTRY_BYTES);
-    let halt = loop {
-        match runner.step() {
-            Step::Completed(entry) => {
-                let slot = slots.next().expect("7 bytes a turn");
-                slot.copy_from_slice(&entry_bytes(&entry));
-            }
-            Step::Stopped(halt) => break halt,
-        }
-    };
-    write_snapshot(program, &runner.state, snapshot);
-    work[..WORK_BYTES].fill(0);
-    Answer { stop: halt.stop, turns: runner.turns, attempted: halt.attempted }
 }

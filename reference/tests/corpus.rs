@@ -44,8 +44,8 @@ fn commands(holds: impl Fn(&Row) -> bool) -> BTreeSet<u8> {
 #[test]
 fn sizes() {
     let runs = all_runs();
-    assert_eq!(runs.len(), 7_813);
-    assert!(records(&runs).len() < 1_700_000);
+    assert_eq!(runs.len(), 8_319);
+    assert!(records(&runs).len() < 1_750_000);
     assert!(all_texts().len() < 2_000_000);
     assert!(runs.iter().all(|run| run.job.len() <= 16_400));
     let [trace, snapshot, work] = [0, 1, 2].map(|buffer| runs.iter().map(|run| run.lengths[buffer]).max());
@@ -124,13 +124,15 @@ const CHANGES: [Change; 5] =
 /// The runs of a file of records.
 fn read_back(mut file: &[u8]) -> Vec<Run> {
     let mut runs = Vec::new();
-    while let [mode, seed, rest @ ..] = file {
-        let (head, rest) = rest.split_at(8);
-        let length = |at: usize| usize::from(head[at]) + 256 * usize::from(head[at + 1]);
-        let (job, rest) = rest.split_at(length(0));
-        let (mode, change) = (common::MODES[usize::from(mode % 2)], CHANGES[usize::from(mode / 2)]);
-        let lengths = [length(2), length(4), length(6)];
-        runs.push(Run { mode, change, seed: *seed, lengths, job: job.to_vec() });
+    while let [flags, seed, rest @ ..] = file {
+        let (head, rest) = rest.split_at(10);
+        let number = |at: usize| usize::from(head[at]) + 256 * usize::from(head[at + 1]);
+        let (job, rest) = rest.split_at(number(0));
+        let (mode, change) = (common::MODES[usize::from(flags % 2)], CHANGES[usize::from(flags % 16 / 2)]);
+        let lengths = [number(2), number(4), number(6)];
+        let budget = (flags / 16 == 1).then(|| number(8) as u64);
+        assert!(flags / 16 < 2 && (budget.is_some() || number(8) == 0));
+        runs.push(Run { mode, budget, change, seed: *seed, lengths, job: job.to_vec() });
         file = rest;
     }
     assert!(file.is_empty());

@@ -2,10 +2,9 @@
 
 mod common;
 
-use common::made::runs_of;
-use common::run_dirty;
+use common::made::{outcome, runs_of};
 use flow_reference::corpus::Run;
-use flow_reference::{decode, Outcome, Program, Refusal};
+use flow_reference::{decode, Program, Refusal};
 
 /// What the decoder says to the jobs of a family.
 fn verdicts(name: &str) -> Vec<Result<Program, Refusal>> {
@@ -147,11 +146,8 @@ fn places_of_unused_permissions() {
 }
 
 /// The refusals of the runs of a family, each job and lengths in both modes; 0 for accepted ones.
-fn numbers_of_runs(name: &str) -> Vec<u8> {
-    let number = |run: &Run| match run_dirty(&run.job, run.mode, run.lengths, run.seed).outcome {
-        Outcome::Refused(refusal) => refusal.number,
-        Outcome::Ran(_) => 0,
-    };
+fn numbers_of_runs(name: &str) -> Vec<u64> {
+    let number = |run: &Run| outcome(run).numbers()[0];
     let pairs = runs_of(name);
     let pairs = pairs.chunks(2).map(|pair| [&pair[0], &pair[1]].map(number));
     pairs.inspect(|[one, other]| assert_eq!(one, other, "{name}")).map(|[one, _]| one).collect()
@@ -167,4 +163,26 @@ fn replies_beside_short_buffers() {
 #[test]
 fn unused_beside_short_buffers() {
     assert_eq!(numbers_of_runs("unused buffers"), [[19; 6], [10, 10, 0, 10, 11, 12], [9; 6]].concat());
+}
+
+/// Refused for something else than the budget and turns, then with turns and for something else, then for the turns; then
+/// for the budget before all.
+#[test]
+fn refusals_of_dispatched_jobs() {
+    let alone = [1, 2, 3, 4, 5, 6, 7, 8, 9];
+    let with_turns = [2, 3, 4, 5, 6, 7, 8, 15, 9, 19, 9];
+    let expected = [&alone[..], &with_turns, &[14; 3], &[13; 9]].concat();
+    assert_eq!(numbers_of_runs("dispatched refusals"), expected);
+    let k1 = [13, 0, 0, 0, 0, 13, 13, 13, 13, 13, 13];
+    let others = [1, 5, 14].map(|number| [13, number, 13, 13]).concat();
+    assert_eq!(numbers_of_runs("budgets"), [&k1[..], &others].concat());
+}
+
+/// The trace buffer by the budget, then both others; 13 and 14 go before them.
+#[test]
+fn dispatched_beside_short_buffers() {
+    let nine = [10, 10, 0, 10, 11, 12];
+    let by_budget = [10, 10, 0, 10, 10, 0, 10, 0, 10];
+    let expected = [&nine[..], &by_budget, &[13; 6], &[14; 3]].concat();
+    assert_eq!(numbers_of_runs("dispatched buffers"), expected);
 }

@@ -4,11 +4,11 @@ mod common;
 
 use std::collections::{BTreeMap, BTreeSet};
 
-use common::made::{all, runs_of, Made};
+use common::made::{all, outcome, runs_of, Made};
 use common::{commands, run_dirty, MODES};
 use flow_reference::corpus::{Change, Run};
 use flow_reference::output::{snapshot_length, ENTRY_BYTES};
-use flow_reference::print::print;
+use flow_reference::print::print_run;
 use flow_reference::run::{Runner, Step};
 use flow_reference::{decode, Answer, Mode, Outcome, Refusal};
 
@@ -35,8 +35,9 @@ fn kept_or_changed() {
     for Made { run, text, .. } in all() {
         assert_eq!(text.lines().last(), Some(last_line(run)), "{run:?}");
     }
-    assert_eq!(all().iter().filter(|made| made.run.change != Change::Nothing).count(), 32);
-    assert!(runs_of("changes").iter().all(|run| run.change != Change::Nothing));
+    assert_eq!(all().iter().filter(|made| made.run.change != Change::Nothing).count(), 56);
+    let changes = ["changes", "dispatched changes"].map(runs_of).concat();
+    assert!(changes.iter().all(|run| run.change != Change::Nothing));
 }
 
 /// The text without its last line is the printing program's, if the buffers are long enough.
@@ -45,7 +46,7 @@ fn texts_of_the_printing_program() {
     let mut same = 0;
     for Made { run, outcome, text } in all() {
         if !matches!(outcome, Outcome::Refused(Refusal { number: 10..=12, .. })) {
-            assert_eq!(*text, print(&run.job, run.mode) + last_line(run) + "\n");
+            assert_eq!(*text, print_run(&run.job, run.budget, run.mode) + last_line(run) + "\n");
             same += 1;
         }
     }
@@ -62,14 +63,14 @@ fn refusals_and_places() {
             places.entry(number).or_default().insert(place);
         }
     }
-    assert_eq!(counts.len(), 28, "1 to 12, 15 and 19 in both modes: {counts:?}");
+    assert_eq!(counts.len(), 32, "1 to 15 and 19 in both modes: {counts:?}");
     let least = |number| match number {
-        1 => 8,
-        15 => 15,
+        1 | 14 => 8,
+        13 | 15 => 15,
         _ => 60,
     };
     assert!(counts.iter().all(|(&(number, _), &count)| count >= least(number)), "{counts:?}");
-    assert_eq!(places[&1], BTreeSet::from([0]));
+    assert_eq!([&places[&1], &places[&13]], [&BTreeSet::from([0]); 2]);
     assert!(places.range(2..=12).all(|(_, places)| places.len() >= 35), "{places:?}");
     assert!(places[&15].len() >= 5 && places[&19].len() >= 35, "{places:?}");
 }
@@ -86,15 +87,17 @@ fn stops() -> BTreeMap<(Mode, u8, u8), usize> {
 #[test]
 fn stops_and_attempted_kinds() {
     let counts = stops();
-    let monitored = [(0, 0), (1, 3), (1, 4), (1, 5), (2, 0), (3, 6)].map(|(s, k)| (Mode::Monitored, s, k));
-    let unmonitored = [(0, 0), (2, 0), (3, 6)].map(|(s, k)| (Mode::Unmonitored, s, k));
+    let monitored =
+        [(0, 0), (1, 3), (1, 4), (1, 5), (2, 0), (3, 6), (4, 0)].map(|(s, k)| (Mode::Monitored, s, k));
+    let unmonitored = [(0, 0), (2, 0), (3, 6), (4, 0)].map(|(s, k)| (Mode::Unmonitored, s, k));
     assert_eq!(counts.keys().copied().collect::<Vec<_>>(), [&monitored[..], &unmonitored].concat());
-    assert!(counts.values().all(|&count| count >= 60), "{counts:?}");
+    let least = |stop| if stop == 4 { 40 } else { 60 };
+    assert!(counts.iter().all(|(&(_, stop, _), &count)| count >= least(stop)), "{counts:?}");
 }
 
 /// The monitored runs of a family: stop and completed turns.
 fn monitored_ends(family: &str) -> Vec<(u8, usize)> {
-    let end = |run: &Run| match run_dirty(&run.job, run.mode, run.lengths, run.seed).outcome {
+    let end = |run: &Run| match outcome(run) {
         Outcome::Ran(answer) => (answer.stop, answer.turns),
         Outcome::Refused(refusal) => panic!("{refusal:?}"),
     };
@@ -249,6 +252,35 @@ fn full_queues_of_one_and_several_targets() {
     assert!((1..=4).all(|targets| counts[&targets] >= 10), "{counts:?}");
 }
 
+/// Families of pairs, and how many pairs each has at least.
+const PAIRED: [(&str, usize); 25] = [
+    ("worked", 15),
+    ("accesses", 200),
+    ("full queues", 80),
+    ("long runs", 3),
+    ("pairs", 350),
+    ("work", 89),
+    ("spans", 50),
+    ("ranges", 40),
+    ("span pairs", 12),
+    ("replies", 50),
+    ("reply buffers", 16),
+    ("answers", 60),
+    ("reply pairs", 12),
+    ("unused", 100),
+    ("unused buffers", 18),
+    ("used pairs", 24),
+    ("senders", 40),
+    ("sender buffers", 6),
+    ("sender pairs", 8),
+    ("dispatched", 30),
+    ("choices", 90),
+    ("budgets", 20),
+    ("dispatched refusals", 30),
+    ("dispatched buffers", 20),
+    ("dispatched pairs", 32),
+];
+
 #[test]
 fn modes_seeds_and_pairs() {
     for mode in MODES {
@@ -257,28 +289,9 @@ fn modes_seeds_and_pairs() {
         assert!(seeds.len() > 2_500);
         assert_eq!(seeds.iter().collect::<BTreeSet<_>>().len(), 256);
     }
-    let both = |pair: &[Run]| pair[0].job == pair[1].job && pair[0].mode != pair[1].mode;
-    for (family, count) in [
-        ("worked", 15),
-        ("accesses", 200),
-        ("full queues", 80),
-        ("long runs", 3),
-        ("pairs", 350),
-        ("work", 89),
-        ("spans", 50),
-        ("ranges", 40),
-        ("span pairs", 12),
-        ("replies", 50),
-        ("reply buffers", 16),
-        ("answers", 60),
-        ("reply pairs", 12),
-        ("unused", 100),
-        ("unused buffers", 18),
-        ("used pairs", 24),
-        ("senders", 40),
-        ("sender buffers", 6),
-        ("sender pairs", 8),
-    ] {
+    let task = |run: &Run| (run.job.clone(), run.budget);
+    let both = |pair: &[Run]| task(&pair[0]) == task(&pair[1]) && pair[0].mode != pair[1].mode;
+    for (family, count) in PAIRED {
         let runs = runs_of(family);
         assert!(runs.chunks(2).all(both), "{family}");
         assert!(runs.len() >= 2 * count, "{family}");
@@ -291,7 +304,8 @@ fn buffer_lengths() {
     let mut seen: BTreeMap<(usize, isize), usize> = BTreeMap::new();
     for Made { run, .. } in all() {
         let Ok(program) = decode(&run.job) else { continue };
-        let needed = [ENTRY_BYTES * program.turns.len(), 3_136, 4_096];
+        let turns = run.budget.map_or(program.turns.len(), |budget| budget as usize);
+        let needed = [ENTRY_BYTES * turns, 3_136, 4_096];
         let more = [0, 1, 2].map(|buffer| run.lengths[buffer] as isize - needed[buffer] as isize);
         for buffer in (0..3).filter(|&buffer| (0..3).all(|other| other == buffer || more[other] >= 0)) {
             *seen.entry((buffer, more[buffer].clamp(-2, 2))).or_default() += 1;
@@ -306,7 +320,7 @@ fn buffer_lengths() {
 fn ends_by_work_length() -> BTreeMap<usize, BTreeSet<(u8, u8)>> {
     let mut ends: BTreeMap<usize, BTreeSet<(u8, u8)>> = BTreeMap::new();
     for run in runs_of("work") {
-        let end = match run_dirty(&run.job, run.mode, run.lengths, run.seed).outcome {
+        let end = match outcome(&run) {
             Outcome::Ran(answer) => (0, answer.stop),
             Outcome::Refused(refusal) => (refusal.number, 0),
         };
@@ -380,7 +394,7 @@ fn lengths_of_runs() {
     }
     assert!(turns[&0] > 500);
     assert!(turns.range(10..=60).map(|(_, count)| count).sum::<usize>() > 700, "{turns:?}");
-    assert_eq!((turns[&4_096], turns[&4_095], turns[&4_094]), (3, 1, 2));
+    assert_eq!((turns[&4_096], turns[&4_095], turns[&4_094]), (5, 1, 2));
 }
 
 /// The longest snapshot: 16 messages at each of 32 nodes, 64 variables.

@@ -6,11 +6,20 @@ use std::collections::BTreeSet;
 use std::path::PathBuf;
 
 use common::{bytes, commands};
-use flow_reference::print::print;
+use flow_reference::generate::dispatched::without_turns;
+use flow_reference::print::print_run;
 use flow_reference::Mode::{Monitored, Unmonitored};
 
 /// Flows of the papers and that of request S-5, each as a benign and as a malicious job.
 const FLOWS: [&str; 6] = ["email", "water", "earthquake", "lowercase", "speed", "baby"];
+
+/// Those of them that are dispatched, in which form, and with which budget.
+const DISPATCHED: [(&str, &str, u64); 4] = [
+    ("lowercase", "benign", 11),
+    ("email", "malicious", 12),
+    ("earthquake", "benign", 100),
+    ("water", "malicious", 100),
+];
 
 fn folder() -> PathBuf {
     PathBuf::from(env!("CARGO_MANIFEST_DIR")).join("../examples")
@@ -47,14 +56,23 @@ fn printed(file: &str) -> (Vec<String>, String) {
 
 #[test]
 fn every_job_has_its_text_and_its_lines() {
+    let dispatched = DISPATCHED.map(|(flow, ..)| flow);
     let expected: BTreeSet<String> = ["k1", "k2", "k4", "k5", "k6", "k7", "unused", "senders"]
         .map(str::to_string)
         .into_iter()
         .chain(FLOWS.iter().flat_map(|flow| [format!("{flow}-benign"), format!("{flow}-malicious")]))
+        .chain(dispatched.iter().flat_map(|flow| [format!("{flow}-dispatched"), format!("{flow}-written")]))
         .collect();
     for ending in [".txt", ".job", ".watched", ".bare"] {
         assert_eq!(names(ending), expected, "{ending}");
     }
+    assert_eq!(names(".budget"), dispatched.iter().map(|flow| format!("{flow}-dispatched")).collect());
+}
+
+/// The budget of a job that is dispatched.
+fn budget(name: &str) -> Option<u64> {
+    let has_budget = names(".budget").contains(name);
+    has_budget.then(|| text(&format!("{name}.budget")).trim_end().parse().expect("a number"))
 }
 
 #[test]
@@ -67,9 +85,9 @@ fn jobs_are_their_texts() {
 #[test]
 fn jobs_print_the_stored_lines() {
     for name in names(".job") {
-        let job = read(&format!("{name}.job"));
-        assert_eq!(print(&job, Monitored), text(&format!("{name}.watched")), "{name}");
-        assert_eq!(print(&job, Unmonitored), text(&format!("{name}.bare")), "{name}");
+        let (job, budget) = (read(&format!("{name}.job")), budget(&name));
+        assert_eq!(print_run(&job, budget, Monitored), text(&format!("{name}.watched")), "{name}");
+        assert_eq!(print_run(&job, budget, Unmonitored), text(&format!("{name}.bare")), "{name}");
     }
 }
 
@@ -144,14 +162,44 @@ fn each_message_names_its_sender() {
         .ends_with("end 0 26 0 0 0 0\nnode 0 255 0 0 0\nnode 1 255 0 0 0\nnode 2 0 0 90 2 90 0 91 2\n"));
 }
 
-/// Whether words are an entry, or a line `end`, `node`, `var` or `refused`, with its numbers.
+/// A dispatched job is its flow's without turns, and the written one has the bare run's choices behind it.
+#[test]
+fn dispatched_jobs_and_their_choices() {
+    for (flow, form, expected) in DISPATCHED {
+        let job = read(&format!("{flow}-dispatched.job"));
+        assert_eq!(job, without_turns(&read(&format!("{flow}-{form}.job"))), "{flow}");
+        assert_eq!(budget(&format!("{flow}-dispatched")), Some(expected), "{flow}");
+        let nodes = printed(&format!("{flow}-dispatched.bare")).0;
+        let node = |entry: &String| entry.split(' ').next().unwrap().parse::<u8>().expect("a node");
+        let turns = nodes.iter().flat_map(|entry| [0x60, node(entry)]);
+        assert_eq!(read(&format!("{flow}-written.job")), [job, turns.collect()].concat(), "{flow}");
+    }
+}
+
+/// Written out, the choices print the same lines but for the last one, and stop 4 is stop 0.
+#[test]
+fn written_choices_print_the_same() {
+    let mut stops = BTreeSet::new();
+    for (flow, ending) in DISPATCHED.iter().flat_map(|&(flow, ..)| [(flow, "watched"), (flow, "bare")]) {
+        let dispatched = text(&format!("{flow}-dispatched.{ending}"));
+        let (rest, last) = dispatched.trim_end().rsplit_once('\n').expect("several lines");
+        assert!(last.starts_with("examined "));
+        let written = text(&format!("{flow}-written.{ending}"));
+        assert_eq!(rest.replace("\nend 4 ", "\nend 0 ") + "\n", written, "{flow}.{ending}");
+        stops.insert(printed(&format!("{flow}-dispatched.{ending}")).1[..5].to_string());
+    }
+    assert_eq!(stops, BTreeSet::from(["end 0", "end 1", "end 4"].map(str::to_string)));
+}
+
+/// Whether words are an entry, or a line `end`, `node`, `var`, `refused` or `examined`, with its numbers.
 fn is_printed_line(words: &[&str]) -> bool {
     let numbers = match words {
-        ["end" | "node" | "var" | "refused", numbers @ ..] => numbers,
+        ["end" | "node" | "var" | "refused", numbers @ ..] if numbers.len() > 1 => numbers,
+        ["examined", _] => &words[1..],
         [_, _, _, _] => words,
         _ => return false,
     };
-    numbers.len() > 1 && numbers.iter().all(|word| word.parse::<u32>().is_ok())
+    numbers.iter().all(|word| word.parse::<u32>().is_ok())
 }
 
 /// The page quotes printed lines between backticks; each is a line of some stored file.

@@ -5,8 +5,9 @@ mod common;
 use std::collections::VecDeque;
 
 use common::{commands, number, Permissions};
-use flow_reference::generate::{case, Kind};
-use flow_reference::print::print;
+use flow_reference::generate::dispatched::{accepted, Dispatched};
+use flow_reference::generate::{case, Kind, Random};
+use flow_reference::print::print_run;
 use flow_reference::Mode;
 
 #[derive(Clone, Default)]
@@ -142,22 +143,58 @@ impl Model {
         Ok(event)
     }
 
-    fn run(mut self, permissions: Option<&Permissions>) -> String {
-        let mut lines = Vec::new();
-        let mut end = String::new();
-        for node in self.turns.clone() {
-            match self.turn(node, permissions) {
-                Ok((kind, number, value)) => lines.push(format!("{node} {kind} {number} {value}")),
-                Err((stop, (kind, number, value))) => {
-                    end = format!("end {stop} {} {node} {kind} {number} {value}", lines.len());
-                    break;
-                }
+    /// Gives a turn to a node: its line, or the line of the stop.
+    fn serve(
+        &mut self,
+        node: u8,
+        lists: Option<&Permissions>,
+        lines: &mut Vec<String>,
+    ) -> Result<(), String> {
+        match self.turn(node, lists) {
+            Ok((kind, number, value)) => lines.push(format!("{node} {kind} {number} {value}")),
+            Err((stop, (kind, number, value))) => {
+                return Err(format!("end {stop} {} {node} {kind} {number} {value}", lines.len()));
             }
         }
-        if end.is_empty() {
-            end = format!("end 0 {} 0 0 0 0", lines.len());
+        Ok(())
+    }
+
+    /// The written turns: the lines of the entries and of the stop.
+    fn written(&mut self, lists: Option<&Permissions>) -> Vec<String> {
+        let mut lines = Vec::new();
+        let stopped =
+            self.turns.clone().into_iter().find_map(|node| self.serve(node, lists, &mut lines).err());
+        lines.push(stopped.unwrap_or(format!("end 0 {} 0 0 0 0", lines.len())));
+        lines
+    }
+
+    /// Dispatched: the same lines, and the examined total. The nodes stand in a circle, the next to be examined in front.
+    fn dispatched(&mut self, budget: usize, lists: Option<&Permissions>) -> (Vec<String>, usize) {
+        let mut circle: VecDeque<u8> = (0..self.nodes.len() as u8).collect();
+        let (mut lines, mut examined) = (Vec::new(), 0);
+        while lines.len() < budget {
+            let is_ready = |node: &u8| {
+                let node = &self.nodes[usize::from(*node)];
+                node.position.is_some() || !node.queue.is_empty()
+            };
+            let Some(place) = circle.iter().position(is_ready) else {
+                lines.push(format!("end 4 {} 0 0 0 0", lines.len()));
+                return (lines, examined + circle.len());
+            };
+            examined += place + 1;
+            circle.rotate_left(place + 1);
+            if let Err(end) = self.serve(circle[circle.len() - 1], lists, &mut lines) {
+                lines.push(end);
+                return (lines, examined);
+            }
         }
-        lines.push(end);
+        lines.push(format!("end 0 {} 0 0 0 0", lines.len()));
+        (lines, examined)
+    }
+
+    /// The lines of the nodes and variables.
+    fn rest(&self) -> Vec<String> {
+        let mut lines = Vec::new();
         for (number, node) in self.nodes.iter().enumerate() {
             let (position, waiting) = (node.position.unwrap_or(255), node.queue.len());
             let mut line =
@@ -168,16 +205,42 @@ impl Model {
         lines.extend(
             self.variables.iter().enumerate().map(|(number, (_, value))| format!("var {number} {value}")),
         );
-        lines.join("\n") + "\n"
+        lines
+    }
+
+    /// What is printed, dispatched if there is a budget.
+    fn print(mut self, budget: Option<u64>, lists: Option<&Permissions>) -> String {
+        let (entries, examined) = match budget {
+            Some(budget) => {
+                let (lines, examined) = self.dispatched(budget as usize, lists);
+                (lines, vec![format!("examined {examined}")])
+            }
+            None => (self.written(lists), Vec::new()),
+        };
+        [entries, self.rest(), examined].concat().join("\n") + "\n"
+    }
+}
+
+/// The same of both modes by the model and by the engine.
+fn check(job: &[u8], budget: Option<u64>, index: u64) {
+    let permissions = Permissions::of(job);
+    for (mode, lists) in [(Mode::Monitored, Some(&permissions)), (Mode::Unmonitored, None)] {
+        assert_eq!(print_run(job, budget, mode), load(job).print(budget, lists), "case {index}");
     }
 }
 
 #[test]
 fn engine_against_model() {
     for index in 0..2_500 {
-        let job = case(12, index, Kind::Valid, usize::MAX).job;
-        let permissions = Permissions::of(&job);
-        assert_eq!(print(&job, Mode::Monitored), load(&job).run(Some(&permissions)), "case {index}");
-        assert_eq!(print(&job, Mode::Unmonitored), load(&job).run(None), "case {index}");
+        check(&case(12, index, Kind::Valid, usize::MAX).job, None, index);
+    }
+}
+
+#[test]
+fn dispatcher_against_model() {
+    for index in 0..2_500 {
+        let job = case(13, index, Kind::Valid, usize::MAX).job;
+        let Dispatched { job, budget } = accepted(&job, &mut Random::for_case(14, index));
+        check(&job, Some(budget), index);
     }
 }

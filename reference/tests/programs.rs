@@ -1,4 +1,4 @@
-//! The two programs as they are called.
+//! The programs `flowref` and `jobs` as they are called.
 
 mod common;
 
@@ -6,7 +6,7 @@ use std::io::Write;
 use std::process::{Command, Output, Stdio};
 
 use common::{bytes, k1, run_dirty};
-use flow_reference::print::print;
+use flow_reference::print::{print, print_dispatched};
 use flow_reference::{hex, Mode, Outcome};
 
 fn flowref(arguments: &[&str], job: &[u8]) -> Output {
@@ -49,13 +49,37 @@ fn flowref_refuses() {
     prints(&[], &[1; 16_384], "refused 5 8\n");
 }
 
+/// Budgets of up to 9 digits, zeros in front included.
+#[test]
+fn flowref_dispatches() {
+    let job = &k1()[..47];
+    let [monitored, bare] = [Mode::Monitored, Mode::Unmonitored].map(|mode| print_dispatched(job, 10, mode));
+    assert!(monitored.ends_with("\nvar 0 5\nexamined 16\n"));
+    prints(&["dispatch", "10"], job, &monitored);
+    prints(&["dispatch", "000000010"], job, &monitored);
+    prints(&["dispatch", "10", "bare"], job, &bare);
+    for budget in ["0", "000000000", "4097", "999999999"] {
+        prints(&["dispatch", budget], job, "refused 13 0\n");
+        prints(&["dispatch", budget, "bare"], &[], "refused 13 0\n");
+    }
+    prints(&["dispatch", "4096"], &[], "refused 1 0\n");
+    prints(&["dispatch", "9"], &k1(), "refused 14 47\n");
+}
+
 #[test]
 fn flowref_usage() {
-    for arguments in [&["watched"][..], &[""], &["bare", "bare"], &["--help"], &["BARE"]] {
+    let bare = [&["watched"][..], &[""], &["bare", "bare"], &["--help"], &["BARE"]];
+    let dispatch =
+        [&["dispatch"][..], &["dispatch", "bare"], &["DISPATCH", "9"], &["9"], &["bare", "dispatch", "9"]];
+    let more = [&["dispatch", "9", ""][..], &["dispatch", "9", "bare", "bare"], &["dispatch", "9", "9"]];
+    let budgets = ["", "+9", "-9", "9 ", " 9", "9.0", "0x9", "1e3", "4,096", "0000000009", "1000000000"];
+    let budgets = budgets.map(|budget| ["dispatch", budget]);
+    let all = bare.into_iter().chain(dispatch).chain(more).chain(budgets.iter().map(|words| &words[..]));
+    for arguments in all {
         let output = flowref(arguments, &k1());
         assert!(!output.status.success());
         assert!(output.stdout.is_empty());
-        assert_eq!(output.stderr.iter().filter(|&&byte| byte == b'\n').count(), 1);
+        assert_eq!(output.stderr, b"usage: flowref [dispatch BUDGET] [bare]\n", "{arguments:?}");
     }
 }
 

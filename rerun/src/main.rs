@@ -1,23 +1,29 @@
-//! Reruns a job file through the proved static library, monitored and unmonitored, and says where the two part.
+//! Reruns a job file through the proved static library, monitored and unmonitored, and says where the two part. With a
+//! budget both runs are dispatched.
 
+use std::ffi::OsString;
 use std::process::ExitCode;
 
 use leqsumir::{ENTRY_BYTES, SNAPSHOT_BYTES, TRACE_BYTES, WORK_BYTES};
 
-/// Job, trace, snapshot and work; the eight numbers of the answer.
-type Run = fn(&[u8], &mut [u8], &mut [u8], &mut [u8]) -> [u64; 8];
-
-/// What a run hands over: the answer and the entries made.
+/// What a run hands over: the numbers of the answer, eight with written turns and nine dispatched, and the entries made.
 struct Rerun {
-    answer: [u64; 8],
+    answer: Vec<u64>,
     entries: Vec<[u8; ENTRY_BYTES]>,
 }
 
-fn rerun(run: Run, job: &[u8]) -> Rerun {
+fn rerun(job: &[u8], budget: Option<u64>, is_monitored: bool) -> Rerun {
     let (mut trace, mut snapshot, mut work) = ([0; TRACE_BYTES], [0; SNAPSHOT_BYTES], [0; WORK_BYTES]);
-    let answer = run(job, &mut trace, &mut snapshot, &mut work);
+    let (t, s, w) = (&mut trace, &mut snapshot, &mut work);
+    let answer = match (budget, is_monitored) {
+        (None, true) => leqsumir::run_monitored(job, t, s, w).to_vec(),
+        (None, false) => leqsumir::run_unmonitored(job, t, s, w).to_vec(),
+        (Some(budget), true) => leqsumir::dispatch_monitored(job, budget, t, s, w).to_vec(),
+        (Some(budget), false) => leqsumir::dispatch_unmonitored(job, budget, t, s, w).to_vec(),
+    };
     let entries = trace.chunks_exact(ENTRY_BYTES).take(answer[3] as usize);
-    Rerun { answer, entries: entries.map(|bytes| bytes.try_into().expect("7 bytes")).collect() }
+    let entries = entries.map(|bytes| bytes.try_into().expect("7 bytes")).collect();
+    Rerun { answer, entries }
 }
 
 /// An entry as the printing program prints it: node, kind, number, value.
@@ -25,12 +31,17 @@ fn shown([node, kind, number, value @ ..]: [u8; ENTRY_BYTES]) -> String {
     format!("{node} {kind} {number} {}", u32::from_le_bytes(value))
 }
 
-fn print_answer(name: &str, answer: [u64; 8]) {
+fn print_answer(name: &str, answer: &[u64]) {
     match answer {
-        [0, _, stop, turns, node, kind, number, value] => {
-            println!("{name}: stop {stop}, turns {turns}, attempted {node} {kind} {number} {value}");
+        [0, _, stop, turns, node, kind, number, value, rest @ ..] => {
+            print!("{name}: stop {stop}, turns {turns}, attempted {node} {kind} {number} {value}");
+            if let [examined] = rest {
+                print!(", examined {examined}");
+            }
+            println!();
         }
         [refusal, place, ..] => println!("{name}: refused {refusal} {place}"),
+        _ => unreachable!("at least eight numbers"),
     }
 }
 
@@ -45,19 +56,29 @@ fn print_parting(monitored: &Rerun, unmonitored: &Rerun) {
     }
 }
 
+/// The file's name and the budget, if there is one.
+fn arguments() -> Option<(OsString, Option<u64>)> {
+    let mut words = std::env::args_os().skip(1);
+    let file = words.next()?;
+    let budget = match words.next() {
+        Some(word) => Some(word.to_str()?.parse().ok()?),
+        None => None,
+    };
+    words.next().is_none().then_some((file, budget))
+}
+
 fn main() -> ExitCode {
-    let Some(file) = std::env::args_os().nth(1) else {
-        eprintln!("usage: rerun JOB");
+    let Some((file, budget)) = arguments() else {
+        eprintln!("usage: rerun JOB [BUDGET]");
         return ExitCode::from(2);
     };
     let Ok(job) = std::fs::read(&file) else {
         eprintln!("rerun: cannot read {}", file.display());
         return ExitCode::FAILURE;
     };
-    let monitored = rerun(leqsumir::run_monitored, &job);
-    let unmonitored = rerun(leqsumir::run_unmonitored, &job);
-    print_answer("monitored", monitored.answer);
-    print_answer("unmonitored", unmonitored.answer);
+    let [monitored, unmonitored] = [true, false].map(|is_monitored| rerun(&job, budget, is_monitored));
+    print_answer("monitored", &monitored.answer);
+    print_answer("unmonitored", &unmonitored.answer);
     print_parting(&monitored, &unmonitored);
     ExitCode::SUCCESS
 }

@@ -54,11 +54,12 @@ fn run_filled(
     requires { ⌜ at + 131080 ≤ length (now text) ⌝ }
     ensures { λ r. ⌜ r ≤ at + 131080 ⌝ }
 {
+    let schedule = head.schedule;
     let printed = run_to_text(
         text,
         at,
         job,
-        head.schedule,
+        schedule,
         trace,
         snapshot,
         work,

@@ -4,7 +4,7 @@
 //! corpus FOLDER
 //! ```
 //!
-//! `stdin` holds the runs: of each its mode, seed and lengths in 10 bytes, then its job. `stdout` holds what the
+//! `stdin` holds the runs: of each its mode, seed, lengths and budget in 12 bytes, then its job. `stdout` holds what the
 //! printing program prints for each, and a line `kept` or `changed`. Both are the same every time.
 
 use std::io;

@@ -84,7 +84,7 @@ fn write_case(out: &mut impl Write, case: &Case) -> io::Result<()> {
 }
 
 fn write_answer(out: &mut impl Write, answer: &Answer, trace: &[u8], snapshot: &[u8]) -> io::Result<()> {
-    let Answer { stop, turns, attempted } = answer;
+    let Answer { stop, turns, attempted, .. } = answer;
     let (node, kind, number, value) = (attempted.node, attempted.kind, attempted.number, attempted.value);
     let (trace, snapshot) = (hex::encode(trace), hex::encode(snapshot));
     writeln!(out, "ran {stop} {turns} {node} {kind} {number} {value} {trace} {snapshot}")

@@ -57,7 +57,7 @@ pub fn some_lengths() -> [Lengths; 6] {
 }
 
 /// A short job for each of 01's refusals 1 to 9, which come before the buffers are looked at.
-fn refused() -> [Job; 9] {
+pub fn refused() -> [Job; 9] {
     [
         vec![],
         vec![0x03],

@@ -1,9 +1,11 @@
 //! The stored corpus: runs in families, and what is printed of each.
 
 mod answers;
+mod budgets;
 mod buffers;
 mod bytes;
 mod changes;
+mod choices;
 mod edits;
 mod full;
 mod groups;
@@ -32,11 +34,18 @@ mod worlds;
 
 use std::collections::BTreeSet;
 
+use crate::generate::dispatched::Dispatched;
 use mend::all_mended;
 use run::Runs;
 pub use run::{Change, Run};
 
 pub type Job = Vec<u8>;
+
+/// Each of the jobs with each of the budgets.
+fn each_with(jobs: &[Job], budgets: &[u64]) -> Vec<Dispatched> {
+    let with = |job: &Job, budget| Dispatched { job: job.clone(), budget };
+    jobs.iter().flat_map(|job| budgets.iter().map(move |&budget| with(job, budget))).collect()
+}
 
 /// Runs of one kind, with a name.
 pub struct Family {
@@ -70,8 +79,8 @@ fn jobs() -> Vec<(&'static str, Vec<Job>)> {
 const WITH_UNUSED: [&str; 2] = ["groups", "random"];
 
 /// All families: the worked jobs in both modes, each of the jobs above once, then what is about runs, then SPAN,
-/// then REPLY, then unused permissions, then senders. A new family goes behind all others, so that the stored runs
-/// before it stay the same.
+/// then REPLY, then unused permissions, then senders, then dispatched runs. A new family goes behind all others, so that
+/// the stored runs before it stay the same.
 pub fn families() -> Vec<Family> {
     let mut runs = Runs::new();
     let mut list = vec![Family { name: "worked", runs: runs.pairs(&worked::jobs()) }];
@@ -102,6 +111,7 @@ pub fn families() -> Vec<Family> {
     list.extend(with_replies(&mut runs));
     list.extend(about_unused(&mut runs));
     list.extend(about_senders(&mut runs));
+    list.extend(dispatched(&mut runs));
     list
 }
 
@@ -146,6 +156,20 @@ fn about_senders(runs: &mut Runs) -> [Family; 3] {
         Family { name: "senders", runs: runs.pairs(&senders::jobs()) },
         Family { name: "sender buffers", runs: senders::beside_buffers(runs) },
         Family { name: "sender pairs", runs: runs.pairs(&pairs::with_senders(8)) },
+    ]
+}
+
+/// Dispatched runs: pairs alone, but for the longest.
+fn dispatched(runs: &mut Runs) -> [Family; 8] {
+    [
+        Family { name: "dispatched", runs: runs.dispatched(&worked::dispatched()) },
+        Family { name: "choices", runs: runs.dispatched(&choices::jobs()) },
+        Family { name: "budgets", runs: runs.dispatched(&budgets::jobs()) },
+        Family { name: "longest", runs: budgets::longest(runs) },
+        Family { name: "dispatched refusals", runs: runs.dispatched(&budgets::refusals()) },
+        Family { name: "dispatched buffers", runs: budgets::beside_buffers(runs) },
+        Family { name: "dispatched changes", runs: changes::dispatched(runs) },
+        Family { name: "dispatched pairs", runs: runs.dispatched(&pairs::dispatched(8)) },
     ]
 }
 

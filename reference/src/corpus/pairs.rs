@@ -1,9 +1,10 @@
 //! The generator's valid jobs with runs of 10 to 60 turns, for both modes: of 01's commands alone, with SPAN, with
-//! REPLY, with permissions that the run does not need, with several senders at one node.
+//! REPLY, with permissions that the run does not need, with several senders at one node; and dispatched ones.
 
 use super::Job;
+use crate::generate::dispatched::{without_turns, Dispatched};
 use crate::generate::{draw_case, Kind, Random};
-use crate::outcome::kind;
+use crate::outcome::{kind, stop};
 use crate::state::FROM_START;
 use crate::table::MAX_NODES;
 use crate::{decode, Entry, Mode, Program, Runner, Step};
@@ -38,6 +39,32 @@ pub fn with_unreached(count: usize) -> Vec<Job> {
 pub fn with_senders(count: usize) -> Vec<Job> {
     let jobs = drawn(|index| Random::for_case(SEED + 3, index));
     jobs.filter(|job| job.len() < 400 && has_senders(job)).take(count).collect()
+}
+
+/// So many dispatched jobs for each stop of the monitored run; it completes at least 8 turns, the unmonitored one at most 60.
+pub fn dispatched(count: usize) -> Vec<Dispatched> {
+    let job = |index: u64| {
+        let mut random = Random::for_case(SEED + 4, index);
+        let job = without_turns(&draw_case(&mut random, Kind::Valid, 500).job);
+        Dispatched { job, budget: random.between(8, 60) as u64 }
+    };
+    let mut jobs = Vec::new();
+    for stop in [stop::TURNS_OUT, stop::FORBIDDEN, stop::QUEUE_FULL, stop::NOBODY_READY] {
+        let is_wanted = |job: &Dispatched| matches!(ending(job), (found, 8..) if found == stop);
+        jobs.extend((0..).map(job).filter(is_wanted).take(count));
+    }
+    jobs
+}
+
+/// Stop and completed turns of the monitored dispatched run.
+fn ending(job: &Dispatched) -> (u8, usize) {
+    let program = decode(&job.job).expect("a valid job");
+    let mut runner = Runner::dispatched(&program, Mode::Monitored, job.turns());
+    loop {
+        if let Step::Stopped(halt) = runner.step() {
+            return (halt.stop, runner.turns());
+        }
+    }
 }
 
 /// Whether a node of the unmonitored run takes messages of three senders.

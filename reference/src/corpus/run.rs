@@ -3,11 +3,12 @@
 use super::Job;
 use crate::dirt::{dirty, handed_over, is_kept, Buffers};
 use crate::generate::buffers::{self, Lengths};
+use crate::generate::dispatched::Dispatched;
 use crate::generate::plan::Plan;
 use crate::generate::Random;
 use crate::print::text;
 use crate::table::TURN;
-use crate::{decode, run, Mode, Refusal};
+use crate::{decode, run_or_dispatch, Mode, Outcome, Refusal};
 
 /// The byte of a buffer that is changed after a run, by one modulo 256.
 #[derive(Clone, Copy, Debug, PartialEq, Eq)]
@@ -39,6 +40,8 @@ impl Change {
 #[derive(Clone, Debug, PartialEq, Eq)]
 pub struct Run {
     pub mode: Mode,
+    /// Of a dispatched run; none for written turns.
+    pub budget: Option<u64>,
     pub change: Change,
     pub seed: u8,
     /// Lengths of trace, snapshot and work.
@@ -47,18 +50,28 @@ pub struct Run {
 }
 
 impl Run {
-    /// Mode (0 monitored, 1 unmonitored) with twice the number of the change, and seed, a byte each; the lengths
-    /// of job, trace, snapshot and work, 2 bytes each, lowest first; the job.
+    /// A byte for mode, change and order, and the seed; the lengths of job, trace, snapshot and work and the budget, 0
+    /// with written turns, 2 bytes each, lowest first; the job.
     pub fn record(&self) -> Vec<u8> {
-        let [trace, snapshot, work] = self.lengths;
-        let mode = u8::from(self.mode == Mode::Unmonitored) + 2 * self.change as u8;
-        let mut record = vec![mode, self.seed];
-        for length in [self.job.len(), trace, snapshot, work] {
-            let length = u16::try_from(length).expect("2 bytes hold the length");
-            record.extend_from_slice(&length.to_le_bytes());
+        let [trace, snapshot, work] = self.lengths.map(|length| length as u64);
+        let mut record = vec![self.flags(), self.seed];
+        for number in [self.job.len() as u64, trace, snapshot, work, self.budget.unwrap_or(0)] {
+            let number = u16::try_from(number).expect("2 bytes hold the number");
+            record.extend_from_slice(&number.to_le_bytes());
         }
         record.extend_from_slice(&self.job);
         record
+    }
+
+    /// 1 if unmonitored, twice the number of the change, 16 if dispatched, added up.
+    fn flags(&self) -> u8 {
+        let (is_bare, is_dispatched) = (self.mode == Mode::Unmonitored, self.budget.is_some());
+        u8::from(is_bare) + 2 * self.change as u8 + 16 * u8::from(is_dispatched)
+    }
+
+    /// Runs in buffers of the lengths.
+    pub fn run_in(&self, [trace, snapshot, work]: &mut Buffers) -> Outcome {
+        run_or_dispatch(&self.job, self.budget, self.mode, trace, snapshot, work)
     }
 
     /// What the printing program prints for the run; then `kept` if every byte that has to be unchanged is
@@ -66,8 +79,7 @@ impl Run {
     pub fn text(&self) -> String {
         let before = dirty(self.seed, self.lengths);
         let mut after = before.clone();
-        let [trace, snapshot, work] = &mut after;
-        let outcome = run(&self.job, self.mode, trace, snapshot, work);
+        let outcome = self.run_in(&mut after);
         let lines = text(&self.job, &outcome, &after[0], &after[1]);
         self.change.apply(&mut after);
         let handed_over = handed_over(&self.job, &outcome, &after[1]);
@@ -100,7 +112,8 @@ impl Runs {
 
     /// A run with these lengths.
     pub fn with(&mut self, job: &[u8], mode: Mode, lengths: Lengths) -> Run {
-        Run { mode, change: Change::Nothing, seed: self.0.below(256) as u8, lengths, job: job.to_vec() }
+        let seed = self.0.below(256) as u8;
+        Run { mode, budget: None, change: Change::Nothing, seed, lengths, job: job.to_vec() }
     }
 
     /// A run in either mode, with buffers that are mostly long enough.
@@ -126,5 +139,20 @@ impl Runs {
     /// Pairs of all these jobs.
     pub fn pairs(&mut self, jobs: &[Job]) -> Vec<Run> {
         jobs.iter().flat_map(|job| self.pair(job)).collect()
+    }
+
+    /// The same dispatched job in both modes, with these lengths.
+    pub fn both_dispatched(&mut self, job: &Dispatched, lengths: Lengths) -> [Run; 2] {
+        self.both(&job.job, lengths).map(|run| Run { budget: Some(job.budget), ..run })
+    }
+
+    /// Pairs of all these dispatched jobs, with buffers that are long enough.
+    pub fn dispatched(&mut self, jobs: &[Dispatched]) -> Vec<Run> {
+        let mut list = Vec::new();
+        for job in jobs {
+            let lengths = buffers::enough(&mut self.0, job.turns());
+            list.extend(self.both_dispatched(job, lengths));
+        }
+        list
     }
 }

@@ -2,32 +2,13 @@
 //! snapshot.
 
 use super::run::{exact, Run, Runs};
+use super::worlds::{body, flow, start, wires};
 use super::Job;
 use crate::table::{self, *};
 
 pub fn jobs() -> Vec<Job> {
     let taken = [orders(), to_themselves(), beside_start(), several_targets()].concat();
     [taken, full_queues(), moving(), numbers(), judged()].concat()
-}
-
-/// One flow of so many nodes.
-fn flow(nodes: u8) -> Job {
-    [&[FLOW][..], &[NODE].repeat(nodes.into())].concat()
-}
-
-/// Wires: node, port, target.
-fn wires(list: &[[u8; 3]]) -> Job {
-    list.iter().flat_map(|&[node, port, target]| [WIRE, node, port, target]).collect()
-}
-
-/// A node's handler.
-fn body(node: u8, commands: &[u8]) -> Job {
-    [&[BODY, node], commands].concat()
-}
-
-/// The first message of a flow: always 7, so that it is the sender that tells messages apart.
-fn start(node: u8) -> Job {
-    table::write(START, &[node.into(), 7])
 }
 
 /// Turns of nodes, each so often.

@@ -1,6 +1,7 @@
 //! The paper's worked jobs, K1 to K11, and its two counts.
 
-use super::Job;
+use super::{each_with, Job};
+use crate::generate::dispatched::{without_turns, Dispatched};
 use crate::table::*;
 
 /// K1 up to its START.
@@ -52,4 +53,26 @@ pub fn jobs() -> Vec<Job> {
         repeated(&[FLOW], &[NODE], MAX_NODES),
         repeated(&[FLOW], &[NODE], MAX_NODES + 1),
     ]
+}
+
+/// K1 without its turns.
+pub fn dispatched_k1() -> Job {
+    without_turns(&k1(true, 2, 0))
+}
+
+/// The worked jobs without their turns: K1, K2, K4, K6 and K7 with budgets about as large as the turns that are made, the
+/// others and a flow without nodes with the least and the largest.
+pub fn dispatched() -> Vec<Dispatched> {
+    let run: [(Job, &[u64]); 5] = [
+        (k1(true, 2, 0), &[1, 2, 4, 5, 8, 9, 10, 4_096]),
+        (k1(true, 3, 0), &[7, 8, 9, 10]),
+        (k1(false, 2, 0), &[2, 3]),
+        (k1(true, 4_294_967_294, 0), &[7, 8, 4_096]),
+        (k7(), &[33, 34, 35]),
+    ];
+    let run = run.iter().flat_map(|(job, budgets)| each_with(&[without_turns(job)], budgets));
+    let all = jobs();
+    let others = [&all[6..12], &all[13..], &[vec![FLOW]]].concat();
+    let others: Vec<Job> = others.iter().map(|job| without_turns(job)).collect();
+    run.chain(each_with(&others, &[1, 4_096])).collect()
 }

@@ -2,7 +2,7 @@
 
 use super::Job;
 use crate::generate::plan::Plan;
-use crate::table::{self, Operand, BODY, MAX_FLOWS, MAX_FUNCTIONS, MAX_NODES, MAX_VARIABLES, REPLY, SPAN};
+use crate::table::{self, *};
 
 /// Flows of so many nodes each, variables by scope and owner, and so many functions.
 pub fn world(nodes: &[usize], variables: &[(u8, u8)], functions: usize) -> Plan {
@@ -43,6 +43,26 @@ pub fn full() -> Plan {
     };
     let variables: Vec<(u8, u8)> = (0..MAX_VARIABLES).map(variable).collect();
     world(&[MAX_NODES / MAX_FLOWS; MAX_FLOWS], &variables, MAX_FUNCTIONS)
+}
+
+/// One flow of so many nodes.
+pub fn flow(nodes: u8) -> Job {
+    [&[FLOW][..], &[NODE].repeat(nodes.into())].concat()
+}
+
+/// Wires: node, port, target.
+pub fn wires(list: &[[u8; 3]]) -> Job {
+    list.iter().flat_map(|&[node, port, target]| [WIRE, node, port, target]).collect()
+}
+
+/// A node's handler.
+pub fn body(node: u8, commands: &[u8]) -> Job {
+    [&[BODY, node], commands].concat()
+}
+
+/// The first message of a node: always 7, so that it is the sender that tells messages apart.
+pub fn start(node: u8) -> Job {
+    table::write(START, &[node.into(), 7])
 }
 
 /// The plan's job with more bytes behind it.

@@ -1,10 +1,11 @@
-//! Seeded generator of cases: valid jobs, damaged jobs, short buffers.
+//! Seeded generator of cases: valid jobs, damaged jobs, short buffers; and dispatched runs of their jobs.
 
 pub mod buffers;
 mod case;
 pub mod count;
 pub mod damage;
 mod declare;
+pub mod dispatched;
 mod handler;
 mod noise;
 mod permit;

@@ -7,7 +7,7 @@ pub mod made;
 use std::collections::HashSet;
 use std::ops::RangeInclusive;
 
-use flow_reference::{decode, hex, Mode, Outcome, Refusal};
+use flow_reference::{decode, hex, run_or_dispatch, Mode, Outcome, Refusal};
 
 pub const MODES: [Mode; 2] = [Mode::Monitored, Mode::Unmonitored];
 
@@ -37,8 +37,24 @@ pub struct Ran {
 
 /// Runs with buffers of these lengths, filled with the byte `dirt`.
 pub fn run_dirty(job: &[u8], mode: Mode, lengths: [usize; 3], dirt: u8) -> Ran {
+    run_or_dispatch_dirty(job, None, mode, lengths, dirt)
+}
+
+/// The same dispatched.
+pub fn dispatch_dirty(job: &[u8], budget: u64, mode: Mode, lengths: [usize; 3], dirt: u8) -> Ran {
+    run_or_dispatch_dirty(job, Some(budget), mode, lengths, dirt)
+}
+
+/// Dispatched if there is a budget.
+pub fn run_or_dispatch_dirty(
+    job: &[u8],
+    budget: Option<u64>,
+    mode: Mode,
+    lengths: [usize; 3],
+    dirt: u8,
+) -> Ran {
     let [mut trace, mut snapshot, mut work] = lengths.map(|length| vec![dirt; length]);
-    let outcome = flow_reference::run(job, mode, &mut trace, &mut snapshot, &mut work);
+    let outcome = run_or_dispatch(job, budget, mode, &mut trace, &mut snapshot, &mut work);
     Ran { outcome, trace, snapshot, work }
 }
 
