@@ -1,18 +1,16 @@
 -- Demand 3 of the code, from what the entry points promise and the model's demands 1 and 3.
 use Prim.Native.Nat.{ℕ}
 use mathlib.Core.Path.{_≡_, refl, sym, ap, subst, _∙_}
-use mathlib.Core.List.{List}
-use mathlib.Core.Logic.{_↔_, _⊎_, inl, inr, Iff·symm, Iff·trans}
+use mathlib.Core.Logic.{_↔_, ⊎-elim, Iff·symm, Iff·trans}
 use native.Mathlib.Omega.{arith}
 use Rattle.run.specs.Answers.{Told, refusal, answer, toldIn, Call, call, Gives}
-use Rattle.model.specs.Command.{Command}
-use Rattle.model.specs.Program.{Program, programOf}
+use Rattle.model.specs.Program.{Program}
 use Rattle.model.specs.Turn.{Entry}
 use Rattle.model.specs.Run.{Run}
 use Rattle.model.specs.Refusal.{Refusal}
 use Rattle.model.specs.Result.{Result, refused, ran, report, monitored, unmonitored, sizesOf}
-use Rattle.model.specs.Conclusion.{unmonitoredOf}
-use Rattle.model.specs.Transparency.{AllPermitted, FirstForbidden, stoppedAt}
+use Rattle.model.specs.Transparency.{FirstForbidden, stoppedAt, Comparison}
+use Rattle.model.proofs.Logic.{not-both}
 use Rattle.model.proofs.Conclusion.{demand1}
 use Rattle.model.proofs.Transparency.{demand3}
 use Rattle.transparency.specs.Claims.{TransparencyHolds, ExportsTransparent}
@@ -23,70 +21,51 @@ told-refused (refused q) r e = let same : q ≡ r = cc in rw same
 told-refused (ran x trace snapshot) r e = let w : _≡_ {A = ℕ} 0 1 = cc in absurd (omega arith)
 
 -- a call that gives a result gives a refusal exactly if that is the result
-gives-refused : (result : Result) (c : Call) → Gives result c → (r : Refusal) → Gives (refused r) c ↔ (result ≡ refused r)
-gives-refused result c g r = (λ h. told-refused result r (sym (g .told) ∙ h .told), λ e. subst (λ (x : Result). Gives x c) e g)
+pub gives-refused : (result : Result) (c : Call) → Gives result c → (r : Refusal) → Gives (refused r) c ↔ (result ≡ refused r)
+gives-refused result c g r = (λ h. told-refused result r (sym (g .told) ∙ h .told), λ e. rw e at g)
 
 -- stop and turns that are told
-abbrev stopIn : Told → ℕ
+abbrev pub stopIn : Told → ℕ
 stopIn (refusal r) = 0
 stopIn (answer x) = x .stop
 
-abbrev turnsIn : Told → ℕ
+abbrev pub turnsIn : Told → ℕ
 turnsIn (refusal r) = 0
 turnsIn (answer x) = x .turns
 
--- the monitored call tells where the two part
-module _ (past : List Command) (m : Call) where
-  abbrev P : Program
-  P = programOf past
-
-  abbrev u : Run
-  u = unmonitoredOf past
-
-  -- stop 1 after n turns
-  abbrev One : ℕ → Type 0
-  One n = (e : Entry) × (m .told ≡ answer (record { stop = 1; turns = n; attempted = e }))
-
-  parted :
-      ((n : ℕ) × FirstForbidden P u n) ⊎ AllPermitted P u → (AllPermitted P u → Gives (report P u) m)
-      → ((n : ℕ) → FirstForbidden P u n → Gives (stoppedAt P u n) m) → ¬ (u .stop ≡ 1)
-      → (n : ℕ) → One n → FirstForbidden P u n
-  unfolding report
-  parted (inl (k, first)) identical stops never n (e, told) = subst (FirstForbidden P u)
-      (ap turnsIn (sym (stops k first .told) ∙ told)) first
-  parted (inr all) identical stops never n (e, told) = absurd (never (ap stopIn (sym (identical all .told) ∙ told)))
+-- a call that gives the monitored run tells where it parts from the unmonitored one: by stop 1, and the turns before
+pub parted :
+    (P : Program) (u r : Run) (m : Call) → Comparison P u r → Gives (report P r) m → (n : ℕ)
+    → FirstForbidden P u n ↔ ((e : Entry) × (m .told ≡ answer (record { stop = 1; turns = n; attempted = e })))
+unfolding report
+parted P u r m c g n =
+    let told : (k : ℕ) → FirstForbidden P u k → m .told ≡ toldIn (stoppedAt P u k) = λ k first. g .told ∙ ap toldIn (c .stops k first) in (
+      λ first. (_, told n first),
+      λ one. ⊎-elim (λ f. subst (FirstForbidden P u) (ap turnsIn (sym (told (f .0) (f .1)) ∙ one .1)) (f .1))
+          (λ all. let f = c .stopOne .0 (ap stopIn (sym (g .told) ∙ one .1)) in
+          not-both (all (f .0) (f .1 .isCompleted)) (f .1 .notPermitted))
+          (c .decided),
+    )
 
 pub transparency : TransparencyHolds
 transparency job m u gm gu =
     let both = demand3 job (m .before) (u .before) in
-    let one = demand1 job (m .before) .concluded in
-    let other = demand1 job (u .before) .concluded in
-    let refusesM : (r : Refusal) → Gives (refused r) m ↔ (monitored job (sizesOf (m .before)) ≡ refused r) = gives-refused
-    (monitored job (sizesOf (m .before))) m gm in
-    let refusesU : (r : Refusal) → Gives (refused r) u ↔ (unmonitored job (sizesOf (u .before)) ≡ refused r) = gives-refused
-    (unmonitored job (sizesOf (u .before))) u gu in
+    let refusesM = gives-refused (monitored job (sizesOf (m .before))) m gm in
+    let refusesU = gives-refused (unmonitored job (sizesOf (u .before))) u gu in
     record {
-      monitoredRefuses = λ r. Iff·trans (refusesM r) (one .monitoredRefuses r);
-      unmonitoredRefuses = λ r. Iff·trans (refusesU r) (other .unmonitoredRefuses r);
+      monitoredRefuses = λ r. Iff·trans (refusesM r) (demand1 job (m .before) .concluded .monitoredRefuses r);
+      unmonitoredRefuses = λ r. Iff·trans (refusesU r) (demand1 job (u .before) .concluded .unmonitoredRefuses r);
       refuseAlike = λ same r. Iff·trans (Iff·trans (refusesM r) (both .refuseAlike same r)) (Iff·symm (refusesU r));
       bothRun = λ past a b.
           let run = both .bothRun past a b in
-          let identical : AllPermitted (programOf past) (unmonitoredOf past)
-          → Gives (report (programOf past) (unmonitoredOf past)) m = λ all. subst (λ (x : Result). Gives x m)
-          (run .monitoredReports ∙ run .comparison .identical all) gm in
-          let stops : (n : ℕ) → FirstForbidden (programOf past) (unmonitoredOf past) n
-          → Gives (stoppedAt (programOf past) (unmonitoredOf past) n) m = λ n first. subst (λ (x : Result). Gives x m)
-          (run .monitoredReports ∙ run .comparison .stops n first) gm in
+          let c = run .comparison in
+          let g = rw (run .monitoredReports) at gm in
           record {
-            unmonitoredRuns = subst (λ (x : Result). Gives x u) (run .unmonitoredReports) gu;
-            decided = run .comparison .decided;
-            identical = identical;
-            stops = stops;
-            parts = λ n. (
-              λ first. (_, stops n first .told),
-              parted past m (run .comparison .decided) identical stops
-                  (one .runs past a .neverOne) n,
-            );
+            unmonitoredRuns = rw (run .unmonitoredReports) at gu;
+            decided = c .decided;
+            identical = λ all. rw (c .identical all) at g;
+            stops = λ n first. rw (c .stops n first) at g;
+            parts = parted _ _ _ m c g;
           };
     }
 

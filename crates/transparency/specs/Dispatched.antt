@@ -89,7 +89,7 @@ abbrev pub writtenTold : Told → Told
 writtenTold (refusal r) = refusal r
 writtenTold (answer x) = answer (record { stop = cond (eqb (x .stop) 4) 0 (x .stop); turns = x .turns; attempted = x .attempted })
 
--- a dispatched call hands over a run of so many nodes that stops so
+-- a dispatched call hands over a run, stopped by one of these stops, after at most as many turns as the budget has
 pub record DispatchTells (Stops : ℕ → Type 0) (P : Program) (budget : ℕ) (d : Dispatched) (c : DispatchCall) : Type 0 where
   pub hands : Hands (handed P d) c
   -- the stop that is told
