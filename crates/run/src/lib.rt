@@ -139,14 +139,8 @@ pub fn dispatch_monitored(
     ensures work { λ _. ⌜ now (work .exit) ≡ workAfter
         (monitoredUnder budget (now (job .entry)) (now (trace .entry)) (now (snapshot .entry)) (now (work .entry)) .result) (now (work .entry)) ⌝ }
 {
-    run(
-        job,
-        Schedule::Dispatched(budget),
-        trace,
-        snapshot,
-        work,
-        true,
-    )
+    let schedule = Schedule::Dispatched(budget);
+    run(job, schedule, trace, snapshot, work, true)
 }
 
 // The unmonitored run (01's "bare") of a job without TURN commands, its turns dispatched with a budget.
@@ -168,12 +162,6 @@ pub fn dispatch_unmonitored(
     ensures work { λ _. ⌜ now (work .exit) ≡ workAfter
         (unmonitoredUnder budget (now (job .entry)) (now (trace .entry)) (now (snapshot .entry)) (now (work .entry)) .result) (now (work .entry)) ⌝ }
 {
-    run(
-        job,
-        Schedule::Dispatched(budget),
-        trace,
-        snapshot,
-        work,
-        false,
-    )
+    let schedule = Schedule::Dispatched(budget);
+    run(job, schedule, trace, snapshot, work, false)
 }
