@@ -17,6 +17,7 @@ use Rattle.model.specs.Dispatching.{writtenOut, Examined}
 use Rattle.model.proofs.Lists.{AllBelow}
 use Rattle.model.proofs.Stops.{StopsBy}
 use Rattle.model.proofs.Serving.{Serving}
+use Rattle.model.proofs.Logic.{not-both}
 use Rattle.model.proofs.Choosing.{round-below, reached}
 use Rattle.model.proofs.Pursuing.{Ways, dispatch-by}
 
@@ -110,19 +111,29 @@ module _ (rule : State → ℕ → Turned) (nodes budget : ℕ) (start : State) 
           goes = λ budget from s i c e s′ t d ih. (λ h. ap suc (ih .0 h), λ h. ih .1 (omega arith));
         })
 
-    -- it stops by 4 only with turns left and nobody ready
-    pub nobody-ready : dispatched rule nodes budget start .run .stop ≡ 4
-        → (length (dispatched rule nodes budget start .run .steps) < budget)
-        × ((n : ℕ) → n < nodes → ready (dispatched rule nodes budget start .run .final) n ≡ false)
+    -- it stops by 4 exactly if turns are left and nobody is ready
+    pub nobody-ready : (dispatched rule nodes budget start .run .stop ≡ 4)
+        ↔ ((length (dispatched rule nodes budget start .run .steps) < budget)
+        × ((n : ℕ) → n < nodes → ready (dispatched rule nodes budget start .run .final) n ≡ false))
     nobody-ready =
         by-ways
-        (λ budget from s d. d .run .stop ≡ 4 → (length (d .run .steps) < budget) × ((n : ℕ) → n < nodes → ready (d .run .final) n ≡ false))
+        (λ budget from s d. (d .run .stop ≡ 4)
+        ↔ ((length (d .run .steps) < budget) × ((n : ℕ) → n < nodes → ready (d .run .final) n ≡ false)))
         (record {
-          made = λ from s h. absurd (omega arith);
-          fails = λ budget from s c h. (
-            omega arith,
-            λ n l. let a = reached nodes from n (c .low) l in rw (a .arrives) at (c .unready (a .distance) (a .near)),
+          made = λ from s. (λ h. absurd (omega arith), λ h. absurd (omega (arith, h .0)));
+          fails = λ budget from s c. (
+            λ h. (
+              omega arith,
+              λ n l. let a = reached nodes from n (c .low) l in rw (a .arrives) at (c .unready (a .distance) (a .near)),
+            ),
+            λ h. refl,
           );
-          halts = λ budget from s i c k e t h. absurd (proper s _ k e t .1 h);
-          goes = λ budget from s i c e s′ t d ih h. (omega (arith, ih h .0), ih h .1);
+          halts = λ budget from s i c k e t. (
+            λ h. absurd (proper s _ k e t .1 h),
+            λ h. absurd (not-both (c .isReady) (h .1 (goingRound nodes from i) (round-below nodes from i (c .low) (c .near)))),
+          );
+          goes = λ budget from s i c e s′ t d ih. (
+            λ h. let q = ih .0 h in (omega (arith, q .0), q .1),
+            λ h. ih .1 (omega (arith, h .0), h .1),
+          );
         })

@@ -95,10 +95,10 @@ pub record Dispatches (rule : State → ℕ → Turned) (nodes budget : ℕ) (st
   pub follows : Follows rule (nodesIn (d .choices)) start (writtenOut (d .run))
   -- the node of entry k is the node chosen for turn k
   pub serves : (k : ℕ) → k < length (d .run .steps) → entryAt (d .run) k .node ≡ getD (nodesIn (d .choices)) k 0
-  -- it stops by 0 exactly if the budgeted turns are made; by 4 only with turns left and nobody ready
+  -- it stops by 0 exactly if the budgeted turns are made, by 4 exactly if turns are left and nobody is ready
   pub budgetMade : (d .run .stop ≡ 0) ↔ (length (d .run .steps) ≡ budget)
-  pub nobodyReady : d .run .stop ≡ 4
-      → (length (d .run .steps) < budget) × ((n : ℕ) → n < nodes → ready (d .run .final) n ≡ false)
+  pub nobodyReady : (d .run .stop ≡ 4)
+      ↔ ((length (d .run .steps) < budget) × ((n : ℕ) → n < nodes → ready (d .run .final) n ≡ false))
   pub examines : Examined nodes budget (d .choices)
   pub isFair : Fair nodes (d .run)
 
