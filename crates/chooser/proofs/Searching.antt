@@ -41,7 +41,8 @@ module _ (nodes from : ℕ) (low : from ≤ nodes) where
       by-next true p l = let m = ltb-true (from + (i + 1)) nodes p in rw (lt-ltb (from + i + 1) nodes (omega arith)) (omega arith)
       by-next false p l = let m = ltb-false (from + (i + 1)) nodes p in rw (le-ltb (from + i + 1) nodes (omega arith)) (omega arith)
 
-      by-end : (t : Bool) → ltb (from + i) nodes ≡ t → wrappedTo nodes (cond t (from + i) (from + i - nodes) + 1) ≡ goingRound nodes from (i + 1)
+      by-end : (t : Bool) → ltb (from + i) nodes ≡ t → wrappedTo nodes (cond t (from + i) (from + i - nodes) + 1) ≡ goingRound nodes
+          from (i + 1)
       by-end true p = by-next (ltb (from + (i + 1)) nodes) refl (ltb-true (from + i) nodes p)
       by-end false p =
           let m = ltb-false (from + i) nodes p in

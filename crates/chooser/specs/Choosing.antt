@@ -1,4 +1,4 @@
--- The dispatcher's choice by the arrays of a state.
+-- The dispatcher's choice (S-2) by the arrays of a state.
 use Prim.Native.Nat.{ℕ}
 use mathlib.Core.Bool.{Bool, cond, not, _&&_}
 use mathlib.Core.List.{List}

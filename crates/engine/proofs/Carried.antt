@@ -34,83 +34,87 @@ module _ (t : List ℕ) (fetched : Fetched) (s : State) (n : NodeNum) (monitored
       (omega (arith, counts, places, length-paired (s .queue) (s .sender) (places ∙ sym beside))) k
 
   -- the message in a node's first slot, if one waits, is its oldest
-  oldest-at : (k : ℕ) → 1 ≤ waitingAt (view s) k → oldest (view s) k ≡ messageFrom (getD (s .sender) (k * 16) 0) (getD (s .queue) (k * 16) 0)
+  oldest-at : (k : ℕ) → 1 ≤ waitingAt (view s) k → oldest (view s) k ≡ messageFrom (getD (s .sender) (k * 16) 0) (getD (s .queue) (k *
+      16) 0)
   oldest-at k h = sym (oldest-is (s .waiting) (paired (s .queue) (s .sender)) k (omega (arith, h, waiting-at k)))
       ∙ getD-paired (s .queue) (s .sender) (places ∙ sym beside) (k * 16)
 
   module _ (p : Plan) (plan : PlansTurn t fetched n monitored (registersAt (view s) (n .0))
-      (messageFrom (getD (s .sender) (n .0 * 16) 0) (getD (s .queue) (n .0 * 16) 0)) (s .waiting) (s .variable) p) (inside : n .0 < 32) where
-    -- the plan is one for the model's state
-    planned :
-        (hs : Handlers) → fetchedOf fetched ≡ commandIn (hs (n .0)) (positionAt (view s) (n .0))
-        → Plans (programIn t hs) (view s) (n .0) (ruleOf monitored (programIn t hs) (view s) (n .0)) p
-    planned hs =
-        plan hs (view s) (record { own = refl; variables = refl }) waiting-at (oldest-at (n .0))
+      (messageFrom (getD (s .sender) (n .0 * 16) 0) (getD (s .queue) (n .0 * 16) 0)) (s .waiting) (s .variable) p) (inside : n .0 < 32)
+    where
+      -- the plan is one for the model's state
+      planned :
+          (hs : Handlers) → fetchedOf fetched ≡ commandIn (hs (n .0)) (positionAt (view s) (n .0))
+          → Plans (programIn t hs) (view s) (n .0) (ruleOf monitored (programIn t hs) (view s) (n .0)) p
+      planned hs =
+          plan hs (view s) (record { own = refl; variables = refl }) waiting-at (oldest-at (n .0))
 
-    -- handlers in which this stands at the node's position
-    abbrev some-handlers : Handlers
-    some-handlers k = standing fetched (positionAt (view s) (n .0))
+      -- handlers in which this stands at the node's position
+      abbrev some-handlers : Handlers
+      some-handlers k = standing fetched (positionAt (view s) (n .0))
 
-    some-planned : Plans (programIn t some-handlers) (view s) (n .0) (ruleOf monitored (programIn t some-handlers) (view s) (n .0)) p
-    some-planned = planned some-handlers (standing-there fetched (positionAt (view s) (n .0)))
+      some-planned : Plans (programIn t some-handlers) (view s) (n .0) (ruleOf monitored (programIn t some-handlers) (view s) (n .0)) p
+      some-planned = planned some-handlers (standing-there fetched (positionAt (view s) (n .0)))
 
-    -- its change can be carried out on the arrays
-    pub can-change : Possible (wiredIn t (n .0)) (n .0) (countAt (s .waiting)) (p .change)
-    unfolding programIn
-    can-change = subst (λ (f : ℕ → ℕ). Possible (wiredIn t (n .0)) (n .0) f (p .change)) (fun-ext waiting-at) (some-planned .possible)
+      -- its change can be carried out on the arrays
+      pub can-change : Possible (wiredIn t (n .0)) (n .0) (countAt (s .waiting)) (p .change)
+      unfolding programIn
+      can-change = subst (λ (f : ℕ → ℕ). Possible (wiredIn t (n .0)) (n .0) f (p .change)) (fun-ext waiting-at) (some-planned .possible)
 
-    -- the arrays with the plan carried out
-    abbrev pub after : List ℕ → List ℕ → List ℕ → List ℕ → State
-    after ws slots senders xs =
-        record {
-          position = set (s .position) (n .0) (p .registers .position);
-          accumulator = set (s .accumulator) (n .0) (p .registers .accumulator);
-          message = set (s .message) (n .0) (p .registers .message);
-          waiting = ws;
-          queue = slots;
-          sender = senders;
-          variable = xs;
-        }
+      -- the arrays with the plan carried out
+      abbrev pub after : List ℕ → List ℕ → List ℕ → List ℕ → State
+      after ws slots senders xs =
+          record {
+            position = set (s .position) (n .0) (p .registers .position);
+            accumulator = set (s .accumulator) (n .0) (p .registers .accumulator);
+            message = set (s .message) (n .0) (p .registers .message);
+            waiting = ws;
+            queue = slots;
+            sender = senders;
+            variable = xs;
+          }
 
-    -- stand for the state after the turn, and are the arrays before if it is a stop
-    pub carried-out :
-        (ws slots senders xs : List ℕ)
-        → senders ≡ slotsAfter (wiredIn t (n .0)) (n .0) (n .0) (s .waiting) (s .sender) (p .change)
-        → (slots ≡ slotsAfter (wiredIn t (n .0)) (n .0) (accumulatorAt (view s) (n .0)) (s .waiting) (s .queue) (p .change))
-        × (ws ≡ countsAfter (wiredIn t (n .0)) (n .0) (s .waiting) (p .change))
-        → xs ≡ variablesAfter (accumulatorAt (view s) (n .0)) (s .variable) (p .change)
-        → Turns t fetched (n .0) monitored s (record { state = after ws slots senders xs; outcome = p .outcome })
-    unfolding programIn
-    carried-out ws slots senders xs signed moved stored =
-        let afterwards : List (List Message) → List ℕ → Meant = λ qs ys. record {
-          position = after ws slots senders xs .position;
-          accumulator = after ws slots senders xs .accumulator;
-          message = after ws slots senders xs .message;
-          queue = qs;
-          variable = ys;
-        } in
-        let changes : Changes (wiredIn t (n .0)) (n .0) (accumulatorAt (view s) (n .0)) (p .change) (s .waiting) (s .queue) (s .sender) ws slots
-        senders =
-        rw (signed, moved .0, moved .1) (changed (wiredIn t (n .0)) (n .0) (accumulatorAt (view s) (n .0)) (s .waiting) (s .queue) (s .sender)
-        counts places beside bounded inside (p .change) can-change) in
-        record {
-          bounded = changes .holds .bounded;
-          counts = count-at ws (paired slots senders) (changes .holds .bounded) (omega (arith, changes .counts, changes .places));
-          slots = changes .brings;
-          comes = λ hs f. subst (Comes (view s) (ruleOf monitored (programIn t hs) (view s) (n .0)) (p .outcome))
-              (sym (ap₂ afterwards (changes .holds .same) stored)) (planned hs f .comes);
-          kept = λ h.
-              let own = some-planned .stays h .0 in
-              let none = some-planned .stays h .1 in
-              let same = changes .kept (ap isNothing none) in
-              λ j. record {
-                position = (ap (λ (r : Registers). set (s .position) (n .0) (r .position)) own ∙ set-getD (s .position) (n .0) 0) j;
-                accumulator = (ap (λ (r : Registers). set (s .accumulator) (n .0) (r .accumulator)) own
-                    ∙ set-getD (s .accumulator) (n .0) 0) j;
-                message = (ap (λ (r : Registers). set (s .message) (n .0) (r .message)) own ∙ set-getD (s .message) (n .0) 0) j;
-                waiting = same .0 j;
-                queue = same .1 j;
-                sender = same .2 j;
-                variable = (stored ∙ ap (variablesAfter (accumulatorAt (view s) (n .0)) (s .variable)) none) j;
-              };
-        }
+      -- stand for the state after the turn, and are the arrays before if it is a stop
+      pub carried-out :
+          (ws slots senders xs : List ℕ)
+          → senders ≡ slotsAfter (wiredIn t (n .0)) (n .0) (n .0) (s .waiting) (s .sender) (p .change)
+          → (slots ≡ slotsAfter (wiredIn t (n .0)) (n .0) (accumulatorAt (view s) (n .0)) (s .waiting) (s .queue) (p .change))
+          × (ws ≡ countsAfter (wiredIn t (n .0)) (n .0) (s .waiting) (p .change))
+          → xs ≡ variablesAfter (accumulatorAt (view s) (n .0)) (s .variable) (p .change)
+          → Turns t fetched (n .0) monitored s (record { state = after ws slots senders xs; outcome = p .outcome })
+      unfolding programIn
+      carried-out ws slots senders xs signed moved stored =
+          let afterwards : List (List Message) → List ℕ → Meant = λ qs ys. record {
+            position = after ws slots senders xs .position;
+            accumulator = after ws slots senders xs .accumulator;
+            message = after ws slots senders xs .message;
+            queue = qs;
+            variable = ys;
+          } in
+          let changes : Changes (wiredIn t (n .0)) (n .0) (accumulatorAt (view s) (n .0)) (p .change) (s .waiting) (s .queue) (s .sender) ws
+          slots
+          senders =
+          rw (signed, moved .0, moved .1) (changed (wiredIn t (n .0)) (n .0) (accumulatorAt (view s) (n .0)) (s .waiting) (s .queue) (s
+          .sender)
+          counts places beside bounded inside (p .change) can-change) in
+          record {
+            bounded = changes .holds .bounded;
+            counts = count-at ws (paired slots senders) (changes .holds .bounded) (omega (arith, changes .counts, changes .places));
+            slots = changes .brings;
+            comes = λ hs f. subst (Comes (view s) (ruleOf monitored (programIn t hs) (view s) (n .0)) (p .outcome))
+                (sym (ap₂ afterwards (changes .holds .same) stored)) (planned hs f .comes);
+            kept = λ h.
+                let own = some-planned .stays h .0 in
+                let none = some-planned .stays h .1 in
+                let same = changes .kept (ap isNothing none) in
+                λ j. record {
+                  position = (ap (λ (r : Registers). set (s .position) (n .0) (r .position)) own ∙ set-getD (s .position) (n .0) 0) j;
+                  accumulator = (ap (λ (r : Registers). set (s .accumulator) (n .0) (r .accumulator)) own
+                      ∙ set-getD (s .accumulator) (n .0) 0) j;
+                  message = (ap (λ (r : Registers). set (s .message) (n .0) (r .message)) own ∙ set-getD (s .message) (n .0) 0) j;
+                  waiting = same .0 j;
+                  queue = same .1 j;
+                  sender = same .2 j;
+                  variable = (stored ∙ ap (variablesAfter (accumulatorAt (view s) (n .0)) (s .variable)) none) j;
+                };
+          }

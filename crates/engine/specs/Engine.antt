@@ -34,8 +34,8 @@ view s = viewOf (s .position) (s .accumulator) (s .message) (s .waiting) (s .que
 abbrev pub CountsWaiting : State → Type 0
 CountsWaiting s = (n : ℕ) → waitingAt (view s) n ≡ countAt (s .waiting) n
 
--- no more messages wait at a node than it has slots, and as many as its count says; all slots, free ones too, hold first messages or 0, sent
--- by START; and the state stands for the start of the program in the tables, whatever its handlers are
+-- no more messages wait at a node than it has slots, and as many as its count says; all slots, free ones too, hold first messages or 0,
+-- sent by START; and the state stands for the start of the program in the tables, whatever its handlers are
 pub record Starts (t : List ℕ) (s : State) : Type 0 where
   pub bounded : BoundedCounts (s .waiting)
   pub counts : CountsWaiting s
@@ -44,8 +44,8 @@ pub record Starts (t : List ℕ) (s : State) : Type 0 where
   pub start : (hs : Handlers) → view s ≡ initialState (programIn t hs)
 
 -- a turn of node n: no more messages wait at a node than it has slots, and as many as its count says; nothing but its accumulator, sent by
--- n, is brought into a slot, free ones too; outcome and state are what the turn of the program in the tables comes to, whatever its handlers are, if `fetched` stands
--- in the node's own at its position; and a stop leaves the whole state, free slots included
+-- n, is brought into a slot, free ones too; outcome and state are what the turn of the program in the tables comes to, whatever its
+-- handlers are, if `fetched` stands in the node's own at its position; and a stop leaves the whole state, free slots included
 pub record Turns (t : List ℕ) (fetched : Fetched) (n : ℕ) (monitored : Bool) (before : State) (turned : Turned) : Type 0 where
   pub bounded : BoundedCounts (turned .state .waiting)
   pub counts : CountsWaiting (turned .state)

@@ -50,7 +50,11 @@ module _ (word : List ℕ) (fits : (eqb (length word) 0 || ltb 9 (length word)) 
 
     -- the value stays small
     pub value-small : value < 100000000
-    value-small = eight-digits i value (d .small) (omega (arith, ltb-false 9 (length word) (or-right (eqb (length word) 0) (ltb 9 (length word)) fits)))
+    value-small = eight-digits i value (d .small) (omega (
+      arith,
+      ltb-false 9 (length word) (or-right (eqb (length word) 0) (ltb 9
+          (length word)) fits),
+    ))
 
     -- another byte
     pub digested-other : noDigit next ≡ true → none ≡ numberAs word
@@ -60,7 +64,11 @@ module _ (word : List ℕ) (fits : (eqb (length word) 0 || ltb 9 (length word)) 
     -- one digit more
     module _ (digit : noDigit next ≡ false) where
       pub digit-bounds : (48 ≤ next) × (next ≤ 57)
-      digit-bounds = (ltb-false next 48 (or-left (ltb next 48) (ltb 57 next) digit), ltb-false 57 next (or-right (ltb next 48) (ltb 57 next) digit))
+      digit-bounds = (
+        ltb-false next 48 (or-left (ltb next 48) (ltb 57 next) digit),
+        ltb-false 57 next (or-right (ltb next 48) (ltb 57
+            next) digit),
+      )
 
       pub digested-next : Digested word (value * 10 + (next - 48)) (i + 1)
       unfolding digitsFrom

@@ -1,5 +1,5 @@
-// Reads a job from standard input, runs it monitored (01's "watched"), or unmonitored with the last argument `bare`, and prints the lines of
-// its run. With the arguments `dispatch` and a budget its turns are dispatched (S-2), and the last line is the examined total.
+// Reads a job from standard input, runs it monitored (01's "watched"), or unmonitored with the last argument `bare`, and prints the lines
+// of its run. With the arguments `dispatch` and a budget its turns are dispatched (S-2), and the last line is the examined total.
 use job::schedule::Schedule;
 use libc::STDERR_FILENO;
 use libc::STDIN_FILENO;

@@ -31,12 +31,14 @@ use Rattle.job.proofs.Judged.{decides-accepted, decides-refused}
 use Rattle.job.proofs.LastTurns.{first-turn}
 
 -- a refusal by 13, and what is left of the tests without one
-decode-bad : (schedule : Schedule) (job : List ℕ) (b : Sizes) (r : Refusal) → some r ≡ budgetRefusal schedule → decodeBy schedule job b ≡ rejected r
+decode-bad : (schedule : Schedule) (job : List ℕ) (b : Sizes) (r : Refusal) → some r ≡ budgetRefusal schedule → decodeBy schedule job
+    b ≡ rejected r
 unfolding decodeDispatch
 decode-bad s.Written job b r e = let w : _≡_ {A = ℕ} 0 1 = cc in absurd (omega arith)
 decode-bad (s.Dispatched budget) job b r e = by-budget (badBudget budget) e
   where
-    by-budget : (t : Bool) → some r ≡ cond t (some (refuse 13 0)) none → cond t (rejected (refuse 13 0)) (decodeUnder budget job b) ≡ rejected r
+    by-budget : (t : Bool) → some r ≡ cond t (some (refuse 13 0)) none → cond t (rejected (refuse 13 0)) (decodeUnder budget job b) ≡
+        rejected r
     by-budget true q = cc
     by-budget false q = let w : _≡_ {A = ℕ} 0 1 = cc in absurd (omega arith)
 
@@ -57,25 +59,29 @@ decode-by (s.Dispatched budget) job b e = by-budget (badBudget budget) e ∙ by-
     by-turn past none = refl
     by-turn past (some r) = refl
 
-    by-decoded : (d : Decoded) → andThen (λ past. shortBufferFor job b budget) (andThen writtenTurn d) ≡ andThen (scheduleRefusal (s.Dispatched budget) job b) d
+    by-decoded : (d : Decoded) → andThen (λ past. shortBufferFor job b budget) (andThen writtenTurn d) ≡ andThen (scheduleRefusal
+        (s.Dispatched budget) job b) d
     by-decoded (accepted past) = by-turn past (writtenTurn past)
     by-decoded (rejected r) = refl
 
 module _ (schedule : Schedule) (job : List ℕ) (b : Sizes) (t : List ℕ) where
   -- refused by 13
-  pub refused-first : (q : Refused) → some (refusalOf q) ≡ budgetRefusal schedule → t ≡ blank → Decides (decodeBy schedule job b) t (v.Refused q)
+  pub refused-first : (q : Refused) → some (refusalOf q) ≡ budgetRefusal schedule → t ≡ blank → Decides (decodeBy schedule job b) t
+      (v.Refused q)
   refused-first q e = decides-refused (decodeBy schedule job b) t q (decode-bad schedule job b (refusalOf q) e)
 
   module _ (good : budgetRefusal schedule ≡ none) where
     -- refused by the tests of every job
-    pub refused-before : (q : Refused) → decodeJob job ≡ rejected (refusalOf q) → t ≡ blank → Decides (decodeBy schedule job b) t (v.Refused q)
+    pub refused-before : (q : Refused) → decodeJob job ≡ rejected (refusalOf q) → t ≡ blank → Decides (decodeBy schedule job b) t
+        (v.Refused q)
     refused-before q e = decides-refused (decodeBy schedule job b) t q (decode-by schedule job b good ∙ rw e)
 
     -- the tests 14 and 10 to 12 decide
     module _ (past : List Command) (decoded : decodeJob job ≡ accepted past) (r : Verdict)
         (found : verdictOf r ≡ scheduleRefusal schedule job b past) where
       pub refused-behind : (q : Refused) → r ≡ v.Refused q → t ≡ blank → Decides (decodeBy schedule job b) t (v.Refused q)
-      refused-behind q is = let e = rw is at found in decides-refused (decodeBy schedule job b) t q (decode-by schedule job b good ∙ rw (decoded, ← e))
+      refused-behind q is = let e = rw is at found in decides-refused (decodeBy schedule job b) t q (decode-by schedule job b good ∙
+          rw (decoded, ← e))
 
       pub accepted-behind : r ≡ v.Accepted → Stands t past → Decides (decodeBy schedule job b) t v.Accepted
       accepted-behind is stands = let e = rw is at found in decides-accepted (decodeBy schedule job b) t

@@ -25,7 +25,7 @@ pub const SNAPSHOT: usize = 3136;
 
 pub const WORK: usize = 4096;
 
-// The largest budget of turns.
+// The largest budget of turns (S-2).
 const BUDGET: u64 = 4096;
 
 // The tests 10 to 12: a job of this length, with buffers of these lengths, for so many turns.
@@ -54,7 +54,7 @@ fn check_buffers(size: usize, turns: usize, trace: usize, snapshot: usize, work:
     Verdict::Accepted
 }
 
-// Test 13: a budget that is 0 or above 4,096.
+// Test 13 (S-2): a budget that is 0 or above 4,096.
 fn check_budget(schedule: Schedule) -> Verdict
     ensures { λ r. ⌜ verdictOf r ≡ budgetRefusal schedule ⌝ }
 {
@@ -72,7 +72,7 @@ fn check_budget(schedule: Schedule) -> Verdict
     }
 }
 
-// The tests 14 and 10 to 12 of a job of this length with so many TURN commands, which are its last, with buffers of these lengths.
+// The tests 14 (S-2) and 10 to 12 of a job of this length with so many TURN commands, which are its last, with buffers of these lengths.
 fn check_schedule(
     schedule: Schedule,
     size: usize,

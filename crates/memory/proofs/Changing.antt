@@ -15,8 +15,8 @@ use Rattle.memory.proofs.Pairing.{length-paired, paired-shifted}
 use Rattle.memory.proofs.Waiting.{bounded-set, queues-popped, length-shifted, brings-shifted}
 use Rattle.memory.proofs.Sending.{served}
 
--- the arrays afterwards (`ws′`, `values′`, `senders′`) have as many places, and hold the queues after the change of node n, and nothing but the value, sent by n, is
--- brought in; where nothing is changed they are the arrays before, free slots included
+-- the arrays afterwards (`ws′`, `values′`, `senders′`) have as many places, and hold the queues after the change of node n, and nothing but
+-- the value, sent by n, is brought in; where nothing is changed they are the arrays before, free slots included
 pub record Changes (wired : ℕ → ℕ → Bool) (n v : ℕ) (change : Change) (ws values senders ws′ values′ senders′ : List ℕ) : Type 0 where
   pub counts : length ws′ ≡ 32
   pub places : length (paired values′ senders′) ≡ 512
@@ -41,12 +41,27 @@ module _
         (change : Change) → Possible wired n (countAt ws) change
         → Changes wired n v change ws values senders (countsAfter wired n ws change) (slotsAfter wired n v ws values change)
         (slotsAfter wired n n ws senders change)
-    changed c.Nothing h = record { counts = counts; places = long; holds = left c.Nothing; brings = λ test own all. all; kept = λ _. (refl, refl, refl) }
-    changed (c.Store x) h = record { counts = counts; places = long; holds = left (c.Store x); brings = λ test own all. all; kept = λ e. true-false (sym e) }
+    changed c.Nothing h = record {
+      counts = counts;
+      places = long;
+      holds = left c.Nothing;
+      brings = λ test own all. all;
+      kept = λ _.
+          (refl, refl, refl);
+    }
+    changed (c.Store x) h = record {
+      counts = counts;
+      places = long;
+      holds = left (c.Store x);
+      brings = λ test own all. all;
+      kept = λ
+          e. true-false (sym e);
+    }
     changed c.Take h =
         record {
           counts = length-set ws n (getD ws n 0 - 1) ∙ counts;
-          places = rw (paired-shifted values senders same-length (n * 16) 15) (length-shifted (paired values senders) (n * 16) 15 (omega (arith, long)) ∙ long);
+          places = rw (paired-shifted values senders same-length (n * 16) 15) (length-shifted (paired values senders) (n * 16) 15 (omega
+              (arith, long)) ∙ long);
           holds = record {
             bounded = bounded-set ws n (getD ws n 0 - 1) bounded (omega (arith, counts)) (omega (arith, bounded n));
             same = rw (paired-shifted values senders same-length (n * 16) 15)

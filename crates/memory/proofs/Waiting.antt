@@ -84,7 +84,8 @@ queues-change ws slots slots′ n w same = ext-getD [] (queues (set ws n w) slot
         by-place (no ne) = rw (getD-set-other ws n i w 0 ne, getD-set-other qs n i q [] ne, queue-at ws slots i) (same i (apart i n ne))
 
 -- a store outside a part leaves the part
-pub part-set : (slots : List Message) (at w a : ℕ) (v : Message) → (a < at) ⊎ (at + w ≤ a) → take w (drop at (set slots a v)) ≡ take w (drop at slots)
+pub part-set : (slots : List Message) (at w a : ℕ) (v : Message) → (a < at) ⊎ (at + w ≤ a) → take w (drop at (set slots a v)) ≡ take w
+    (drop at slots)
 part-set slots at w a v (inl h) = rw (drop-set-lt at slots a v h)
 part-set slots at w a v (inr h) =
     let e : a ≡ at + (a - at) = omega arith in
@@ -212,7 +213,8 @@ set-passes test slots at m own all i h =
 
 -- a slot that is set to one of the messages
 pub brings-set :
-    (messages : ℕ → Message) (slots slots′ : List Message) (at : ℕ) (m : Message) (k : ℕ) → m ≡ messages k → BringsOnly messages slots slots′
+    (messages : ℕ → Message) (slots slots′ : List Message) (at : ℕ) (m : Message) (k : ℕ) → m ≡ messages k → BringsOnly messages slots
+    slots′
     → BringsOnly messages slots (set slots′ at m)
 brings-set messages slots slots′ at m k e h test own all = set-passes test slots′ at m (rw e (own k)) (h test own all)
 

@@ -15,11 +15,11 @@ use Rattle.model.specs.Refusal.{Refusal, Decoded, accepted, rejected, Si
 use Rattle.model.specs.Result.{report, resultOf, monitored, unmonitored, Buffers, sizesOf}
 use Rattle.model.specs.Conclusion.{Leaves}
 use Rattle.model.specs.Valid.{Bounded}
-use Rattle.model.specs.Dispatch.{Dispatched, nodesIn, unmonitoredDispatch, monitoredDispatch}
+use Rattle.model.specs.Dispatch.{Dispatched, chosenIn, unmonitoredDispatch, monitoredDispatch}
 use Rattle.model.specs.DispatchResult.{decodeDispatch, Handed, handedBy, dispatchMonitored, dispatchUnmonitored}
 use Rattle.model.specs.Dispatching.{writtenOut}
-use Rattle.model.specs.DispatchConclusion.{DispatchRefuses, DispatchAccepts, DispatchEnds, withChoices, BothDispatched, refusedWith}
-use Rattle.model.specs.DispatchConclusion.{DispatchConcludes}
+use Rattle.model.specs.DispatchConclusion.{DispatchRefuses, DispatchAccepts, DispatchEnds, withChoices, LongEnough, BothDispatchesEnd}
+use Rattle.model.specs.DispatchConclusion.{refusedWith, DispatchConcludes}
 use Rattle.model.proofs.Lists.{AllBelow}
 use Rattle.model.proofs.Valid.{reads-valid}
 use Rattle.model.proofs.Ways.{Keeps}
@@ -55,7 +55,7 @@ module _
     d = dispatched rule (P .nodes) budget (initialState P)
 
     abbrev ns : List ℕ
-    ns = nodesIn (d .choices)
+    ns = chosenIn (d .choices)
 
     -- its chosen nodes: written out they give its run; they are nodes, and at most as many as the budget; the buffers are long enough
     same : runFrom rule ns (initialState P) ≡ writtenOut (d .run)
@@ -83,17 +83,21 @@ module _
         }
 
     -- its choices written out after the job
-    written-after : (run : Program → List ℕ → Run) → run P ns ≡ runFrom rule ns (initialState P) → length (withChoices job d) ≤ maxJob
-        → resultOf run (decodeFor (withChoices job d) b) ≡ report P (writtenOut (d .run))
+    long : LongEnough b (length ns)
+    long = (omega (arith, below .1, fits .0), fits .1, fits .2)
+
+    written-after : (run : Program → List ℕ → Run) → run P ns ≡ runFrom rule ns (initialState P) → (b′ : Sizes)
+        → LongEnough b′ (length ns) → length (withChoices job d) ≤ maxJob
+        → resultOf run (decodeFor (withChoices job d) b′) ≡ report P (writtenOut (d .run))
     unfolding programOf
-    written-after run e short =
-        turns-written run job b past (longest-accepted job past (a .accepts)) (none-no-turn past (a .noTurns)) ns (below .0)
-        (omega (arith, below .1, a .hasBudget .highest)) (omega (arith, below .1, fits .0), fits .1, fits .2) short
+    written-after run e b′ enough short =
+        turns-written run job b′ past (longest-accepted job past (a .accepts)) (none-no-turn past (a .withoutTurns)) ns (below .0)
+        (omega (arith, below .1, a .hasBudget .highest)) enough short
         ∙ ap (report P) (e ∙ same)
 
 -- what an accepted job comes to
 both-dispatched : (budget : ℕ) (job : List ℕ) (b : Sizes) (past : List Command) → DispatchAccepts budget job b past
-    → BothDispatched budget job b past
+    → BothDispatchesEnd budget job b past
 unfolding monitored unmonitored monitoredRun unmonitoredRun monitoredDispatch unmonitoredDispatch
 both-dispatched budget job b past a =
     let P = programOf past in
@@ -103,6 +107,8 @@ both-dispatched budget job b past a =
       unmonitoredHands = dispatch-unmonitored-ran budget job b past e;
       monitoredEnds = ends budget job b past a (monitoredTurn P) (monitored-serving P) (monitored-bounded P);
       unmonitoredEnds = ends budget job b past a (turn P) (turn-serving P) (turn-bounded P);
+      monitoredLong = long budget job b past a (monitoredTurn P) (monitored-serving P) (monitored-bounded P);
+      unmonitoredLong = long budget job b past a (turn P) (turn-serving P) (turn-bounded P);
       monitoredWritten =
           written-after budget job b past a (monitoredTurn P) (monitored-serving P) (monitored-bounded P) monitoredRun refl;
       unmonitoredWritten = written-after budget job b past a (turn P) (turn-serving P) (turn-bounded P) unmonitoredRun refl;

@@ -12,7 +12,7 @@ use Rattle.model.specs.Command.{Command}
 use Rattle.model.specs.Refusal.{Refusal, refuse, Decoded, accepted, rejected, andThen, decodeJob, Sizes, shortBufferFor, decodeFor}
 use Rattle.model.specs.Conclusion.{Refuses, Accepts}
 use Rattle.model.specs.DispatchResult.{writtenTurn, decodeUnder, decodeDispatch}
-use Rattle.model.specs.DispatchConclusion.{HasBudget, longest, DispatchRefuses, noTurn, manyTurns, asWritten, holdsTurn}
+use Rattle.model.specs.DispatchConclusion.{HasBudget, longest, DispatchRefuses, noBudget, largeBudget, asWritten, holdsTurn}
 use Rattle.model.specs.DispatchConclusion.{hasShortBuffer, DispatchAccepts}
 use Rattle.model.proofs.Logic.{or-second}
 use Rattle.model.proofs.Walking.{Decides, decides-on, and-then-walked, decode-for-walked}
@@ -45,7 +45,7 @@ module _ (budget : ℕ) (job : List ℕ) (b : Sizes) where
   under-walked h =
       and-then-walked (λ past. Accepts job longest past × (writtenTurn past ≡ none)) (DispatchAccepts budget job b)
       (DispatchRefuses budget job b) (λ past. shortBufferFor job b budget) (andThen writtenTurn (decodeJob job))
-      (λ past q e. record { hasBudget = h; accepts = q .0; noTurns = q .1; buffers = e })
+      (λ past q e. record { hasBudget = h; accepts = q .0; withoutTurns = q .1; buffers = e })
       (λ past r q e. hasShortBuffer h past r (q .0) (q .1) e)
       (and-then-walked (Accepts job longest) (λ past. Accepts job longest past × (writtenTurn past ≡ none)) (DispatchRefuses budget job b)
       writtenTurn (decodeJob job) (λ past q e. (q, e)) (λ past r q e. holdsTurn h past r q e)
@@ -58,8 +58,8 @@ module _ (budget : ℕ) (job : List ℕ) (b : Sizes) where
     where
       by-budget : (t : Bool) → eqb budget 0 ≡ t → (u : Bool) → ltb maxTurns budget ≡ u
           → Walked (cond (t || u) (rejected (refuse 13 0)) (decodeUnder budget job b))
-      by-budget true p u q = noTurn (eqb-true budget 0 p)
-      by-budget false p true q = manyTurns (ltb-true maxTurns budget q)
+      by-budget true p u q = noBudget (eqb-true budget 0 p)
+      by-budget false p true q = largeBudget (ltb-true maxTurns budget q)
       by-budget false p false q =
           under-walked (record { lowest = omega (arith, eqb-false budget 0 p); highest = ltb-false maxTurns budget q })
 
@@ -69,11 +69,12 @@ module _ (budget : ℕ) (job : List ℕ) (b : Sizes) where
 
   pub dispatch-accepts-decodes : (past : List Command) → DispatchAccepts budget job b past → decodeDispatch budget job b ≡ accepted past
   dispatch-accepts-decodes past a =
-      good (a .hasBudget) ∙ decode-under-later budget job b past (longest-accepted job past (a .accepts)) (a .noTurns) ∙ rw (a .buffers)
+      good (a .hasBudget) ∙ decode-under-later budget job b past (longest-accepted job past (a .accepts)) (a .withoutTurns) ∙ rw (a
+      .buffers)
 
   pub dispatch-refuses-decodes : (r : Refusal) → DispatchRefuses budget job b r → decodeDispatch budget job b ≡ rejected r
-  dispatch-refuses-decodes _ (noTurn e) = decode-dispatch-bad budget job b (rw (eq-eqb budget 0 e))
-  dispatch-refuses-decodes _ (manyTurns l) =
+  dispatch-refuses-decodes _ (noBudget e) = decode-dispatch-bad budget job b (rw (eq-eqb budget 0 e))
+  dispatch-refuses-decodes _ (largeBudget l) =
       decode-dispatch-bad budget job b (or-second (eqb budget 0) (ltb maxTurns budget) (lt-ltb maxTurns budget l))
   dispatch-refuses-decodes _ (asWritten h r q) =
       good h ∙ decode-under-rejected budget job b r (sym (longest-decodes job) ∙ refuses-decodes q)

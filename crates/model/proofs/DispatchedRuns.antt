@@ -9,9 +9,9 @@ use native.Mathlib.Nat.{not-suc-le-zero, le-of-suc-le-suc}
 use lib.ListN.{length, getD}
 use borrow.Author.Tests.{ne-eqb}
 use Rattle.model.specs.State.{State}
-use Rattle.model.specs.Turn.{Entry, Turned, stopped}
+use Rattle.model.specs.Turn.{Entry, entry, Turned, stopped}
 use Rattle.model.specs.Run.{after, runFrom}
-use Rattle.model.specs.Dispatch.{ready, goingRound, Choice, nobody, fruitless, Dispatched, dispatchFrom, nodesIn, examinedFor}
+use Rattle.model.specs.Dispatch.{ready, goingRound, Choice, nobody, fruitless, Dispatched, dispatchFrom, chosenIn, examinedFor}
 use Rattle.model.specs.Dispatch.{examinedIn}
 use Rattle.model.specs.Dispatching.{writtenOut, Examined}
 use Rattle.model.proofs.Lists.{AllBelow}
@@ -57,11 +57,11 @@ module _ (rule : State → ℕ → Turned) (nodes budget : ℕ) (start : State) 
 
   -- the chosen nodes are nodes, and at most as many as turns
   pub chosen-nodes :
-      AllBelow nodes (nodesIn (dispatched rule nodes budget start .choices))
-      × (length (nodesIn (dispatched rule nodes budget start .choices)) ≤ budget)
-  unfolding nodesIn
+      AllBelow nodes (chosenIn (dispatched rule nodes budget start .choices))
+      × (length (chosenIn (dispatched rule nodes budget start .choices)) ≤ budget)
+  unfolding chosenIn
   chosen-nodes =
-      by-ways (λ budget from s d. AllBelow nodes (nodesIn (d .choices)) × (length (nodesIn (d .choices)) ≤ budget))
+      by-ways (λ budget from s d. AllBelow nodes (chosenIn (d .choices)) × (length (chosenIn (d .choices)) ≤ budget))
       (record {
         made = λ from s. (tt, zero-le);
         fails = λ budget from s c. (tt, zero-le);
@@ -87,11 +87,11 @@ module _ (rule : State → ℕ → Turned) (nodes budget : ℕ) (start : State) 
     proper s n k e t = rw t at (serving .stops (λ k. (¬ (k ≡ 0)) × (¬ (k ≡ 4))) (omega arith) (omega arith) (omega arith) s n)
 
     -- its chosen nodes as written turns give the same run, with stop 0 for 4
-    pub written-out : runFrom rule (nodesIn (dispatched rule nodes budget start .choices)) start
+    pub written-out : runFrom rule (chosenIn (dispatched rule nodes budget start .choices)) start
         ≡ writtenOut (dispatched rule nodes budget start .run)
-    unfolding runFrom nodesIn
+    unfolding runFrom chosenIn
     written-out =
-        by-ways (λ budget from s d. runFrom rule (nodesIn (d .choices)) s ≡ writtenOut (d .run))
+        by-ways (λ budget from s d. runFrom rule (chosenIn (d .choices)) s ≡ writtenOut (d .run))
         (record {
           made = λ from s. refl;
           fails = λ budget from s c. refl;
@@ -136,4 +136,16 @@ module _ (rule : State → ℕ → Turned) (nodes budget : ℕ) (start : State) 
             λ h. let q = ih .0 h in (omega (arith, q .0), q .1),
             λ h. ih .1 (omega (arith, h .0), h .1),
           );
+        })
+
+    -- with zeros as attempted entry then
+    pub nobody-attempts : dispatched rule nodes budget start .run .stop ≡ 4
+        → dispatched rule nodes budget start .run .attempted ≡ entry 0 0 0 0
+    nobody-attempts =
+        by-ways (λ budget from s d. d .run .stop ≡ 4 → d .run .attempted ≡ entry 0 0 0 0)
+        (record {
+          made = λ from s h. refl;
+          fails = λ budget from s c h. refl;
+          halts = λ budget from s i c k e t h. absurd (proper s _ k e t .1 h);
+          goes = λ budget from s i c e s′ t d ih. ih;
         })

@@ -8,13 +8,14 @@ use Rattle.model.specs.Turn.{Turned, turn}
 use Rattle.model.specs.Permission.{monitoredTurn}
 use Rattle.model.specs.Run.{stateAt}
 use Rattle.model.specs.Following.{Follows}
-use Rattle.model.specs.Dispatch.{nodesIn, unmonitoredDispatch, monitoredDispatch}
+use Rattle.model.specs.Dispatch.{chosenIn, unmonitoredDispatch, monitoredDispatch}
 use Rattle.model.specs.Dispatching.{writtenOut, UnmonitoredStop, isZero, isThree, isFour, MonitoredStop, isOne, asUnmonitored}
 use Rattle.model.specs.Dispatching.{Dispatches, DispatchHolds, ReadyHolds}
 use Rattle.model.proofs.Following.{follows}
 use Rattle.model.proofs.Serving.{Serving, ready-stops, ready-monitored-stops, turn-stays, monitored-stays, turn-serving}
 use Rattle.model.proofs.Serving.{monitored-serving}
 use Rattle.model.proofs.DispatchedRuns.{dispatched, examined, dispatch-stops, written-out, budget-made, nobody-ready}
+use Rattle.model.proofs.DispatchedRuns.{nobody-attempts}
 use Rattle.model.proofs.DispatchCompared.{choices-along, dispatches-compared}
 use Rattle.model.proofs.Fairness.{is-fair}
 
@@ -24,15 +25,16 @@ dispatches : (rule : State → ℕ → Turned) → Serving rule → (nodes budge
 dispatches rule serving nodes budget s =
     let d = dispatched rule nodes budget s in
     let written = written-out rule nodes budget s serving in
-    let goes : Follows rule (nodesIn (d .choices)) s (writtenOut (d .run)) =
-    rw written at (follows rule (serving .stops (λ k. ¬ (k ≡ 0)) (omega arith) (omega arith) (omega arith)) (nodesIn (d .choices)) s) in
+    let goes : Follows rule (chosenIn (d .choices)) s (writtenOut (d .run)) =
+    rw written at (follows rule (serving .stops (λ k. ¬ (k ≡ 0)) (omega arith) (omega arith) (omega arith)) (chosenIn (d .choices)) s) in
     record {
       choosesAlong = choices-along rule nodes budget s;
       written = written;
       follows = goes;
-      serves = λ k h. rw (goes .goesOn k h) at (serving .makes (stateAt (d .run) k) (getD (nodesIn (d .choices)) k 0));
+      serves = λ k h. rw (goes .goesOn k h) at (serving .makes (stateAt (d .run) k) (getD (chosenIn (d .choices)) k 0));
       budgetMade = budget-made rule nodes budget s serving;
       nobodyReady = nobody-ready rule nodes budget s serving;
+      nobodyAttempts = nobody-attempts rule nodes budget s serving;
       examines = examined rule nodes budget s;
       isFair = is-fair rule serving nodes budget s;
     }

@@ -181,7 +181,8 @@ module _ (P : Program) (fit : ProgramFits P) (s : State) (n : ℕ) (h : Fits s) 
       (λ e. record {
         accumulator = h .accumulator;
         message = h .message;
-        queue = each-delivered (λ t m. m .value < 2 ^ 32) (P .wired n (i .operand)) _ (s .queue) (λ t w. h .accumulator n) (h .queue) maxNodes;
+        queue = each-delivered (λ t m. m .value < 2 ^ 32) (P .wired n (i .operand)) _ (s .queue) (λ t w. h .accumulator n) (h .queue)
+            maxNodes;
         variable = h .variable;
       })
     where

@@ -22,14 +22,16 @@ module _ (run : Program → List ℕ → Run) (job : List ℕ) where
   -- test 12 passes, before and now
   long-enough : (b b′ : Sizes) → b .trace ≡ b′ .trace → b .snapshot ≡ b′ .snapshot → formerWorkSize ≤ b .work → workSize ≤ b′ .work
       → (d : Decoded)
-      → resultOf run (andThen (λ past. shortBufferAsking formerWorkSize job b (countOf TURN past)) d) ≡ resultOf run (andThen (shortBuffer job b′) d)
+      → resultOf run (andThen (λ past. shortBufferAsking formerWorkSize job b (countOf TURN past)) d) ≡ resultOf run (andThen (shortBuffer
+      job b′) d)
   long-enough b b′ t s h k (accepted past) = rw (t, s, le-ltb (b .work) formerWorkSize h, le-ltb (b′ .work) workSize k)
   long-enough b b′ t s h k (rejected r) = refl
 
   -- the tests up to 11 are the same, and what passed test 12 before passes it now
   aside : (b : Sizes) (d : Decoded)
       → (resultOf run (andThen (λ past. shortBufferAsking formerWorkSize job b (countOf TURN past)) d) ≡ refused (refuse 12 (length job)))
-      ⊎ (resultOf run (andThen (λ past. shortBufferAsking formerWorkSize job b (countOf TURN past)) d) ≡ resultOf run (andThen (shortBuffer job b) d))
+      ⊎ (resultOf run (andThen (λ past. shortBufferAsking formerWorkSize job b (countOf TURN past)) d) ≡ resultOf run (andThen
+      (shortBuffer job b) d))
   aside b (rejected r) = inr refl
   aside b (accepted past) = by-tests (ltb (b .trace) (7 * countOf TURN past)) (ltb (b .snapshot) snapshotSize)
       (ltb (b .work) formerWorkSize) refl

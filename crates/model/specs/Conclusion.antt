@@ -1,5 +1,5 @@
 -- Demand 1 of the definitions: a job is refused at the first test that it fails, by number and place, buffers untouched; every other job
--- runs to one of the four stops.
+-- runs to one of the stops 0 to 3.
 use Prim.Native.Nat.{ℕ, _*_, _≤_, _<_}
 use mathlib.Core.Path.{_≡_}
 use mathlib.Core.Logic.{_↔_, _⊎_}

@@ -69,10 +69,10 @@ unfoldable pub monitoredDispatch : Program → ℕ → Dispatched
 monitoredDispatch P budget = dispatchFrom (monitoredTurn P) (P .nodes) budget 0 (initialState P)
 
 -- the nodes that were chosen, a stopped choice included
-unfoldable pub nodesIn : List Choice → List ℕ
-nodesIn [] = []
-nodesIn (chosen n k ∷ cs) = n ∷ nodesIn cs
-nodesIn (nobody k ∷ cs) = nodesIn cs
+unfoldable pub chosenIn : List Choice → List ℕ
+chosenIn [] = []
+chosenIn (chosen n k ∷ cs) = n ∷ chosenIn cs
+chosenIn (nobody k ∷ cs) = chosenIn cs
 
 -- how many nodes were examined for a choice, and in all
 abbrev pub examinedFor : Choice → ℕ

@@ -13,7 +13,7 @@ use Rattle.model.specs.Output.{traceIn, snapshotBytes}
 use Rattle.model.specs.Refusal.{Refusal, refuse, Sizes, sizes, snapshotSize, workSize, shortBufferFor}
 use Rattle.model.specs.Result.{refused, report, monitored, unmonitored, Buffers, sizesOf}
 use Rattle.model.specs.Conclusion.{Refuses, Accepts, Leaves}
-use Rattle.model.specs.Dispatch.{Dispatched, nodesIn, unmonitoredDispatch, monitoredDispatch, turnBytes}
+use Rattle.model.specs.Dispatch.{Dispatched, chosenIn, unmonitoredDispatch, monitoredDispatch, turnBytes}
 use Rattle.model.specs.DispatchResult.{writtenTurn, Handed, handed, dispatchMonitored, dispatchUnmonitored}
 use Rattle.model.specs.Dispatching.{writtenOut, DispatchComparison}
 
@@ -29,8 +29,8 @@ longest = sizes (7 * maxTurns) snapshotSize workSize
 -- the refusal of a dispatched job, and the first test that it fails
 pub data DispatchRefuses (budget : ℕ) (job : List ℕ) (b : Sizes) : Refusal → Type 0 where
   -- 13
-  noTurn : budget ≡ 0 → DispatchRefuses budget job b (refuse 13 0)
-  manyTurns : maxTurns < budget → DispatchRefuses budget job b (refuse 13 0)
+  noBudget : budget ≡ 0 → DispatchRefuses budget job b (refuse 13 0)
+  largeBudget : maxTurns < budget → DispatchRefuses budget job b (refuse 13 0)
   -- 1 to 9, 15 and 19, as a job of written turns is refused by them
   asWritten : HasBudget budget → (r : Refusal) → Refuses job longest r → DispatchRefuses budget job b r
   -- 14, after those
@@ -46,7 +46,7 @@ pub data DispatchRefuses (budget : ℕ) (job : List ℕ) (b : Sizes) : Refusal �
 pub record DispatchAccepts (budget : ℕ) (job : List ℕ) (b : Sizes) (past : List Command) : Type 0 where
   pub hasBudget : HasBudget budget
   pub accepts : Accepts job longest past
-  pub noTurns : writtenTurn past ≡ none
+  pub withoutTurns : writtenTurn past ≡ none
   pub buffers : shortBufferFor job b budget ≡ none
 
 -- a dispatched run makes at most the budgeted turns; its trace has 7 bytes a completed turn, its snapshot at most 3,136, and the buffers
@@ -61,24 +61,32 @@ pub record DispatchEnds (P : Program) (budget : ℕ) (b : Sizes) (r : Run) : Typ
 
 -- a job with the choices of a dispatched run written out after it as TURN commands
 abbrev pub withChoices : List ℕ → Dispatched → List ℕ
-withChoices job d = job ++ turnBytes (nodesIn (d .choices))
+withChoices job d = job ++ turnBytes (chosenIn (d .choices))
+
+-- buffers that are long enough for so many turns
+abbrev pub LongEnough : Sizes → ℕ → Type 0
+LongEnough b turns = (7 * turns ≤ b .trace) × (snapshotSize ≤ b .snapshot) × (workSize ≤ b .work)
 
 -- what an accepted job comes to
-pub record BothDispatched (budget : ℕ) (job : List ℕ) (b : Sizes) (past : List Command) : Type 0 where
+pub record BothDispatchesEnd (budget : ℕ) (job : List ℕ) (b : Sizes) (past : List Command) : Type 0 where
   -- both runs are handed over, and end
   pub monitoredHands : dispatchMonitored budget job b ≡ handed (programOf past) (monitoredDispatch (programOf past) budget)
   pub unmonitoredHands : dispatchUnmonitored budget job b ≡ handed (programOf past) (unmonitoredDispatch (programOf past) budget)
   pub monitoredEnds : DispatchEnds (programOf past) budget b (monitoredDispatch (programOf past) budget .run)
   pub unmonitoredEnds : DispatchEnds (programOf past) budget b (unmonitoredDispatch (programOf past) budget .run)
   -- the choices as TURN commands after the job give the same trace, snapshot and answer, with stop 0 for 4, if the longer job has at most
-  -- 16,384 bytes
+  -- 16,384 bytes, in any buffers that are long enough for them; those that the job is accepted with are
+  pub monitoredLong : LongEnough b (length (chosenIn (monitoredDispatch (programOf past) budget .choices)))
+  pub unmonitoredLong : LongEnough b (length (chosenIn (unmonitoredDispatch (programOf past) budget .choices)))
   pub monitoredWritten :
-      length (withChoices job (monitoredDispatch (programOf past) budget)) ≤ maxJob
-      → monitored (withChoices job (monitoredDispatch (programOf past) budget)) b
+      (b′ : Sizes) → LongEnough b′ (length (chosenIn (monitoredDispatch (programOf past) budget .choices)))
+      → length (withChoices job (monitoredDispatch (programOf past) budget)) ≤ maxJob
+      → monitored (withChoices job (monitoredDispatch (programOf past) budget)) b′
       ≡ report (programOf past) (writtenOut (monitoredDispatch (programOf past) budget .run))
   pub unmonitoredWritten :
-      length (withChoices job (unmonitoredDispatch (programOf past) budget)) ≤ maxJob
-      → unmonitored (withChoices job (unmonitoredDispatch (programOf past) budget)) b
+      (b′ : Sizes) → LongEnough b′ (length (chosenIn (unmonitoredDispatch (programOf past) budget .choices)))
+      → length (withChoices job (unmonitoredDispatch (programOf past) budget)) ≤ maxJob
+      → unmonitored (withChoices job (unmonitoredDispatch (programOf past) budget)) b′
       ≡ report (programOf past) (writtenOut (unmonitoredDispatch (programOf past) budget .run))
 
 -- a refusal, with nothing examined
@@ -96,7 +104,7 @@ pub record DispatchConcluded (budget : ℕ) (job : List ℕ) (b : Buffers) : Typ
   pub unmonitoredRefuses : (r : Refusal)
       → (dispatchUnmonitored budget job (sizesOf b) ≡ refusedWith r) ↔ DispatchRefuses budget job (sizesOf b) r
   -- if it is accepted, both runs end, and compare
-  pub runs : (past : List Command) → DispatchAccepts budget job (sizesOf b) past → BothDispatched budget job (sizesOf b) past
+  pub runs : (past : List Command) → DispatchAccepts budget job (sizesOf b) past → BothDispatchesEnd budget job (sizesOf b) past
   pub compared : (past : List Command) → DispatchAccepts budget job (sizesOf b) past
       → DispatchComparison (programOf past) (unmonitoredDispatch (programOf past) budget) (monitoredDispatch (programOf past) budget)
   -- a refusal leaves the buffers as they were; a run leaves its trace, its snapshot, and 4,096 zero bytes

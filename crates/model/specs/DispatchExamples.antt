@@ -1,4 +1,5 @@
--- Dispatched jobs worked by hand (S-2), as rows of one list that is claimed once: K1, K2 and K7 without their turns, and the refusals.
+-- Dispatched jobs worked by hand (S-2), as rows of one list that is claimed once: K1, K2 and K7 without their turns, three nodes, and the
+-- refusals.
 -- What is expected is written in bytes, as in Examples.
 use Prim.Native.Nat.{ℕ}
 use mathlib.Core.Path.{_≡_}
@@ -78,17 +79,27 @@ dispatchRows =
     (ends 3 33 (entry 0 6 0 0) (traced 0 1 255 1 ++ times 16 (traced 0 6 0 0 ++ traced 0 0 0 0))
     (nodePart 0 0 1 16 ++ times 16 (waits 0 0)))
     34
+    -- three nodes with a message each, which are served by rising number and then from node 0 again; and three of which the last alone is
+    -- ready, so that all are examined for each choice
+    ∷ dispatchedRow 4 (times 3 (0x01 ∷ 0x02 ∷ []) ++ (0x50 ∷ 0 ∷ four 7) ++ (0x50 ∷ 1 ∷ four 8) ++ (0x50 ∷ 2 ∷ four 9))
+    (ends 0 4 noEntry (traced 0 1 255 7 ++ traced 1 1 255 8 ++ traced 2 1 255 9 ++ traced 0 2 0 0)
+    (idleNode ++ nodePart 0 0 8 0 ++ nodePart 0 0 9 0))
+    4
+    ∷ dispatchedRow 2 (0x01 ∷ 0x02 ∷ 0x02 ∷ 0x02 ∷ 0x50 ∷ 2 ∷ four 9)
+    (ends 0 2 noEntry (traced 2 1 255 9 ++ traced 2 2 0 0) (idleNode ++ idleNode ++ idleNode)) 6
     -- no node
     ∷ dispatchedRow 12 (0x01 ∷ []) (ends 4 0 noEntry [] []) 0
     -- 13 before 1
     ∷ refusedRow 0 [] 13 0
     ∷ refusedRow 4097 [] 13 0
     ∷ refusedRow 1 [] 1 0
-    -- 14 at the first TURN; 9 and 19 before it
+    -- 14 at the first TURN; 6, 9 and 19 before it
     ∷ refusedRow 5 (k1 k1Read (four 2) 0) 14 47
+    ∷ refusedRow 5 (0x01 ∷ 0x02 ∷ 0x60 ∷ 0x01 ∷ []) 6 2
     ∷ refusedRow 5 (0x01 ∷ 0x02 ∷ 0x40 ∷ 0x00 ∷ 0x48 ∷ 0x02 ∷ 0x60 ∷ 0x00 ∷ []) 9 4
     ∷ refusedRow 5 (0x01 ∷ 0x02 ∷ 0x10 ∷ 0x02 ∷ 0x00 ∷ four 5 ++ k1Read ++ (0x60 ∷ 0x00 ∷ [])) 19 9
-    -- 10 for the budgeted turns, at the job's length; 14 before it
+    -- 10 for the budgeted turns, made or not, at the job's length; 14 before it
+    ∷ rowWith true (sizes 13 3136 4096) 2 (0x01 ∷ []) (refused (refuse 10 1)) 0
     ∷ rowWith true (sizes 34 3136 4096) 5 (k1Front 2) (refused (refuse 10 47)) 0
     ∷ rowWith true (sizes 34 3136 4096) 5 (k1 k1Read (four 2) 0) (refused (refuse 14 47)) 0
     ∷ []

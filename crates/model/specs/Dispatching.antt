@@ -8,12 +8,12 @@ use lib.Dec.{eqb}
 use lib.ListN.{length, getD, take}
 use Rattle.model.specs.Program.{Program}
 use Rattle.model.specs.State.{State, initialState}
-use Rattle.model.specs.Turn.{Entry, Turned, completed, turn}
+use Rattle.model.specs.Turn.{Entry, entry, Turned, completed, turn}
 use Rattle.model.specs.Permission.{monitoredTurn}
 use Rattle.model.specs.Run.{Run, runFrom, statesOf, entryAt, stateAt}
 use Rattle.model.specs.Following.{Follows}
 use Rattle.model.specs.Transparency.{AllPermitted, FirstForbidden, stoppedAt, Comparison}
-use Rattle.model.specs.Dispatch.{ready, goingRound, Choice, chosen, nobody, fruitless, choose, Dispatched, nodesIn, examinedFor}
+use Rattle.model.specs.Dispatch.{ready, goingRound, Choice, chosen, nobody, choose, Dispatched, chosenIn, examinedFor}
 use Rattle.model.specs.Dispatch.{examinedIn, unmonitoredDispatch, monitoredDispatch}
 use Rattle.model.specs.DispatchResult.{Handed, handed}
 
@@ -22,7 +22,11 @@ pub data Chooses (nodes from : ℕ) (s : State) : Choice → Type 0 where
   found :
       (i : ℕ) → i < nodes → ready s (goingRound nodes from i) ≡ true → ((j : ℕ) → j < i → ready s (goingRound nodes from j) ≡ false)
       → Chooses nodes from s (chosen (goingRound nodes from i) (i + 1))
-  none : ((j : ℕ) → j < nodes → ready s (goingRound nodes from j) ≡ false) → Chooses nodes from s (fruitless nodes)
+  nobodyFound : ((j : ℕ) → j < nodes → ready s (goingRound nodes from j) ≡ false) → Chooses nodes from s (nobody nodes)
+
+-- every choice, in every state
+abbrev pub ChoicesHold : Type 0
+ChoicesHold = (nodes from : ℕ) (s : State) → Chooses nodes from s (choose nodes from s)
 
 -- a dispatched run as the run of written turns has it: its turns ran out where nobody was ready
 abbrev pub writtenOut : Run → Run
@@ -68,11 +72,11 @@ pub record DispatchComparison (P : Program) (u m : Dispatched) : Type 0 where
   pub sameChoices : AllPermitted P (u .run) → m .choices ≡ u .choices
   pub choicesUpTo : (n : ℕ) → FirstForbidden P (u .run) n → m .choices ≡ take (suc n) (u .choices)
 
--- one of the turns of a run, from the turn `first` on and before the turn `behind`, is the node's, as its entry shows
-pub record ServedBetween (r : Run) (node first behind : ℕ) : Type 0 where
+-- one of the turns of a run, from the turn `first` on and before the turn `end`, is the node's, as its entry shows
+pub record ServedBetween (r : Run) (node first end : ℕ) : Type 0 where
   pub turnNumber : ℕ
   pub lowest : first ≤ turnNumber
-  pub highest : turnNumber < behind
+  pub highest : turnNumber < end
   pub served : entryAt r turnNumber .node ≡ node
 
 -- a node that is ready before turn k of a run is served by one of the turns k .. k + nodes - 1, if the run makes that many
@@ -80,7 +84,7 @@ abbrev pub Fair : ℕ → Run → Type 0
 Fair nodes r =
     (k node : ℕ) → node < nodes → ready (stateAt r k) node ≡ true → k + nodes ≤ length (r .steps) → ServedBetween r node k (k + nodes)
 
--- at most all nodes are examined for one choice, and at most one choice is made a turn
+-- at most all nodes are examined for one choice, and there are at most as many choices as budgeted turns
 pub record Examined (nodes budget : ℕ) (choices : List Choice) : Type 0 where
   pub each : (k : ℕ) → k < length choices → examinedFor (getD choices k (nobody 0)) ≤ nodes
   pub number : length choices ≤ budget
@@ -91,14 +95,16 @@ pub record Dispatches (rule : State → ℕ → Turned) (nodes budget : ℕ) (st
   -- its choices are those in its states, as far as the budget goes, from node 0 on
   pub choosesAlong : d .choices ≡ choicesAlong nodes 0 (take budget (statesIn (d .run)))
   -- its chosen nodes as written turns give the same run, with stop 0 for 4, and that run goes by the rule
-  pub written : runFrom rule (nodesIn (d .choices)) start ≡ writtenOut (d .run)
-  pub follows : Follows rule (nodesIn (d .choices)) start (writtenOut (d .run))
+  pub written : runFrom rule (chosenIn (d .choices)) start ≡ writtenOut (d .run)
+  pub follows : Follows rule (chosenIn (d .choices)) start (writtenOut (d .run))
   -- the node of entry k is the node chosen for turn k
-  pub serves : (k : ℕ) → k < length (d .run .steps) → entryAt (d .run) k .node ≡ getD (nodesIn (d .choices)) k 0
+  pub serves : (k : ℕ) → k < length (d .run .steps) → entryAt (d .run) k .node ≡ getD (chosenIn (d .choices)) k 0
   -- it stops by 0 exactly if the budgeted turns are made, by 4 exactly if turns are left and nobody is ready
   pub budgetMade : (d .run .stop ≡ 0) ↔ (length (d .run .steps) ≡ budget)
   pub nobodyReady : (d .run .stop ≡ 4)
       ↔ ((length (d .run .steps) < budget) × ((n : ℕ) → n < nodes → ready (d .run .final) n ≡ false))
+  -- the attempted entry is all 0 then
+  pub nobodyAttempts : d .run .stop ≡ 4 → d .run .attempted ≡ entry 0 0 0 0
   pub examines : Examined nodes budget (d .choices)
   pub isFair : Fair nodes (d .run)
 

@@ -245,8 +245,8 @@ pub record Sizes : Type 0 where
 abbrev pub sizes : ℕ → ℕ → ℕ → Sizes
 sizes trace snapshot work = record { trace = trace; snapshot = snapshot; work = work }
 
--- the lengths that the snapshot buffer ("picture buffer") and the work buffer must have; the latter has two bytes for each of 64 commands of
--- 32 nodes (S-9)
+-- the lengths that the snapshot buffer ("picture buffer") and the work buffer must have; the latter has two bytes for each of 64 commands
+-- of 32 nodes (S-9)
 abbrev pub snapshotSize : ℕ
 snapshotSize = 3136
 

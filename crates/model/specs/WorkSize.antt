@@ -1,5 +1,5 @@
--- Request S-9: "Refusal 12 aside, all answers, traces and pictures are equal to those before." Only test 12 and the zeros afterwards name the
--- length of the work buffer; what an accepted job hands over does not depend on it.
+-- Request S-9: "Refusal 12 aside, all answers, traces and pictures are equal to those before." Only test 12 and the zeros afterwards name
+-- the length of the work buffer; what an accepted job hands over does not depend on it.
 use Prim.Native.Nat.{ℕ, _≤_}
 use mathlib.Core.Path.{_≡_}
 use mathlib.Core.Logic.{_⊎_}

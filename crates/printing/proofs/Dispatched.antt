@@ -11,7 +11,7 @@ use Rattle.model.specs.Run.{Run, stateAt, runFrom, monitoredRun, unmonitoredRun
 use Rattle.model.specs.Refusal.{Decoded, accepted, rejected, Sizes}
 use Rattle.model.specs.Result.{report}
 use Rattle.model.specs.Valid.{Fits}
-use Rattle.model.specs.Dispatch.{Dispatched, nodesIn, examinedIn, monitoredDispatch, unmonitoredDispatch}
+use Rattle.model.specs.Dispatch.{Dispatched, chosenIn, examinedIn, monitoredDispatch, unmonitoredDispatch}
 use Rattle.model.specs.DispatchResult.{handedBy, decodeDispatch, dispatchMonitored, dispatchUnmonitored}
 use Rattle.model.specs.Dispatching.{Dispatches}
 use Rattle.model.specs.DispatchConclusion.{DispatchAccepts}
@@ -28,7 +28,7 @@ use Rattle.printing.proofs.Meaning.{Readable, run-read, Small, readable
 -- a dispatched run has the states and entries of the run with its choices written out
 dispatched-readable :
     (rule : State → ℕ → Turned) (nodes budget : ℕ) (start : State) (d : Dispatched) → Dispatches rule nodes budget start d
-    → ((s : State) (n : ℕ) → Fits s → Makes Small (rule s n)) → ((k : ℕ) → Fits (stateAt (runFrom rule (nodesIn (d .choices)) start) k))
+    → ((s : State) (n : ℕ) → Fits s → Makes Small (rule s n)) → ((k : ℕ) → Fits (stateAt (runFrom rule (chosenIn (d .choices)) start) k))
     → Readable (d .run)
 dispatched-readable rule nodes budget start d goes small fits =
     let r = readable small (goes .follows) (λ k. subst (λ (x : Run). Fits (stateAt x k)) (goes .written) (fits k)) in
@@ -44,7 +44,8 @@ module _
     unfolding report programOf
     dispatch-read = by-decoded (decodeDispatch budget job b) refl
       where
-        by-decoded : (d : Decoded) → decodeDispatch budget job b ≡ d → linesBy (s.Dispatched budget) job (handedBy dispatch d) ≡ linesOfDispatch dispatch d
+        by-decoded : (d : Decoded) → decodeDispatch budget job b ≡ d → linesBy (s.Dispatched budget) job (handedBy dispatch d) ≡
+            linesOfDispatch dispatch d
         by-decoded (accepted past) e =
             let P = programOf past in
             let a : DispatchAccepts budget job b past = rw e at (walked budget job b) in
@@ -61,11 +62,11 @@ dispatch-lines-hold budget job b bytes =
           (λ past a.
           let P = programOf past in
           dispatched-readable _ _ budget (initialState P) (monitoredDispatch P budget) (dispatch-holds P budget .monitoredDispatches)
-          (monitored-small P) (monitored-words job past bytes (a .accepts .reads) (nodesIn (monitoredDispatch P budget .choices))));
+          (monitored-small P) (monitored-words job past bytes (a .accepts .reads) (chosenIn (monitoredDispatch P budget .choices))));
       unmonitoredPrints =
           dispatch-read budget job b (λ P. unmonitoredDispatch P budget)
           (λ past a.
           let P = programOf past in
           dispatched-readable _ _ budget (initialState P) (unmonitoredDispatch P budget) (dispatch-holds P budget .unmonitoredDispatches)
-          (turn-small P) (unmonitored-words job past bytes (a .accepts .reads) (nodesIn (unmonitoredDispatch P budget .choices))));
+          (turn-small P) (unmonitored-words job past bytes (a .accepts .reads) (chosenIn (unmonitoredDispatch P budget .choices))));
     }

@@ -124,7 +124,8 @@ messages-read xs q rest place e small =
     all = xs ++ (messagesBytes q ++ rest)
 
     part : (i : ℕ) → i < length q → (at w : ℕ) → at + w ≤ 5
-        → numberAt all (length xs + (5 * i + at)) w ≡ numberAt (bytes4 (getD q i noMessage .value) ++ (getD q i noMessage .sender ∷ [])) at w
+        → numberAt all (length xs + (5 * i + at)) w ≡ numberAt (bytes4 (getD q i noMessage .value) ++ (getD q i noMessage .sender ∷ []))
+        at w
     part i h at w l =
         number-past xs (messagesBytes q ++ rest) (5 * i + at) w
         ∙ number-front (messagesBytes q) rest (5 * i + at) w (omega (arith, length-messages q))

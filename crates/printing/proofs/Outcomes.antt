@@ -76,10 +76,12 @@ bounded-shown past v r bounded = record {
 }
 
 -- and of dispatched ones
-ends-shown : (past : List Command) (budget : ℕ) (b : Sizes) (r : Run) → budget ≤ 4096 → DispatchEnds (programOf past) budget b r → Shown past r
+ends-shown : (past : List Command) (budget : ℕ) (b : Sizes) (r : Run) → budget ≤ 4096 → DispatchEnds (programOf past) budget b r →
+    Shown past r
 ends-shown past budget b r few ends = record { steps = omega (arith, ends .turns); snapshot = ends .snapshotLength }
 
-runs-shown : (schedule : Schedule) (m : Bool) (job : List ℕ) (b : Buffers) (past : List Command) → decodeBy schedule job (sizesOf b) ≡ accepted past
+runs-shown : (schedule : Schedule) (m : Bool) (job : List ℕ) (b : Buffers) (past : List Command) → decodeBy schedule job (sizesOf b) ≡
+    accepted past
     → decodeJob job ≡ accepted past → Shown past (runOf schedule m past .run)
 unfolding monitoredRun unmonitoredRun monitoredDispatch unmonitoredDispatch
 runs-shown s.Written true job b past e d =

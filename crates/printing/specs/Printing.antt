@@ -28,7 +28,7 @@ abbrev pub resultLines : List ℕ → Result → List ℕ
 resultLines job (refused r) = refusedLine (r .number) (r .place)
 resultLines job (ran x trace snapshot) = runLines x trace snapshot (nodesIn job) (variablesIn job)
 
--- the line after those of a run: the examined total, if its turns were dispatched
+-- the line after those of a run: the examined total, if its turns were dispatched (S-2)
 abbrev pub totalLines : Schedule → ℕ → List ℕ
 totalLines s.Written examined = []
 totalLines (s.Dispatched budget) examined = examinedLine examined

@@ -31,10 +31,10 @@ use Rattle.writing.proofs.Placing.{placed-front}
 use Rattle.job.specs.declared.schedule.Schedule.{Schedule}
 use Rattle.job.specs.declared.schedule.Schedule.the-variants as s
 use Rattle.job.specs.Scheduling.{decodeBy, budgetRefusal, turnsBy}
-use Rattle.turns.specs.declared.ending.Made.{Made}
+use Rattle.turns.specs.declared.ending.CountedEnding.{CountedEnding}
 use Rattle.turns.specs.Runs.{runOf, Loaded, RunsAs}
 use Rattle.run.specs.declared.answer.Answer.{Answer}
-use Rattle.run.specs.declared.answer.Report.{Report}
+use Rattle.run.specs.declared.answer.Handed.{Handed as Answered}
 use Rattle.run.specs.declared.answer.Answer.the-variants as a
 use Rattle.run.specs.Delivered.{AcceptedWith, DeliversRunOf, DeliversRun}
 use Rattle.run.specs.Exported.{numbersIn, numbersWith}
@@ -53,7 +53,8 @@ over-same size xs ys e same =
     ap (λ (l : List ℕ). replicate size 0 ++ l) (drop-same (length (replicate {A = ℕ} size 0)) xs ys e (λ i h. same i (omega arith)))
 
 -- a job that is accepted, its turns given in either way, passed the tests of every job, has buffers for its turns, and a good budget
-accepted-by : (schedule : Schedule) (job t : List ℕ) (b : Sizes) (past : List Command) → decodeBy schedule job b ≡ accepted past → Stands t past
+accepted-by : (schedule : Schedule) (job t : List ℕ) (b : Sizes) (past : List Command) → decodeBy schedule job b ≡ accepted past →
+    Stands t past
     → (decodeJob job ≡ accepted past) × (7 * turnsBy schedule t ≤ b .trace) × (snapshotSize ≤ b .snapshot) × (workSize ≤ b .work)
     × (budgetRefusal schedule ≡ none)
 unfolding decodeFor
@@ -107,7 +108,7 @@ module _ (schedule : Schedule) (job t : List ℕ) (b : Sizes) (f : AcceptedWith 
 -- what is handed over
 module _ (schedule : Schedule) (job t : List ℕ) (before : Buffers) (f : AcceptedWith schedule job t (sizesOf before)) (m : Bool) where
   pub hands-over :
-      (trace snapshot : List ℕ) (x : Made)
+      (trace snapshot : List ℕ) (x : CountedEnding)
       → ((past : List Command) → decodeJob job ≡ accepted past
       → RunsAs (programOf past) (runOf schedule m past) (before .trace) (before .snapshot) trace snapshot x)
       → (work : List ℕ) (last : ℕ) → Writes (replicate workSize 0) (loaded (before .work) (commandsOf (decodeJob job))) 0 work last
@@ -151,7 +152,7 @@ handed-refused (s.Dispatched budget) true job b r e = rw e
 handed-refused (s.Dispatched budget) false job b r e = rw e
 
 -- the answer, the examined total and the buffers afterwards are those handed over
-pub record Reports (h : Handed) (before after : Buffers) (x : Report) : Type 0 where
+pub record Reports (h : Handed) (before after : Buffers) (x : Answered) : Type 0 where
   pub delivers : Delivers (h .result) before after (x .answer)
   pub examined : x .examined ≡ h .examined
 
@@ -163,10 +164,14 @@ module _ (schedule : Schedule) (m : Bool) (job : List ℕ) (before : Buffers) wh
       (sym (handed-refused schedule m job (sizesOf before) (refusalOf q) e))
       (record { delivers = record { told = refl; left = record { trace = refl; snapshot = refl; work = refl } }; examined = refl })
 
-  pub reports-ran : (after : Buffers) (x : Made) (past : List Command) → decodeBy schedule job (sizesOf before) ≡ accepted past
+  pub reports-ran : (after : Buffers) (x : CountedEnding) (past : List Command) → decodeBy schedule job (sizesOf before) ≡ accepted past
       → DeliversRun schedule m job before after x
       → Reports (handedFor schedule m job (sizesOf before)) before after (record { answer = a.Ended (x .ending); examined = x .examined })
-  reports-ran after x past e h = subst (λ (y : Handed). Reports y before after (record { answer = a.Ended (x .ending); examined = x .examined }))
+  reports-ran after x past e h = subst (λ (y : Handed). Reports y before after (record {
+    answer = a.Ended (x .ending);
+    examined = x
+        .examined;
+  }))
       (sym (handed-ran schedule m job (sizesOf before) past e))
       (record { delivers = h past e .delivers; examined = h past e .examined })
 

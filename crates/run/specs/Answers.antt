@@ -39,8 +39,8 @@ resultFor false job b = unmonitored job b
 abbrev pub resultWith : Bool → List ℕ → List ℕ → List ℕ → List ℕ → Result
 resultWith m job trace snapshot work = resultFor m job (sizes (length trace) (length snapshot) (length work))
 
--- what the model hands over for a job whose turns are given in either way, with buffers of these lengths: nothing is examined for written
--- turns
+-- what the model hands over for a job whose turns are given in either way (S-2), with buffers of these lengths: nothing is examined for
+-- written turns
 abbrev pub handedFor : Schedule → Bool → List ℕ → Sizes → Handed
 handedFor s.Written m job b = record { result = resultFor m job b; examined = 0 }
 handedFor (s.Dispatched budget) true job b = dispatchMonitored budget job b

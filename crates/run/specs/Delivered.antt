@@ -11,7 +11,7 @@ use Rattle.model.specs.Result.{report, Buffers, sizesOf}
 use Rattle.tables.specs.Stands.{Stands}
 use Rattle.job.specs.declared.schedule.Schedule.{Schedule}
 use Rattle.job.specs.Scheduling.{decodeBy}
-use Rattle.turns.specs.declared.ending.Made.{Made}
+use Rattle.turns.specs.declared.ending.CountedEnding.{CountedEnding}
 use Rattle.turns.specs.Runs.{runOf}
 use Rattle.run.specs.declared.answer.Answer.the-variants as a
 use Rattle.run.specs.Answers.{Delivers}
@@ -23,11 +23,11 @@ pub record AcceptedWith (schedule : Schedule) (job t : List ℕ) (b : Sizes) : T
   pub stands : Stands t past
 
 -- the answer, the examined total and the buffers afterwards are those of the run of the job's commands
-pub record DeliversRunOf (d : Dispatched) (past : List Command) (before after : Buffers) (x : Made) : Type 0 where
+pub record DeliversRunOf (d : Dispatched) (past : List Command) (before after : Buffers) (x : CountedEnding) : Type 0 where
   pub delivers : Delivers (report (programOf past) (d .run)) before after (a.Ended (x .ending))
   pub examined : x .examined ≡ examinedIn (d .choices)
 
-abbrev pub DeliversRun : Schedule → Bool → List ℕ → Buffers → Buffers → Made → Type 0
+abbrev pub DeliversRun : Schedule → Bool → List ℕ → Buffers → Buffers → CountedEnding → Type 0
 DeliversRun schedule monitored job before after x =
     (past : List Command) → decodeBy schedule job (sizesOf before) ≡ accepted past
     → DeliversRunOf (runOf schedule monitored past) past before after x

@@ -1,4 +1,4 @@
--- The answer of the exported entry points: eight numbers; nine of the dispatched ones.
+-- The answer of the exported entry points: eight numbers; nine of the dispatched ones (S-2).
 use Prim.Native.Nat.{ℕ}
 use mathlib.Core.List.{List, [], _∷_, _++_}
 use Rattle.run.specs.Answers.{Told, refusal, answer}

@@ -8,8 +8,8 @@ pub enum Answer {
     Ended(Ending),
 }
 
-// The answer to a job, and how many nodes were examined for the choices of its run.
-pub struct Report {
+// The answer to a job, and how many nodes were examined for the choices of its run (S-2).
+pub struct Handed {
     pub answer: Answer,
     pub examined: u32,
 }

@@ -5,7 +5,7 @@ ghost use Rattle.run.specs.Answers.{toldBy, toldIn, monitoredWith, unmon
 ghost use Rattle.run.specs.Answers.{monitoredUnder, unmonitoredUnder};
 ghost use Rattle.run.specs.Exported.{numbersIn, numbersWith};
 use crate::answer::Answer;
-use crate::answer::Report;
+use crate::answer::Handed;
 use crate::dispatch_monitored;
 use crate::dispatch_unmonitored;
 use crate::run_monitored;
@@ -34,10 +34,10 @@ fn numbers_in(answer: Answer) -> [u64; 8]
 }
 
 // The numbers of an answer, and the examined total.
-fn numbers_with(report: Report) -> [u64; 9]
-    ensures { λ r. ⌜ r ≡ numbersWith (toldBy (report .answer)) (report .examined) ⌝ }
+fn numbers_with(handed: Handed) -> [u64; 9]
+    ensures { λ r. ⌜ r ≡ numbersWith (toldBy (handed .answer)) (handed .examined) ⌝ }
 {
-    let answer = report.answer;
+    let answer = handed.answer;
     let n = numbers_in(answer);
     [
         n[0],
@@ -48,7 +48,7 @@ fn numbers_with(report: Report) -> [u64; 9]
         n[5],
         n[6],
         n[7],
-        report.examined as u64,
+        handed.examined as u64,
     ]
 }
 
@@ -94,7 +94,7 @@ pub extern "C" fn leqsumir_run_unmonitored(
     *answer = numbers_in(run_unmonitored(job, trace, snapshot, work));
 }
 
-// The monitored run (01's "watched") of a job without TURN commands, its turns dispatched with a budget.
+// The monitored run (01's "watched") of a job without TURN commands, its turns dispatched with a budget (S-2).
 #[no_mangle]
 pub extern "C" fn leqsumir_dispatch_monitored(
     job: &[u8],
@@ -108,11 +108,14 @@ pub extern "C" fn leqsumir_dispatch_monitored(
         (toldIn (monitoredUnder budget (now (job .entry)) (now (trace .entry)) (now (snapshot .entry)) (now (work .entry)) .result))
         (monitoredUnder budget (now (job .entry)) (now (trace .entry)) (now (snapshot .entry)) (now (work .entry)) .examined) ⌝ }
     ensures trace { λ _. ⌜ now (trace .exit) ≡ traceAfter
-        (monitoredUnder budget (now (job .entry)) (now (trace .entry)) (now (snapshot .entry)) (now (work .entry)) .result) (now (trace .entry)) ⌝ }
+        (monitoredUnder budget (now (job .entry)) (now (trace .entry)) (now (snapshot .entry)) (now (work .entry)) .result) (now (trace
+        .entry)) ⌝ }
     ensures snapshot { λ _. ⌜ now (snapshot .exit) ≡ snapshotAfter
-        (monitoredUnder budget (now (job .entry)) (now (trace .entry)) (now (snapshot .entry)) (now (work .entry)) .result) (now (snapshot .entry)) ⌝ }
+        (monitoredUnder budget (now (job .entry)) (now (trace .entry)) (now (snapshot .entry)) (now (work .entry)) .result) (now (snapshot
+        .entry)) ⌝ }
     ensures work { λ _. ⌜ now (work .exit) ≡ workAfter
-        (monitoredUnder budget (now (job .entry)) (now (trace .entry)) (now (snapshot .entry)) (now (work .entry)) .result) (now (work .entry)) ⌝ }
+        (monitoredUnder budget (now (job .entry)) (now (trace .entry)) (now (snapshot .entry)) (now (work .entry)) .result) (now (work
+        .entry)) ⌝ }
 {
     *answer = numbers_with(dispatch_monitored(job, budget, trace, snapshot, work));
 }
@@ -131,11 +134,14 @@ pub extern "C" fn leqsumir_dispatch_unmonitored(
         (toldIn (unmonitoredUnder budget (now (job .entry)) (now (trace .entry)) (now (snapshot .entry)) (now (work .entry)) .result))
         (unmonitoredUnder budget (now (job .entry)) (now (trace .entry)) (now (snapshot .entry)) (now (work .entry)) .examined) ⌝ }
     ensures trace { λ _. ⌜ now (trace .exit) ≡ traceAfter
-        (unmonitoredUnder budget (now (job .entry)) (now (trace .entry)) (now (snapshot .entry)) (now (work .entry)) .result) (now (trace .entry)) ⌝ }
+        (unmonitoredUnder budget (now (job .entry)) (now (trace .entry)) (now (snapshot .entry)) (now (work .entry)) .result) (now (trace
+        .entry)) ⌝ }
     ensures snapshot { λ _. ⌜ now (snapshot .exit) ≡ snapshotAfter
-        (unmonitoredUnder budget (now (job .entry)) (now (trace .entry)) (now (snapshot .entry)) (now (work .entry)) .result) (now (snapshot .entry)) ⌝ }
+        (unmonitoredUnder budget (now (job .entry)) (now (trace .entry)) (now (snapshot .entry)) (now (work .entry)) .result) (now
+        (snapshot .entry)) ⌝ }
     ensures work { λ _. ⌜ now (work .exit) ≡ workAfter
-        (unmonitoredUnder budget (now (job .entry)) (now (trace .entry)) (now (snapshot .entry)) (now (work .entry)) .result) (now (work .entry)) ⌝ }
+        (unmonitoredUnder budget (now (job .entry)) (now (trace .entry)) (now (snapshot .entry)) (now (work .entry)) .result) (now (work
+        .entry)) ⌝ }
 {
     *answer = numbers_with(dispatch_unmonitored(job, budget, trace, snapshot, work));
 }

@@ -1,5 +1,5 @@
-// The run of a job with its buffers, monitored (01's "watched") or unmonitored ("bare"), its turns as written or dispatched (S-2): any bytes,
-// any buffers and any budget are allowed.
+// The run of a job with its buffers, monitored (01's "watched") or unmonitored ("bare"), its turns as written or dispatched (S-2): any
+// bytes, any buffers and any budget are allowed.
 pub mod answer;
 mod exports;
 
@@ -9,19 +9,19 @@ ghost use Rattle.run.specs.Answers.{toldBy, toldIn, buffers, handedWith,
 ghost use Rattle.run.specs.Answers.{monitoredUnder, unmonitoredUnder};
 ghost use Rattle.run.specs.Delivered.{AcceptedWith, DeliversRun};
 use answer::Answer;
-use answer::Report;
+use answer::Handed;
 use handlers::load::load;
 use job::Verdict;
 use job::buffers::WORK;
 use job::buffers::judge;
 use job::schedule::Schedule;
 use tables::cells::CELLS;
-use turns::ending::Made;
+use turns::ending::CountedEnding;
 use turns::run_turns;
 use writing::put_zeros;
 
-// The run of an accepted job: how it ended and what was examined; its trace and its snapshot (01's "picture") at the front of their buffers,
-// zeros at that of the work buffer.
+// The run of an accepted job: how it ended and what was examined; its trace and its snapshot (01's "picture") at the front of their
+// buffers, zeros at that of the work buffer.
 fn run_accepted(
     job: &[u8],
     schedule: Schedule,
@@ -30,7 +30,7 @@ fn run_accepted(
     snapshot: &mut [u8],
     work: &mut [u8],
     monitored: bool,
-) -> Made
+) -> CountedEnding
     requires { ⌜ AcceptedWith schedule (now job) (now tables) (sizesOf (buffers (now trace) (now snapshot) (now work))) ⌝ }
     ensures { λ r. ⌜ DeliversRun schedule monitored (now (job .entry))
         (buffers (now (trace .entry)) (now (snapshot .entry)) (now (work .entry)))
@@ -50,7 +50,7 @@ pub fn run(
     snapshot: &mut [u8],
     work: &mut [u8],
     monitored: bool,
-) -> Report
+) -> Handed
     ensures told { λ r. ⌜ toldBy (r .answer) ≡ toldIn
         (handedWith schedule monitored (now (job .entry)) (now (trace .entry)) (now (snapshot .entry)) (now (work .entry)) .result) ⌝ }
     ensures examined { λ r. ⌜ r .examined ≡
@@ -75,14 +75,14 @@ pub fn run(
         work.len(),
     );
     match verdict {
-        Verdict::Refused(r) => Report {
+        Verdict::Refused(r) => Handed {
             answer: Answer::Refused(r),
             examined: 0,
         },
         Verdict::Accepted => {
             let made = run_accepted(job, schedule, &tables, trace, snapshot, work, monitored);
             let ending = made.ending;
-            Report {
+            Handed {
                 answer: Answer::Ended(ending),
                 examined: made.examined,
             }
@@ -101,8 +101,8 @@ pub fn run_monitored(job: &[u8], trace: &mut [u8], snapshot: &mut [u8], work: &m
     ensures work { λ _. ⌜ now (work .exit) ≡ workAfter
         (monitoredWith (now (job .entry)) (now (trace .entry)) (now (snapshot .entry)) (now (work .entry))) (now (work .entry)) ⌝ }
 {
-    let report = run(job, Schedule::Written, trace, snapshot, work, true);
-    report.answer
+    let handed = run(job, Schedule::Written, trace, snapshot, work, true);
+    handed.answer
 }
 
 // The unmonitored run (01's "bare").
@@ -116,8 +116,8 @@ pub fn run_unmonitored(job: &[u8], trace: &mut [u8], snapshot: &mut [u8], work: 
     ensures work { λ _. ⌜ now (work .exit) ≡ workAfter
         (unmonitoredWith (now (job .entry)) (now (trace .entry)) (now (snapshot .entry)) (now (work .entry))) (now (work .entry)) ⌝ }
 {
-    let report = run(job, Schedule::Written, trace, snapshot, work, false);
-    report.answer
+    let handed = run(job, Schedule::Written, trace, snapshot, work, false);
+    handed.answer
 }
 
 // The monitored run (01's "watched") of a job without TURN commands, its turns dispatched with a budget.
@@ -127,17 +127,20 @@ pub fn dispatch_monitored(
     trace: &mut [u8],
     snapshot: &mut [u8],
     work: &mut [u8],
-) -> Report
+) -> Handed
     ensures told { λ r. ⌜ toldBy (r .answer) ≡
         toldIn (monitoredUnder budget (now (job .entry)) (now (trace .entry)) (now (snapshot .entry)) (now (work .entry)) .result) ⌝ }
     ensures examined { λ r. ⌜ r .examined ≡
         monitoredUnder budget (now (job .entry)) (now (trace .entry)) (now (snapshot .entry)) (now (work .entry)) .examined ⌝ }
     ensures trace { λ _. ⌜ now (trace .exit) ≡ traceAfter
-        (monitoredUnder budget (now (job .entry)) (now (trace .entry)) (now (snapshot .entry)) (now (work .entry)) .result) (now (trace .entry)) ⌝ }
+        (monitoredUnder budget (now (job .entry)) (now (trace .entry)) (now (snapshot .entry)) (now (work .entry)) .result) (now (trace
+        .entry)) ⌝ }
     ensures snapshot { λ _. ⌜ now (snapshot .exit) ≡ snapshotAfter
-        (monitoredUnder budget (now (job .entry)) (now (trace .entry)) (now (snapshot .entry)) (now (work .entry)) .result) (now (snapshot .entry)) ⌝ }
+        (monitoredUnder budget (now (job .entry)) (now (trace .entry)) (now (snapshot .entry)) (now (work .entry)) .result) (now (snapshot
+        .entry)) ⌝ }
     ensures work { λ _. ⌜ now (work .exit) ≡ workAfter
-        (monitoredUnder budget (now (job .entry)) (now (trace .entry)) (now (snapshot .entry)) (now (work .entry)) .result) (now (work .entry)) ⌝ }
+        (monitoredUnder budget (now (job .entry)) (now (trace .entry)) (now (snapshot .entry)) (now (work .entry)) .result) (now (work
+        .entry)) ⌝ }
 {
     let schedule = Schedule::Dispatched(budget);
     run(job, schedule, trace, snapshot, work, true)
@@ -150,17 +153,20 @@ pub fn dispatch_unmonitored(
     trace: &mut [u8],
     snapshot: &mut [u8],
     work: &mut [u8],
-) -> Report
+) -> Handed
     ensures told { λ r. ⌜ toldBy (r .answer) ≡
         toldIn (unmonitoredUnder budget (now (job .entry)) (now (trace .entry)) (now (snapshot .entry)) (now (work .entry)) .result) ⌝ }
     ensures examined { λ r. ⌜ r .examined ≡
         unmonitoredUnder budget (now (job .entry)) (now (trace .entry)) (now (snapshot .entry)) (now (work .entry)) .examined ⌝ }
     ensures trace { λ _. ⌜ now (trace .exit) ≡ traceAfter
-        (unmonitoredUnder budget (now (job .entry)) (now (trace .entry)) (now (snapshot .entry)) (now (work .entry)) .result) (now (trace .entry)) ⌝ }
+        (unmonitoredUnder budget (now (job .entry)) (now (trace .entry)) (now (snapshot .entry)) (now (work .entry)) .result) (now (trace
+        .entry)) ⌝ }
     ensures snapshot { λ _. ⌜ now (snapshot .exit) ≡ snapshotAfter
-        (unmonitoredUnder budget (now (job .entry)) (now (trace .entry)) (now (snapshot .entry)) (now (work .entry)) .result) (now (snapshot .entry)) ⌝ }
+        (unmonitoredUnder budget (now (job .entry)) (now (trace .entry)) (now (snapshot .entry)) (now (work .entry)) .result) (now
+        (snapshot .entry)) ⌝ }
     ensures work { λ _. ⌜ now (work .exit) ≡ workAfter
-        (unmonitoredUnder budget (now (job .entry)) (now (trace .entry)) (now (snapshot .entry)) (now (work .entry)) .result) (now (work .entry)) ⌝ }
+        (unmonitoredUnder budget (now (job .entry)) (now (trace .entry)) (now (snapshot .entry)) (now (work .entry)) .result) (now (work
+        .entry)) ⌝ }
 {
     let schedule = Schedule::Dispatched(budget);
     run(job, schedule, trace, snapshot, work, false)

@@ -1,5 +1,5 @@
 -- The dispatched calls of the code, from what the entry points promise and what dispatched jobs come to.
-use Prim.Native.Nat.{ℕ, zero, suc, _+_, _*_, _<_}
+use Prim.Native.Nat.{ℕ, zero, suc, _+_, _*_, _≤_, _<_}
 use mathlib.Core.Path.{_≡_, refl, sym, ap, subst, _∙_}
 use mathlib.Core.List.{List, [], _∷_, _++_}
 use mathlib.Core.Logic.{_↔_, Iff·symm, Iff·trans}
@@ -93,11 +93,12 @@ trace-node (e ∷ es) rest (suc j) h =
 -- a call that hands over a dispatched run
 module _ (P : Program) (d : Dispatched) (c : DispatchCall) (g : Hands (handed P d) c) where
   tells : {Stops : ℕ → Type 0} {rule : State → ℕ → Turned} {budget : ℕ} {start : State} → Stops (d .run .stop)
-      → Dispatches rule (P .nodes) budget start d → DispatchTells Stops P budget d c
+      → length (d .run .steps) ≤ budget → Dispatches rule (P .nodes) budget start d → DispatchTells Stops P budget d c
   unfolding report
-  tells {Stops} stop goes = record {
+  tells {Stops} stop made goes = record {
     hands = g;
     stops = λ x e. subst Stops (ap stopIn (sym (g .gives .told) ∙ e)) stop;
+    turns = λ x e. let told : length (d .run .steps) ≡ x .turns = ap turnsIn (sym (g .gives .told) ∙ e) in omega arith;
     few = omega (arith, mul-le-mul-left (P .nodes) (goes .examines .number));
     fair = λ x e k node h is l.
         let turns : length (d .run .steps) ≡ x .turns = ap turnsIn (sym (g .gives .told) ∙ e) in
@@ -134,11 +135,14 @@ dispatch-calls budget job past c a =
     let both = dispatch-holds P budget in
     let runs = dispatch-concludes budget job (c .call .before) .runs past a in
     record {
-      monitoredTells = λ g. tells P _ c (rw (runs .monitoredHands) at g) (both .monitoredStops) (both .monitoredDispatches);
+      monitoredTells = λ g. tells P _ c (rw (runs .monitoredHands) at g) (both .monitoredStops) (runs .monitoredEnds .turns)
+          (both .monitoredDispatches);
       unmonitoredTells = λ g.
-          tells P _ c (rw (runs .unmonitoredHands) at g) (both .unmonitoredStops) (both .unmonitoredDispatches);
+          tells P _ c (rw (runs .unmonitoredHands) at g) (both .unmonitoredStops) (runs .unmonitoredEnds .turns)
+          (both .unmonitoredDispatches);
       monitoredWritten = λ g w h short same.
-          same-written P _ c (rw (runs .monitoredHands) at g) w (rw (same, runs .monitoredWritten short) at h);
+          same-written P _ c (rw (runs .monitoredHands) at g) w (rw (same, runs .monitoredWritten _ (runs .monitoredLong) short) at h);
       unmonitoredWritten = λ g w h short same.
-          same-written P _ c (rw (runs .unmonitoredHands) at g) w (rw (same, runs .unmonitoredWritten short) at h);
+          same-written P _ c (rw (runs .unmonitoredHands) at g) w (rw (same, runs .unmonitoredWritten _ (runs .unmonitoredLong) short) at
+          h);
     }

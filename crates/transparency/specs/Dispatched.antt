@@ -1,4 +1,5 @@
--- The dispatched calls of the code (S-2): the monitored ("watched") and the unmonitored ("bare") one compared, and what each tells and leaves.
+-- The dispatched calls of the code (S-2): the monitored ("watched") and the unmonitored ("bare") one compared, and what each tells and
+-- leaves.
 use Prim.Native.Nat.{ℕ, _+_, _*_, _≤_, _<_}
 use mathlib.Core.Path.{_≡_}
 use mathlib.Core.Bool.{true, cond}
@@ -39,18 +40,18 @@ MonitoredUnder budget job c = Hands (dispatchMonitored budget job (sizesOf (c .c
 abbrev pub UnmonitoredUnder : ℕ → List ℕ → DispatchCall → Type 0
 UnmonitoredUnder budget job c = Hands (dispatchUnmonitored budget job (sizesOf (c .call .before))) c
 
--- both calls of a job with these commands; `u` is the dispatched run that the turn rules make, permissions ignored
-pub record DispatchCallsRun (P : Program) (u : Dispatched) (monitoredCall unmonitoredCall : DispatchCall) : Type 0 where
+-- both calls of a job with this program; `d` is the dispatched run that the turn rules make, permissions ignored
+pub record DispatchCallsRun (P : Program) (d : Dispatched) (monitoredCall unmonitoredCall : DispatchCall) : Type 0 where
   -- the unmonitored call hands that run over
-  pub unmonitoredRuns : Hands (handed P u) unmonitoredCall
+  pub unmonitoredRuns : Hands (handed P d) unmonitoredCall
   -- that run has a first forbidden turn, or it has none
-  pub decided : ((n : ℕ) × FirstForbidden P (u .run) n) ⊎ AllPermitted P (u .run)
+  pub decided : ((n : ℕ) × FirstForbidden P (d .run) n) ⊎ AllPermitted P (d .run)
   -- if it has none, the monitored call hands over the same: every field of the answer, trace, snapshot and examined total
-  pub identical : AllPermitted P (u .run) → Hands (handed P u) monitoredCall
+  pub identical : AllPermitted P (d .run) → Hands (handed P d) monitoredCall
   -- if it has one, the monitored call hands over that run stopped there, with the examined total of the choices up to and with that one
-  pub stops : (n : ℕ) → FirstForbidden P (u .run) n → Hands (handedAt P u n) monitoredCall
+  pub stops : (n : ℕ) → FirstForbidden P (d .run) n → Hands (handedAt P d n) monitoredCall
   -- the two part at turn n exactly if the monitored call tells stop 1 and n turns
-  pub parts : (n : ℕ) → FirstForbidden P (u .run) n ↔
+  pub parts : (n : ℕ) → FirstForbidden P (d .run) n ↔
       ((e : Entry) × (monitoredCall .call .told ≡ answer (record { stop = 1; turns = n; attempted = e })))
 
 -- the two calls of a job with one budget, each with buffers of its own, whatever they held before
@@ -59,7 +60,8 @@ pub record DispatchTransparent (budget : ℕ) (job : List ℕ) (m u : DispatchCa
   pub monitoredRefuses : (r : Refusal) → Hands (refusedWith r) m ↔ DispatchRefuses budget job (sizesOf (m .call .before)) r
   pub unmonitoredRefuses : (r : Refusal) → Hands (refusedWith r) u ↔ DispatchRefuses budget job (sizesOf (u .call .before)) r
   -- with equal buffer lengths both refuse alike, by number and place
-  pub refuseAlike : sizesOf (m .call .before) ≡ sizesOf (u .call .before) → (r : Refusal) → Hands (refusedWith r) m ↔ Hands (refusedWith r) u
+  pub refuseAlike : sizesOf (m .call .before) ≡ sizesOf (u .call .before) → (r : Refusal) → Hands (refusedWith r) m ↔ Hands
+      (refusedWith r) u
   -- if the job is accepted with the buffers of both, both run
   pub bothRun : (past : List Command) → DispatchAccepts budget job (sizesOf (m .call .before)) past
       → DispatchAccepts budget job (sizesOf (u .call .before)) past
@@ -75,7 +77,8 @@ DispatchTransparencyHolds =
 abbrev pub DispatchExportsTransparent : Type 0
 DispatchExportsTransparent =
     (budget : ℕ) (job : List ℕ) (before after before′ after′ : Buffers) (numbers numbers′ : List ℕ)
-    → numbers ≡ numbersWith (toldIn (dispatchMonitored budget job (sizesOf before) .result)) (dispatchMonitored budget job (sizesOf before) .examined)
+    → numbers ≡ numbersWith (toldIn (dispatchMonitored budget job (sizesOf before) .result)) (dispatchMonitored budget job (sizesOf
+    before) .examined)
     → BuffersAfter (dispatchMonitored budget job (sizesOf before) .result) before after
     → numbers′ ≡ numbersWith (toldIn (dispatchUnmonitored budget job (sizesOf before′) .result))
     (dispatchUnmonitored budget job (sizesOf before′) .examined)
@@ -92,8 +95,9 @@ writtenTold (answer x) = answer (record { stop = cond (eqb (x .stop) 4) 0 (x .st
 -- a dispatched call hands over a run, stopped by one of these stops, after at most as many turns as the budget has
 pub record DispatchTells (Stops : ℕ → Type 0) (P : Program) (budget : ℕ) (d : Dispatched) (c : DispatchCall) : Type 0 where
   pub hands : Hands (handed P d) c
-  -- the stop that is told
+  -- the stop and the turns that are told
   pub stops : (x : Answer) → c .call .told ≡ answer x → Stops (x .stop)
+  pub turns : (x : Answer) → c .call .told ≡ answer x → x .turns ≤ budget
   -- at most all nodes are examined for each choice, of which there is at most one a turn of the budget
   pub few : c .examined ≤ P .nodes * budget
   -- nobody waits longer than a round, as the trace's bytes show: entry j begins at byte 7 * j, with its node

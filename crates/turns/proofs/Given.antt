@@ -15,7 +15,7 @@ use Rattle.model.specs.Turn.{Entry, entry, Turned, completed, stopped}
 use Rattle.model.specs.Run.{Run, Step, ended, after, proceed, runFrom}
 use Rattle.model.specs.Valid.{Valid}
 use Rattle.model.specs.Dispatch.{Choice, chosen, nobody, choose, Dispatched, pursue, serve, dispatchFrom, examinedFor, examinedIn}
-use Rattle.model.specs.Dispatching.{Chooses, found, none}
+use Rattle.model.specs.Dispatching.{Chooses, found, nobodyFound}
 use Rattle.model.proofs.Choosing.{round-below, chooses}
 use Rattle.model.proofs.Naming.{turns-inside}
 use Rattle.model.proofs.Runs.{behind}
@@ -86,12 +86,14 @@ module _ (rule : State → ℕ → Turned) (turns : List ℕ) where
   abbrev written : ℕ → ℕ → State → Choice
   written k from x = chosen (getD turns k 0) 0
 
-  pursued : (rest : State → Dispatched) (rest′ : State → Run) → ((y : State) → rest y .run ≡ rest′ y) → (c : Choice) (x : State) (t : Turned)
+  pursued : (rest : State → Dispatched) (rest′ : State → Run) → ((y : State) → rest y .run ≡ rest′ y) → (c : Choice) (x : State) (t :
+      Turned)
       → pursue rest c x t .run ≡ proceed rest′ x t
   pursued rest rest′ same c x (completed e y) = ap (after x e) (same y)
   pursued rest rest′ same c x (stopped j e) = refl
 
-  written-run : (left k from : ℕ) (x : State) → left + k ≡ length turns → runBy rule written left k from x .run ≡ runFrom rule (drop k turns) x
+  written-run : (left k from : ℕ) (x : State) → left + k ≡ length turns → runBy rule written left k from x .run ≡ runFrom rule (drop k
+      turns) x
   unfolding runBy runFrom
   written-run zero k from x e =
       let all : length turns ≤ k = omega arith in
@@ -113,7 +115,8 @@ module _ (rule : State → ℕ → Turned) (turns : List ℕ) where
   unfolding runBy examinedIn
   written-examined zero k from x = refl
   written-examined (suc left) k from x =
-      unexamined (runBy rule written left (k + 1) (getD turns k 0 + 1)) (written-examined left (k + 1) (getD turns k 0 + 1)) (getD turns k 0) x
+      unexamined (runBy rule written left (k + 1) (getD turns k 0 + 1)) (written-examined left (k + 1) (getD turns k 0 + 1)) (getD turns k
+      0) x
       (rule x (getD turns k 0))
 
 -- and dispatched ones
@@ -134,7 +137,8 @@ abbrev pub wholeRun : Schedule → Bool → List Command → Dispatched
 wholeRun schedule monitored past =
     runBy (ruleOf monitored (programOf past)) (choiceFor schedule past) (turnsFor schedule past) 0 0 (initialState (programOf past))
 
-pub whole-run : (schedule : Schedule) (monitored : Bool) (past : List Command) → SameRun (wholeRun schedule monitored past) (runOf schedule monitored past)
+pub whole-run : (schedule : Schedule) (monitored : Bool) (past : List Command) → SameRun (wholeRun schedule monitored past) (runOf
+    schedule monitored past)
 unfolding examinedIn
 whole-run s.Written monitored past =
     let rule = ruleOf monitored (programOf past) in
@@ -154,7 +158,7 @@ Within nodes (nobody k) = k ≤ nodes
 
 chosen-within : (nodes from : ℕ) (x : State) → from ≤ nodes → (c : Choice) → Chooses nodes from x c → Within nodes c
 chosen-within nodes from x low _ (found i near r earlier) = (round-below nodes from i low near, omega arith)
-chosen-within nodes from x low _ (none all) = omega arith
+chosen-within nodes from x low _ (nobodyFound all) = omega arith
 
 pub choice-within : (schedule : Schedule) (past : List Command) → Valid past → (k from : ℕ) (x : State) → k < turnsFor schedule past
     → from ≤ programOf past .nodes → Within (programOf past .nodes) (choiceFor schedule past k from x)

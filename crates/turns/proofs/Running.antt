@@ -48,7 +48,7 @@ use Rattle.writing.specs.Writing.{Writes}
 use Rattle.writing.proofs.Placing.{writes-on, writes-nothing, placed-front}
 use Rattle.output.specs.Written.{Narrow, NarrowPositions, shownBytes}
 use Rattle.turns.specs.declared.ending.Ending.{Ending}
-use Rattle.turns.specs.declared.ending.Made.{Made}
+use Rattle.turns.specs.declared.ending.CountedEnding.{CountedEnding}
 use Rattle.turns.specs.declared.ending.Halt.{Halt}
 use Rattle.turns.specs.declared.ending.Halt.the-variants as v
 use Rattle.turns.specs.Endings.{answerOf, answerAt}
@@ -86,7 +86,8 @@ pub record Over (d : Dispatched) (before after : List ℕ) (s : State) (x : Endi
   pub positions : NarrowPositions (view s)
 
 -- what the loop keeps: while it goes on, the run after k turns; when it is left, the run that is over
-pub record Reached (schedule : Schedule) (monitored : Bool) (past : List Command) (before : List ℕ) (trace : List ℕ) (s : State) (halt : Halt)
+pub record Reached (schedule : Schedule) (monitored : Bool) (past : List Command) (before : List ℕ) (trace : List ℕ) (s : State) (halt :
+    Halt)
     (last examined from at k : ℕ) : Type 0 where
   pub size : length trace ≡ length before
   pub all : k < last → last ≡ turnsFor schedule past
@@ -170,7 +171,8 @@ module _ (schedule : Schedule) (monitored : Bool) (job t w : List ℕ) (ready : 
   -- the run is over
   over :
       {before : List ℕ} {s : State} {trace : List ℕ} {examined from at k : ℕ}
-      (u : Underway schedule monitored past before s trace examined from at k) (s′ : State) (x : Ending) (cs : List Meaning) (total j : ℕ) (e : Numbered)
+      (u : Underway schedule monitored past before s trace examined from at k) (s′ : State) (x : Ending) (cs : List Meaning) (total j : ℕ)
+      (e : Numbered)
       → wholeRun schedule monitored past ≡ overAfter (u .done) cs j e (view s)
       → total ≡ examinedIn cs
       → view s′ ≡ view s → BoundedCounts (s′ .waiting) → answerOf x ≡ record { stop = j; turns = k; attempted = e }
@@ -198,7 +200,8 @@ module _ (schedule : Schedule) (monitored : Bool) (job t w : List ℕ) (ready : 
     shown : choiceBy schedule job t k from (s .position) (s .waiting) ≡ choiceFor schedule past k from (view s)
     shown = by-way schedule more
       where
-        by-way : (x : Schedule) → k < turnsFor x past → choiceBy x job t k from (s .position) (s .waiting) ≡ choiceFor x past k from (view s)
+        by-way : (x : Schedule) → k < turnsFor x past → choiceBy x job t k from (s .position) (s .waiting) ≡ choiceFor x past k from (view
+            s)
         by-way g.Written h = ap (λ (n : ℕ). chosen n 0) (prepares .turn k h)
         by-way (g.Dispatched budget) h =
             choose-shown (s .position) (s .waiting) (view s) (λ n. refl) (u .counts) (countIn t NODE) from
@@ -256,7 +259,8 @@ module _ (schedule : Schedule) (monitored : Bool) (job t w : List ℕ) (ready : 
           completes = ap (λ (y : Outcome). turnedBy y (view (turned .state))) (sym made) ∙ comes .tells
 
           pub made-narrow : Narrow (numbersOf x)
-          made-narrow = rw (← completes) at (rule-narrow past (valid .commands) (view s) (u .senders) n (omega (arith, node-inside)) monitored)
+          made-narrow = rw (← completes) at (rule-narrow past (valid .commands) (view s) (u .senders) n (omega (arith, node-inside))
+              monitored)
 
           keeps : Keeps (Placed P) (rule (view s) n)
           keeps = by-mode monitored
@@ -282,7 +286,8 @@ module _ (schedule : Schedule) (monitored : Bool) (job t w : List ℕ) (ready : 
                 done = u .done ++ (step ∷ []);
                 choices = u .choices ++ (chosen n c ∷ []);
                 count = length-append (u .done) (step ∷ []) ∙ omega (arith, u .count);
-                same = unrolled ∙ ahead-completed rule (choiceFor schedule past) (u .done) (u .choices) k from (view s) _ n c chooses (numbersOf x)
+                same = unrolled ∙ ahead-completed rule (choiceFor schedule past) (u .done) (u .choices) k from (view s) _ n c chooses
+                    (numbersOf x)
                     (view (turned .state)) (sym completes);
                 total = total;
                 few = omega (arith, u .few, chosen-few);
@@ -312,7 +317,8 @@ module _ (schedule : Schedule) (monitored : Bool) (job t w : List ℕ) (ready : 
 
   -- after the last turn the run is over
   pub reached :
-      (before : List ℕ) (s : State) (trace : List ℕ) (examined from at k last : ℕ) → last ≡ turnsFor schedule past → k ≤ turnsFor schedule past
+      (before : List ℕ) (s : State) (trace : List ℕ) (examined from at k last : ℕ) → last ≡ turnsFor schedule past → k ≤ turnsFor schedule
+      past
       → Underway schedule monitored past before s trace examined from at k
       → (halt : Halt) → halt ≡ v.RanOut
       → Reached schedule monitored past before trace s halt last examined from at k

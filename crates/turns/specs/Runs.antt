@@ -22,15 +22,16 @@ use Rattle.job.specs.declared.schedule.Schedule.the-variants as s
 use Rattle.job.specs.Prepared.{turnIn}
 use Rattle.chooser.specs.Choosing.{chooseIn}
 use Rattle.entries.specs.Entries.{ruleOf}
-use Rattle.turns.specs.declared.ending.Made.{Made}
+use Rattle.turns.specs.declared.ending.CountedEnding.{CountedEnding}
 use Rattle.turns.specs.Endings.{answerOf}
 
--- whose turn k is: the node of the job's TURN k, or the dispatcher's choice by the arrays of the state, going round from a number on
+-- whose turn k is: the node of the job's TURN k, or the dispatcher's choice (S-2) by the arrays of the state, going round from a number on
 abbrev pub choiceBy : Schedule → List ℕ → List ℕ → ℕ → ℕ → List ℕ → List ℕ → Choice
 choiceBy s.Written job t k from position waiting = chosen (turnIn job t k) 0
 choiceBy (s.Dispatched budget) job t k from position waiting = chooseIn position waiting (countIn t NODE) from
 
--- the run of a job's commands, monitored ("watched") or not ("bare"): of its turns, without a choice, or dispatched
+-- the run of a job's commands, monitored ("watched") or not ("bare"), with its choices: of its written turns, for which none is made, or
+-- dispatched
 abbrev pub runOf : Schedule → Bool → List Command → Dispatched
 runOf s.Written monitored past =
     record { run = runFrom (ruleOf monitored (programOf past)) (turnsOf past) (initialState (programOf past)); choices = [] }
@@ -48,7 +49,7 @@ pub record Loaded (job t w : List ℕ) : Type 0 where
 
 -- the code's run of a program is the model's: how it ended, the examined total, and what trace and snapshot buffer hold afterwards, by what
 -- they held before
-pub record RunsAs (P : Program) (d : Dispatched) (trace₀ snapshot₀ trace₁ snapshot₁ : List ℕ) (x : Made) : Type 0 where
+pub record RunsAs (P : Program) (d : Dispatched) (trace₀ snapshot₀ trace₁ snapshot₁ : List ℕ) (x : CountedEnding) : Type 0 where
   pub answer : answerOf (x .ending) ≡ answerIn (d .run)
   pub examined : x .examined ≡ examinedIn (d .choices)
   pub trace : trace₁ ≡ written (traceIn (d .run)) trace₀

@@ -13,12 +13,12 @@ pub struct Ending {
 }
 
 // How a run ended, and how many nodes were examined for its choices: none, where its turns are written.
-pub struct Made {
+pub struct CountedEnding {
     pub ending: Ending,
     pub examined: u32,
 }
 
-// Why a run is over: its turns ran out, a turn was stopped, or nobody was ready.
+// Why a run is over: its turns ran out, a turn was stopped, or nobody was ready (S-2).
 pub enum Halt {
     RanOut,
     Stopped(Stop),

@@ -18,8 +18,8 @@ use chooser::Choice;
 use chooser::choose;
 use command::bytes;
 use declared::count_of;
+use ending::CountedEnding;
 use ending::Halt;
-use ending::Made;
 use ending::ending_of;
 use engine::start;
 use entries::Outcome;
@@ -62,7 +62,7 @@ pub fn run_turns(
     trace: &mut [u8],
     snapshot: &mut [u8],
     monitored: bool,
-) -> Made
+) -> CountedEnding
     requires { ⌜ Loaded (now job) (now tables) (now work) ⌝ }
     requires { ⌜ budgetRefusal schedule ≡ none ⌝ }
     requires { ⌜ (7 * turnsBy schedule (now tables) ≤ length (now trace)) × (snapshotSize ≤ length (now snapshot)) ⌝ }
@@ -121,5 +121,5 @@ pub fn run_turns(
         nodes,
         variables,
     );
-    Made { ending, examined }
+    CountedEnding { ending, examined }
 }

@@ -31,14 +31,24 @@ is-ready-requires c κs =
     let z = c .before .before .before in
     let a = z .args in
     let l = c .before .loop in
-    omega (arith, searched-inside (now (a .position)) (now (a .waiting)) (a .nodes) (a .from) (z .pre .1) (l .n) (l .examined) (l .inv) (omega (arith, l .inv .few, c .if1 .left)), z .pre .0)
+    omega (
+      arith,
+      searched-inside (now (a .position)) (now (a .waiting)) (a .nodes) (a .from) (z .pre .1) (l .n) (l .examined) (l .inv)
+          (omega (arith, l .inv .few, c .if1 .left)),
+      z .pre .0,
+    )
 
 add-wrapped : tie.Need-add-wrapped Inv-loop μ-loop
 add-wrapped c =
     let z = c .before .before .before .before .before in
     let a = z .args in
     let l = c .before .before .before .loop in
-    omega (arith, searched-inside (now (a .position)) (now (a .waiting)) (a .nodes) (a .from) (z .pre .1) (l .n) (l .examined) (l .inv) (omega (arith, l .inv .few, c .before .before .if1 .left)), z .pre .0)
+    omega (
+      arith,
+      searched-inside (now (a .position)) (now (a .waiting)) (a .nodes) (a .from) (z .pre .1) (l .n) (l .examined) (l .inv)
+          (omega (arith, l .inv .few, c .before .before .if1 .left)),
+      z .pre .0,
+    )
 
 wrapped-requires-2 : tie.Need-wrapped-requires-2 Inv-loop μ-loop
 wrapped-requires-2 c κs = search needs
@@ -52,7 +62,8 @@ loop-again c =
     let z = p4 .before .before in
     let a = z .args in
     let l = p4 .loop in
-    rw (c .wrapped2 .ensures) (searched-next (now (a .position)) (now (a .waiting)) (a .nodes) (a .from) (z .pre .1) (l .n) (l .examined) (l .inv)
+    rw (c .wrapped2 .ensures) (searched-next (now (a .position)) (now (a .waiting)) (a .nodes) (a .from) (z .pre .1) (l .n) (l .examined)
+    (l .inv)
     (omega (arith, l .inv .few, c .before .before .before .if1 .left)) (sym (c .before .before .is-ready .ensures) ∙ c .before .if2 .left))
 
 returns : tie.Need-returns Inv-loop μ-loop

@@ -33,35 +33,54 @@ returns-2 c =
     let l = c .before .before .before .loop in
     let z = c .before .before .before .before .before in
     let fits = c .before .before .before .before .if1 .left in
-    digested-other (now (z .args .word)) fits (l .value) (l .i) (l .inv) (omega (arith, c .before .before .loop-test .taken)) (c .if2 .taken)
+    digested-other (now (z .args .word)) fits (l .value) (l .i) (l .inv) (omega (arith, c .before .before .loop-test .taken)) (c .if2
+    .taken)
 
 mul-value : tie.Need-mul-value Inv-loop μ-loop
 mul-value c =
     let l = c .before .before .before .loop in
     let z = c .before .before .before .before .before in
     let fits = c .before .before .before .before .if1 .left in
-    omega (arith, value-small (now (z .args .word)) fits (l .value) (l .i) (l .inv) (omega (arith, c .before .before .loop-test .taken)), digit-bounds (now (z .args .word)) fits (l .value) (l .i) (l .inv) (omega (arith, c .before .before .loop-test .taken)) (c .if2 .left) .1)
+    omega (
+      arith,
+      value-small (now (z .args .word)) fits (l .value) (l .i) (l .inv) (omega (arith, c .before .before .loop-test .taken)),
+      digit-bounds (now (z .args .word)) fits (l .value) (l .i) (l .inv) (omega (arith, c .before .before .loop-test .taken)) (c .if2 .left)
+          .1,
+    )
 
 add-value : tie.Need-add-value Inv-loop μ-loop
 add-value c =
     let l = c .before .before .before .loop in
     let z = c .before .before .before .before .before in
     let fits = c .before .before .before .before .if1 .left in
-    omega (arith, value-small (now (z .args .word)) fits (l .value) (l .i) (l .inv) (omega (arith, c .before .before .loop-test .taken)), digit-bounds (now (z .args .word)) fits (l .value) (l .i) (l .inv) (omega (arith, c .before .before .loop-test .taken)) (c .if2 .left) .1)
+    omega (
+      arith,
+      value-small (now (z .args .word)) fits (l .value) (l .i) (l .inv) (omega (arith, c .before .before .loop-test .taken)),
+      digit-bounds (now (z .args .word)) fits (l .value) (l .i) (l .inv) (omega (arith, c .before .before .loop-test .taken)) (c .if2 .left)
+          .1,
+    )
 
 sub-value : tie.Need-sub-value Inv-loop μ-loop
 sub-value c =
     let l = c .before .before .before .loop in
     let z = c .before .before .before .before .before in
     let fits = c .before .before .before .before .if1 .left in
-    omega (arith, digit-bounds (now (z .args .word)) fits (l .value) (l .i) (l .inv) (omega (arith, c .before .before .loop-test .taken)) (c .if2 .left) .0)
+    omega (
+      arith,
+      digit-bounds (now (z .args .word)) fits (l .value) (l .i) (l .inv) (omega (arith, c .before .before .loop-test .taken))
+          (c .if2 .left) .0,
+    )
 
 cast-value : tie.Need-cast-value Inv-loop μ-loop
 cast-value c =
     let l = c .before .before .before .loop in
     let z = c .before .before .before .before .before in
     let fits = c .before .before .before .before .if1 .left in
-    omega (arith, digit-bounds (now (z .args .word)) fits (l .value) (l .i) (l .inv) (omega (arith, c .before .before .loop-test .taken)) (c .if2 .left) .1)
+    omega (
+      arith,
+      digit-bounds (now (z .args .word)) fits (l .value) (l .i) (l .inv) (omega (arith, c .before .before .loop-test .taken))
+          (c .if2 .left) .1,
+    )
 
 add-i : tie.Need-add-i Inv-loop μ-loop
 add-i c = search needs

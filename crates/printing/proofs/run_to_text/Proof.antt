@@ -40,7 +40,8 @@ put-refusal-requires : tie.Need-put-refusal-requires
 put-refusal-requires c κs =
     let g = c .before .before .before .before .before .before .before .before .before .before in
     let z = g .before .before .before .before .before .before .before .before .before .before .before .before .args in
-    let room = sym (g .before .before .before .before .before .has-room .ensures) ∙ not-false _ (g .before .before .before .before .if1 .left) in
+    let room = sym (g .before .before .before .before .before .has-room .ensures) ∙ not-false _ (g .before .before .before .before .if1
+    .left) in
     let large = leb-true (z .at + textSize) (length (now (z .text))) room in
     let q = c .before .before .answer .given .0 .0 in
     omega (arith, large, refused-short (q .number) (q .place))
@@ -55,29 +56,58 @@ put-ended-requires c κs =
     let r = g .run in
     let before = buffers (now (z .trace)) (now (z .snapshot)) (now (z .work)) in
     let h = handedFor (z .schedule) (z .monitored) (now (z .job)) (sizesOf before) in
-    let d = delivers-by (h .result) before (buffers _ _ _) (r .result .answer) (r .ensures .0) (r .ensures .1 .1 .0) (r .ensures .1 .1 .1 .0) (r .ensures .1 .1 .1 .1) in
-    let room = sym (g .before .before .before .before .before .has-room .ensures) ∙ not-false _ (g .before .before .before .before .if1 .left) in
+    let d = delivers-by (h .result) before (buffers _ _ _) (r .result .answer) (r .ensures .0) (r .ensures .1 .1 .0) (r .ensures .1 .1 .1
+    .0) (r .ensures .1 .1 .1 .1) in
+    let room = sym (g .before .before .before .before .before .has-room .ensures) ∙ not-false _ (g .before .before .before .before .if1
+    .left) in
     let large = leb-true (z .at + textSize) (length (now (z .text))) room in
     let given = c .before .before .before .before .answer2 .given in
     let e = ended-as (z .schedule) (z .monitored) (now (z .job)) before _ _ _ d (given .1) in
-    let short = lines-short _ _ _ _ _ _ e (λ i. omega (arith, c .before .before .before .before .before .before .before .before .before .before .slice-known5 .given i)) (λ i. omega (arith, c .before .before .before .before .before .before .before .before .slice-known6 .given i)) in
+    let short = lines-short _ _ _ _ _ _ e (λ i. omega (
+      arith,
+      c .before .before .before .before .before .before .before .before .before
+          .before .slice-known5 .given i,
+    )) (λ i. omega (
+      arith,
+      c .before .before .before .before .before .before .before .before .slice-known6
+          .given i,
+    )) in
     (is-accepted _ _ _ _ _ _ e, (trace-inside _ _ _ _ _ _ e, (snapshot-inside _ _ _ _ _ _ e, omega (arith, large, short))))
 
 put-total-requires : tie.Need-put-total-requires
 put-total-requires c κs =
-    let g = c .before .before .before .before .before .before .before .before .before .before .before .before .before .before .before .before in
+    let g = c .before .before .before .before .before .before .before .before .before .before .before .before .before .before .before
+    .before in
     let z = g .before .before .before .before .before .before .before .before .before .before .before .before .args in
     let r = g .run in
     let before = buffers (now (z .trace)) (now (z .snapshot)) (now (z .work)) in
     let h = handedFor (z .schedule) (z .monitored) (now (z .job)) (sizesOf before) in
-    let d = delivers-by (h .result) before (buffers _ _ _) (r .result .answer) (r .ensures .0) (r .ensures .1 .1 .0) (r .ensures .1 .1 .1 .0) (r .ensures .1 .1 .1 .1) in
-    let room = sym (g .before .before .before .before .before .has-room .ensures) ∙ not-false _ (g .before .before .before .before .if1 .left) in
+    let d = delivers-by (h .result) before (buffers _ _ _) (r .result .answer) (r .ensures .0) (r .ensures .1 .1 .0) (r .ensures .1 .1 .1
+    .0) (r .ensures .1 .1 .1 .1) in
+    let room = sym (g .before .before .before .before .before .has-room .ensures) ∙ not-false _ (g .before .before .before .before .if1
+    .left) in
     let large = leb-true (z .at + textSize) (length (now (z .text))) room in
     let given = c .before .before .before .before .before .before .before .before .answer2 .given in
     let e = ended-as (z .schedule) (z .monitored) (now (z .job)) before _ _ _ d (given .1) in
-    let short = lines-short _ _ _ _ _ _ e (λ i. omega (arith, c .before .before .before .before .before .before .before .before .before .before .before .before .before .before .slice-known5 .given i)) (λ i. omega (arith, c .before .before .before .before .before .before .before .before .before .before .before .before .slice-known6 .given i)) in
+    let short = lines-short _ _ _ _ _ _ e (λ i. omega (
+      arith,
+      c .before .before .before .before .before .before .before .before .before
+          .before .before .before .before .before .slice-known5 .given i,
+    )) (λ i. omega (
+      arith,
+      c .before .before .before .before .before .before
+          .before .before .before .before .before .before .slice-known6 .given i,
+    )) in
     let w = c .before .before .before .put-ended .ensures in
-    omega (arith, large, short, w .place, kept-length _ _ _ _ _ w (omega (arith, large, short)), total-short (z .schedule) (r .result .examined))
+    omega (
+      arith,
+      large,
+      short,
+      w .place,
+      kept-length _ _ _ _ _ w (omega (arith, large, short)),
+      total-short (z .schedule) (r .result
+          .examined),
+    )
 
 same-length-2 : tie.Need-same-length-2
 same-length-2 c = search needs
@@ -98,8 +128,10 @@ returns-2 c =
     let r = g .run in
     let before = buffers (now (z .trace)) (now (z .snapshot)) (now (z .work)) in
     let h = handedFor (z .schedule) (z .monitored) (now (z .job)) (sizesOf before) in
-    let d = delivers-by (h .result) before (buffers _ _ _) (r .result .answer) (r .ensures .0) (r .ensures .1 .1 .0) (r .ensures .1 .1 .1 .0) (r .ensures .1 .1 .1 .1) in
-    let room = sym (g .before .before .before .before .before .has-room .ensures) ∙ not-false _ (g .before .before .before .before .if1 .left) in
+    let d = delivers-by (h .result) before (buffers _ _ _) (r .result .answer) (r .ensures .0) (r .ensures .1 .1 .0) (r .ensures .1 .1 .1
+    .0) (r .ensures .1 .1 .1 .1) in
+    let room = sym (g .before .before .before .before .before .has-room .ensures) ∙ not-false _ (g .before .before .before .before .if1
+    .left) in
     let given = c .before .before .before .before .before .answer .given in
     let q = given .0 .0 in
     let same = refused-same (z .schedule) (now (z .job)) h (refusalOf q) (refused-result _ _ _ _ _ d (given .1)) in
@@ -123,17 +155,28 @@ same-length-9 c = search needs
 
 returns-3 : tie.Need-returns-3
 returns-3 c =
-    let g = c .before .before .before .before .before .before .before .before .before .before .before .before .before .before .before .before .before .before .before in
+    let g = c .before .before .before .before .before .before .before .before .before .before .before .before .before .before .before
+    .before .before .before .before in
     let z = g .before .before .before .before .before .before .before .before .before .before .before .before .args in
     let r = g .run in
     let before = buffers (now (z .trace)) (now (z .snapshot)) (now (z .work)) in
     let h = handedFor (z .schedule) (z .monitored) (now (z .job)) (sizesOf before) in
-    let d = delivers-by (h .result) before (buffers _ _ _) (r .result .answer) (r .ensures .0) (r .ensures .1 .1 .0) (r .ensures .1 .1 .1 .0) (r .ensures .1 .1 .1 .1) in
-    let room = sym (g .before .before .before .before .before .has-room .ensures) ∙ not-false _ (g .before .before .before .before .if1 .left) in
+    let d = delivers-by (h .result) before (buffers _ _ _) (r .result .answer) (r .ensures .0) (r .ensures .1 .1 .0) (r .ensures .1 .1 .1
+    .0) (r .ensures .1 .1 .1 .1) in
+    let room = sym (g .before .before .before .before .before .has-room .ensures) ∙ not-false _ (g .before .before .before .before .if1
+    .left) in
     let large = leb-true (z .at + textSize) (length (now (z .text))) room in
     let given = c .before .before .before .before .before .before .before .before .before .before .before .answer2 .given in
     let e = ended-as (z .schedule) (z .monitored) (now (z .job)) before _ _ _ d (given .1) in
-    let short = lines-short _ _ _ _ _ _ e (λ i. omega (arith, c .before .before .before .before .before .before .before .before .before .before .before .before .before .before .before .before .before .slice-known5 .given i)) (λ i. omega (arith, c .before .before .before .before .before .before .before .before .before .before .before .before .before .before .before .slice-known6 .given i)) in
+    let short = lines-short _ _ _ _ _ _ e (λ i. omega (
+      arith,
+      c .before .before .before .before .before .before .before .before .before
+          .before .before .before .before .before .before .before .before .slice-known5 .given i,
+    )) (λ i. omega (
+      arith,
+      c .before .before .before
+          .before .before .before .before .before .before .before .before .before .before .before .before .slice-known6 .given i,
+    )) in
     let first = c .before .before .before .before .before .before .put-ended .ensures in
     let more = total-short (z .schedule) (r .result .examined) in
     let both = writes-on _ _ _ _ _ _ _ _ (omega (arith, large, short, more)) first (c .before .before .put-total .ensures) in

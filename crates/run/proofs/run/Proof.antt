@@ -46,7 +46,8 @@ returns-2 c =
     let p14 = p12 .before .before in
     let z = p14 .before .before .before .before .before .before .args in
     let a = is-accepted _ _ _ (p14 .judge .ensures .judged) (p12 .enum-told .given .1) in
-    let d = reports-ran (z .schedule) (z .monitored) (now (z .job)) (buffers (now (z .trace)) (now (z .snapshot)) (now (z .work))) (buffers _ _ _) _
+    let d = reports-ran (z .schedule) (z .monitored) (now (z .job)) (buffers (now (z .trace)) (now (z .snapshot)) (now (z .work)))
+    (buffers _ _ _) _
     (a .past) (a .decoded) (p7 .run-accepted .ensures) in
     let l = d .delivers .left in
     (d .delivers .told, (d .examined, (l .trace, (l .snapshot, l .work))))

@@ -13,7 +13,8 @@ load-requires c κs = may-load _ _ _ _ (c .before .before .before .before .befor
 run-turns-requires : tie.Need-run-turns-requires
 run-turns-requires c κs =
     let z = c .before .before .before .before .before .before .before .before .before .before .before .before in (
-      is-ready _ _ _ _ (z .pre) (now (z .args .work)) _ (work-fits _ _ _ _ (z .pre)) (c .before .before .before .before .before .before .load .ensures),
+      is-ready _ _ _ _ (z .pre) (now (z .args .work)) _ (work-fits _ _ _ _ (z .pre)) (c .before .before .before .before .before .before
+          .load .ensures),
       (good-budget _ _ _ _ (z .pre), (trace-fits _ _ _ _ (z .pre), snapshot-fits _ _ _ _ (z .pre))),
     )
 
@@ -38,7 +39,8 @@ returns c =
     let p15 = p8 .before .before .before .before .before .before .before in
     let z = p15 .before .before .before .before .before .before in
     let b = buffers (now (z .args .trace)) (now (z .args .snapshot)) (now (z .args .work)) in
-    hands-over (z .args .schedule) (now (z .args .job)) (now (z .args .tables)) b (z .pre) (z .args .monitored) _ _ _ (p8 .run-turns .ensures) _ _
+    hands-over (z .args .schedule) (now (z .args .job)) (now (z .args .tables)) b (z .pre) (z .args .monitored) _ _ _ (p8 .run-turns
+    .ensures) _ _
     (rw (p15 .load .ensures) at (c .before .before .put-zeros .ensures))
 
 pub run-accepted-spec : {M : Type 1} → statement M

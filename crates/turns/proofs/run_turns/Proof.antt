@@ -24,11 +24,16 @@ abbrev μ-loop : tie.MeasureT-loop
 μ-loop job t work schedule trace₀ snapshot monitored s₀ halt₀ last₀ examined₀ from₀ at₀ k₀ trace s halt last examined from at k = last - k
 
 -- in the loop there is a turn more, and the run is underway
-module _ (i : tie.In-loop Inv-loop μ-loop) (ready : Loaded (now (i .before .before .before .before .before .before .before .before .before .args .job)) (now (i .before .before .before .before .before .before .before .before .before .args .tables)) (now (i .before .before .before .before .before .before .before .before .before .args .work))) where
-  more : i .before .loop .k < turnsFor (i .before .before .before .before .before .before .before .before .before .args .schedule) (ready .past)
+module _ (i : tie.In-loop Inv-loop μ-loop) (ready : Loaded (now (i .before .before .before .before .before .before .before .before .before
+    .args .job)) (now (i .before .before .before .before .before .before .before .before .before .args .tables)) (now (i .before .before
+    .before .before .before .before .before .before .before .args .work))) where
+  more : i .before .loop .k < turnsFor (i .before .before .before .before .before .before .before .before .before .args .schedule)
+      (ready .past)
   more = omega (arith, i .loop-test .taken, i .before .loop .inv ready .all (i .loop-test .taken))
 
-  underway : Underway (i .before .before .before .before .before .before .before .before .before .args .schedule) (i .before .before .before .before .before .before .before .before .before .args .monitored) (ready .past) (now (i .before .before .before .before .before .before .before .before .before .args .trace)) (i .before .loop .s) (i .before .loop .trace)
+  underway : Underway (i .before .before .before .before .before .before .before .before .before .args .schedule) (i .before .before
+      .before .before .before .before .before .before .before .args .monitored) (ready .past) (now (i .before .before .before .before
+      .before .before .before .before .before .args .trace)) (i .before .loop .s) (i .before .loop .trace)
       (i .before .loop .examined) (i .before .loop .from) (i .before .loop .at) (i .before .loop .k)
   underway = i .before .loop .inv ready .going (i .loop-test .taken)
 
@@ -42,17 +47,24 @@ loop-holds : tie.Need-loop-holds Inv-loop μ-loop
 loop-holds c =
     let z = c .before .before .before .before .before .before .before in
     λ ready.
-    reached (z .args .schedule) (z .args .monitored) (now (z .args .job)) (now (z .args .tables)) (now (z .args .work)) ready (z .pre .1 .0) _ _ _ 0 0 0 0 _
-    (c .turns-in .ensures ∙ turns-by (z .args .schedule) (z .args .monitored) (now (z .args .job)) (now (z .args .tables)) (now (z .args .work)) ready (z .pre .1 .0)) (omega arith)
-    (underway-none (z .args .schedule) (z .args .monitored) (now (z .args .job)) (now (z .args .tables)) (now (z .args .work)) ready (z .pre .1 .0) _ _ (c .before .start .ensures)) _ refl
+    reached (z .args .schedule) (z .args .monitored) (now (z .args .job)) (now (z .args .tables)) (now (z .args .work)) ready (z .pre .1
+    .0) _ _ _ 0 0 0 0 _
+    (c .turns-in .ensures ∙ turns-by (z .args .schedule) (z .args .monitored) (now (z .args .job)) (now (z .args .tables)) (now (z .args
+    .work)) ready (z .pre .1 .0)) (omega arith)
+    (underway-none (z .args .schedule) (z .args .monitored) (now (z .args .job)) (now (z .args .tables)) (now (z .args .work)) ready (z
+    .pre .1 .0) _ _ (c .before .start .ensures)) _ refl
 
 choice-of-requires : tie.Need-choice-of-requires Inv-loop μ-loop
 choice-of-requires c κs =
     let i = c .before .before .before in
     let l = i .before .loop in
     let z = i .before .before .before .before .before .before .before .before .before in
-    let ready = z .pre .0 in
-    (nodes-few (z .args .schedule) (z .args .monitored) (now (z .args .job)) (now (z .args .tables)) (now (z .args .work)) ready (z .pre .1 .0), from-low (z .args .schedule) (z .args .monitored) (now (z .args .job)) (now (z .args .tables)) (now (z .args .work)) ready (z .pre .1 .0) _ (l .s) (l .trace) (l .examined) (l .from) (l .at) (l .k) (underway i ready) (more i ready))
+    let ready = z .pre .0 in (
+      nodes-few (z .args .schedule) (z .args .monitored) (now (z .args .job)) (now (z .args .tables)) (now (z .args .work)) ready (z .pre
+          .1 .0),
+      from-low (z .args .schedule) (z .args .monitored) (now (z .args .job)) (now (z .args .tables)) (now (z .args .work)) ready (z
+          .pre .1 .0) _ (l .s) (l .trace) (l .examined) (l .from) (l .at) (l .k) (underway i ready) (more i ready),
+    )
 
 enum-known-choice : tie.Need-enum-known-choice Inv-loop μ-loop
 enum-known-choice c = search needs
@@ -63,8 +75,17 @@ add-examined c =
     let l = i .before .loop in
     let z = i .before .before .before .before .before .before .before .before .before in
     let ready = z .pre .0 in
-    let few = nobody-few (z .args .schedule) (z .args .monitored) (now (z .args .job)) (now (z .args .tables)) (now (z .args .work)) ready (z .pre .1 .0) _ (l .s) (l .trace) (l .examined) (l .from) (l .at) (l .k) (underway i ready) (more i ready) _ (rw (c .before .choice .given .1) at (c .before .before .before .choice-of .ensures)) in
-    omega (arith, few, underway i ready .few, more i ready, turns-few (z .args .schedule) (z .args .monitored) (now (z .args .job)) (now (z .args .tables)) (now (z .args .work)) ready (z .pre .1 .0))
+    let few = nobody-few (z .args .schedule) (z .args .monitored) (now (z .args .job)) (now (z .args .tables)) (now (z .args .work)) ready
+    (z .pre .1 .0) _ (l .s) (l .trace) (l .examined) (l .from) (l .at) (l .k) (underway i ready) (more i ready) _ (rw (c .before .choice
+    .given .1) at (c .before .before .before .choice-of .ensures)) in
+    omega (
+      arith,
+      few,
+      underway i ready .few,
+      more i ready,
+      turns-few (z .args .schedule) (z .args .monitored) (now (z .args .job)) (now
+          (z .args .tables)) (now (z .args .work)) ready (z .pre .1 .0),
+    )
 
 loop-less : tie.Need-loop-less Inv-loop μ-loop
 loop-less c =
@@ -78,7 +99,9 @@ loop-again c =
     let z = i .before .before .before .before .before .before .before .before .before in
     λ ready.
     halted (z .args .schedule) (z .args .monitored) _ _ _ _ _ _ _ _ _ (l .inv ready .size)
-    (underway-nobody (z .args .schedule) (z .args .monitored) (now (z .args .job)) (now (z .args .tables)) (now (z .args .work)) ready (z .pre .1 .0) _ (l .s) (l .trace) (l .examined) (l .from) (l .at) (l .k) (underway i ready) (more i ready) _ (rw (c .before .choice .given .1) at (c .before .before .before .choice-of .ensures)))
+    (underway-nobody (z .args .schedule) (z .args .monitored) (now (z .args .job)) (now (z .args .tables)) (now (z .args .work)) ready (z
+    .pre .1 .0) _ (l .s) (l .trace) (l .examined) (l .from) (l .at) (l .k) (underway i ready) (more i ready) _ (rw (c .before .choice
+    .given .1) at (c .before .before .before .choice-of .ensures)))
 
 enum-known-choice-2 : tie.Need-enum-known-choice-2 Inv-loop μ-loop
 enum-known-choice-2 c = search needs
@@ -89,8 +112,17 @@ add-examined-2 c =
     let l = i .before .loop in
     let z = i .before .before .before .before .before .before .before .before .before in
     let ready = z .pre .0 in
-    let few = chosen-few (z .args .schedule) (z .args .monitored) (now (z .args .job)) (now (z .args .tables)) (now (z .args .work)) ready (z .pre .1 .0) _ (l .s) (l .trace) (l .examined) (l .from) (l .at) (l .k) (underway i ready) (more i ready) _ _ (rw (c .before .choice2 .given .1) at (c .before .before .before .choice-of .ensures)) in
-    omega (arith, few, underway i ready .few, more i ready, turns-few (z .args .schedule) (z .args .monitored) (now (z .args .job)) (now (z .args .tables)) (now (z .args .work)) ready (z .pre .1 .0))
+    let few = chosen-few (z .args .schedule) (z .args .monitored) (now (z .args .job)) (now (z .args .tables)) (now (z .args .work)) ready
+    (z .pre .1 .0) _ (l .s) (l .trace) (l .examined) (l .from) (l .at) (l .k) (underway i ready) (more i ready) _ _ (rw (c .before
+    .choice2 .given .1) at (c .before .before .before .choice-of .ensures)) in
+    omega (
+      arith,
+      few,
+      underway i ready .few,
+      more i ready,
+      turns-few (z .args .schedule) (z .args .monitored) (now (z .args .job)) (now
+          (z .args .tables)) (now (z .args .work)) ready (z .pre .1 .0),
+    )
 
 add-from : tie.Need-add-from Inv-loop μ-loop
 add-from c =
@@ -98,7 +130,12 @@ add-from c =
     let l = i .before .loop in
     let z = i .before .before .before .before .before .before .before .before .before in
     let ready = z .pre .0 in
-    omega (arith, node-inside (z .args .schedule) (z .args .monitored) (now (z .args .job)) (now (z .args .tables)) (now (z .args .work)) ready (z .pre .1 .0) _ (l .s) (l .trace) (l .examined) (l .from) (l .at) (l .k) (underway i ready) (more i ready) _ _ (rw (c .before .before .choice2 .given .1) at (c .before .before .before .before .choice-of .ensures)))
+    omega (
+      arith,
+      node-inside (z .args .schedule) (z .args .monitored) (now (z .args .job)) (now (z .args .tables)) (now (z .args .work))
+          ready (z .pre .1 .0) _ (l .s) (l .trace) (l .examined) (l .from) (l .at) (l .k) (underway i ready) (more i ready) _ _ (rw (c .before
+          .before .choice2 .given .1) at (c .before .before .before .before .choice-of .ensures)),
+    )
 
 cast-i : tie.Need-cast-i Inv-loop μ-loop
 cast-i c = search needs
@@ -112,7 +149,12 @@ element-copy-out-fetch c =
     let l = i .before .loop in
     let z = i .before .before .before .before .before .before .before .before .before in
     let ready = z .pre .0 in
-    omega (arith, node-inside (z .args .schedule) (z .args .monitored) (now (z .args .job)) (now (z .args .tables)) (now (z .args .work)) ready (z .pre .1 .0) _ (l .s) (l .trace) (l .examined) (l .from) (l .at) (l .k) (underway i ready) (more i ready) _ _ (rw (c .before .before .before .choice2 .given .1) at (c .before .before .before .before .before .choice-of .ensures)))
+    omega (
+      arith,
+      node-inside (z .args .schedule) (z .args .monitored) (now (z .args .job)) (now (z .args .tables)) (now (z .args .work))
+          ready (z .pre .1 .0) _ (l .s) (l .trace) (l .examined) (l .from) (l .at) (l .k) (underway i ready) (more i ready) _ _ (rw (c .before
+          .before .before .choice2 .given .1) at (c .before .before .before .before .before .choice-of .ensures)),
+    )
 
 fetch-requires : tie.Need-fetch-requires Inv-loop μ-loop
 fetch-requires c κs = search needs
@@ -122,8 +164,16 @@ turn-requires c κs =
     let i = c .before .before .before .before .before .before .before .before .before .before .before in
     let l = i .before .loop in
     let z = i .before .before .before .before .before .before .before .before .before in
-    let ready = z .pre .0 in
-    (underway i ready .bounded, (node-inside (z .args .schedule) (z .args .monitored) (now (z .args .job)) (now (z .args .tables)) (now (z .args .work)) ready (z .pre .1 .0) _ (l .s) (l .trace) (l .examined) (l .from) (l .at) (l .k) (underway i ready) (more i ready) _ _ (rw (c .before .before .before .before .before .choice2 .given .1) at (c .before .before .before .before .before .before .before .choice-of .ensures)), c .fetch .ensures .1))
+    let ready = z .pre .0 in (
+      underway i ready .bounded,
+      (
+        node-inside (z .args .schedule) (z .args .monitored) (now (z .args .job)) (now (z .args .tables)) (now (z
+            .args .work)) ready (z .pre .1 .0) _ (l .s) (l .trace) (l .examined) (l .from) (l .at) (l .k) (underway i ready) (more i ready) _ _
+            (rw (c .before .before .before .before .before .choice2 .given .1) at (c .before .before .before .before .before .before .before
+            .choice-of .ensures)),
+        c .fetch .ensures .1,
+      ),
+    )
 
 enum-known-outcome : tie.Need-enum-known-outcome Inv-loop μ-loop
 enum-known-outcome c = search needs
@@ -133,39 +183,72 @@ numbers-of-requires c κs = search needs
 
 put-entry-requires : tie.Need-put-entry-requires Inv-loop μ-loop
 put-entry-requires c κs =
-    let i = c .before .before .before .before .before .before .before .before .before .before .before .before .before .before .before .before .before .before in
+    let i = c .before .before .before .before .before .before .before .before .before .before .before .before .before .before .before
+    .before .before .before in
     let l = i .before .loop in
     let z = i .before .before .before .before .before .before .before .before .before in
     let ready = z .pre .0 in (
-      omega (arith, more i ready, underway i ready .place, underway i ready .size, z .pre .1 .1 .0, turns-by (z .args .schedule) (z .args .monitored) (now (z .args .job)) (now (z .args .tables)) (now (z .args .work)) ready (z .pre .1 .0)),
+      omega (
+        arith,
+        more i ready,
+        underway i ready .place,
+        underway i ready .size,
+        z .pre .1 .1 .0,
+        turns-by (z .args .schedule) (z .args
+            .monitored) (now (z .args .job)) (now (z .args .tables)) (now (z .args .work)) ready (z .pre .1 .0),
+      ),
       subst Narrow (sym (c .numbers-of .ensures))
-          (made-narrow (z .args .schedule) (z .args .monitored) (now (z .args .job)) (now (z .args .tables)) (now (z .args .work)) ready (z .pre .1 .0) _ (l .s) (l .trace) (l .examined) (l .from) (l .at) (l .k) (underway i ready) (more i ready) _ _ (rw (c .before .before .before .before .before .before .before .before .before .before .before .before .choice2 .given .1) at (c .before .before .before .before .before .before .before .before .before .before .before .before .before .before .choice-of .ensures)) (c .before .before .before .before .before .before .before .fetch .result) (c .before .before .before .before .before .before .before .fetch .ensures .0) (c .before .before .before .before .before .before .turn .result) (c .before .before .before .before .before .before .turn .ensures) _ (c .before .before .before .outcome .given .1)),
+          (made-narrow (z .args .schedule) (z .args .monitored) (now (z .args .job)) (now (z .args .tables)) (now (z .args .work)) ready
+          (z .pre .1 .0) _ (l .s) (l .trace) (l .examined) (l .from) (l .at) (l .k) (underway i ready) (more i ready) _ _ (rw (c .before
+          .before .before .before .before .before .before .before .before .before .before .before .choice2 .given .1) at (c .before
+          .before .before .before .before .before .before .before .before .before .before .before .before .before .choice-of .ensures)) (c
+          .before .before .before .before .before .before .before .fetch .result) (c .before .before .before .before .before .before
+          .before .fetch .ensures .0) (c .before .before .before .before .before .before .turn .result) (c .before .before .before .before
+          .before .before .turn .ensures) _ (c .before .before .before .outcome .given .1)),
     )
 
 add-k : tie.Need-add-k Inv-loop μ-loop
 add-k c =
-    let i = c .before .before .before .before .before .before .before .before .before .before .before .before .before .before .before .before .before .before .before .before .before in
+    let i = c .before .before .before .before .before .before .before .before .before .before .before .before .before .before .before
+    .before .before .before .before .before .before in
     let l = i .before .loop in
     let z = i .before .before .before .before .before .before .before .before .before in
     let ready = z .pre .0 in
-    omega (arith, more i ready, turns-few (z .args .schedule) (z .args .monitored) (now (z .args .job)) (now (z .args .tables)) (now (z .args .work)) ready (z .pre .1 .0))
+    omega (
+      arith,
+      more i ready,
+      turns-few (z .args .schedule) (z .args .monitored) (now (z .args .job)) (now (z .args .tables)) (now (z
+          .args .work)) ready (z .pre .1 .0),
+    )
 
 loop-less-2 : tie.Need-loop-less-2 Inv-loop μ-loop
 loop-less-2 c =
-    let i = c .before .before .before .before .before .before .before .before .before .before .before .before .before .before .before .before .before .before .before .before .before in
+    let i = c .before .before .before .before .before .before .before .before .before .before .before .before .before .before .before
+    .before .before .before .before .before .before in
     omega (arith, i .loop-test .taken)
 
 loop-again-2 : tie.Need-loop-again-2 Inv-loop μ-loop
 loop-again-2 c =
-    let i = c .before .before .before .before .before .before .before .before .before .before .before .before .before .before .before .before .before .before .before .before .before in
+    let i = c .before .before .before .before .before .before .before .before .before .before .before .before .before .before .before
+    .before .before .before .before .before .before in
     let l = i .before .loop in
     let z = i .before .before .before .before .before .before .before .before .before in
     λ ready.
     let r = l .inv ready in
-    reached (z .args .schedule) (z .args .monitored) (now (z .args .job)) (now (z .args .tables)) (now (z .args .work)) ready (z .pre .1 .0) _ _ _ _ _ _ _ (l .last) (r .all (i .loop-test .taken))
+    reached (z .args .schedule) (z .args .monitored) (now (z .args .job)) (now (z .args .tables)) (now (z .args .work)) ready (z .pre .1
+    .0) _ _ _ _ _ _ _ (l .last) (r .all (i .loop-test .taken))
     (omega (arith, more i ready))
-    (underway-next (z .args .schedule) (z .args .monitored) (now (z .args .job)) (now (z .args .tables)) (now (z .args .work)) ready (z .pre .1 .0) _ (l .s) (l .trace) (l .examined) (l .from) (l .at) (l .k) (underway i ready) (more i ready) _ _ (rw (c .before .before .before .before .before .before .before .before .before .before .before .before .before .before .before .choice2 .given .1) at (c .before .before .before .before .before .before .before .before .before .before .before .before .before .before .before .before .before .choice-of .ensures)) (c .before .before .before .before .before .before .before .before .before .before .fetch .result) (c .before .before .before .before .before .before .before .before .before .before .fetch .ensures .0) (c .before .before .before .before .before .before .before .before .before .turn .result) (c .before .before .before .before .before .before .before .before .before .turn .ensures) _ (c .before .before .before .before .before .before .outcome .given .1)
-    (entryWith (c .before .before .before .numbers-of .result)) (c .before .before .before .numbers-of .ensures) _ _ (rw (← turns-by (z .args .schedule) (z .args .monitored) (now (z .args .job)) (now (z .args .tables)) (now (z .args .work)) ready (z .pre .1 .0)) (z .pre .1 .1 .0))
+    (underway-next (z .args .schedule) (z .args .monitored) (now (z .args .job)) (now (z .args .tables)) (now (z .args .work)) ready (z
+    .pre .1 .0) _ (l .s) (l .trace) (l .examined) (l .from) (l .at) (l .k) (underway i ready) (more i ready) _ _ (rw (c .before .before
+    .before .before .before .before .before .before .before .before .before .before .before .before .before .choice2 .given .1) at (c
+    .before .before .before .before .before .before .before .before .before .before .before .before .before .before .before .before
+    .before .choice-of .ensures)) (c .before .before .before .before .before .before .before .before .before .before .fetch .result) (c
+    .before .before .before .before .before .before .before .before .before .before .fetch .ensures .0) (c .before .before .before .before
+    .before .before .before .before .before .turn .result) (c .before .before .before .before .before .before .before .before .before
+    .turn .ensures) _ (c .before .before .before .before .before .before .outcome .given .1)
+    (entryWith (c .before .before .before .numbers-of .result)) (c .before .before .before .numbers-of .ensures) _ _ (rw (← turns-by (z
+    .args .schedule) (z .args .monitored) (now (z .args .job)) (now (z .args .tables)) (now (z .args .work)) ready (z .pre .1 .0)) (z .pre
+    .1 .1 .0))
     (search needs) (c .before .before .put-entry .ensures)) _ (r .never (i .loop-test .taken))
 
 enum-known-outcome-2 : tie.Need-enum-known-outcome-2 Inv-loop μ-loop
@@ -173,17 +256,24 @@ enum-known-outcome-2 c = search needs
 
 loop-less-3 : tie.Need-loop-less-3 Inv-loop μ-loop
 loop-less-3 c =
-    let i = c .before .before .before .before .before .before .before .before .before .before .before .before .before .before .before .before in
+    let i = c .before .before .before .before .before .before .before .before .before .before .before .before .before .before .before
+    .before in
     omega (arith, i .loop-test .taken)
 
 loop-again-3 : tie.Need-loop-again-3 Inv-loop μ-loop
 loop-again-3 c =
-    let i = c .before .before .before .before .before .before .before .before .before .before .before .before .before .before .before .before in
+    let i = c .before .before .before .before .before .before .before .before .before .before .before .before .before .before .before
+    .before in
     let l = i .before .loop in
     let z = i .before .before .before .before .before .before .before .before .before in
     λ ready.
     halted (z .args .schedule) (z .args .monitored) _ _ _ _ _ _ _ _ _ (l .inv ready .size)
-    (underway-stopped (z .args .schedule) (z .args .monitored) (now (z .args .job)) (now (z .args .tables)) (now (z .args .work)) ready (z .pre .1 .0) _ (l .s) (l .trace) (l .examined) (l .from) (l .at) (l .k) (underway i ready) (more i ready) _ _ (rw (c .before .before .before .before .before .before .before .before .before .before .choice2 .given .1) at (c .before .before .before .before .before .before .before .before .before .before .before .before .choice-of .ensures)) (c .before .before .before .before .before .fetch .result) (c .before .before .before .before .before .fetch .ensures .0) (c .before .before .before .before .turn .result) (c .before .before .before .before .turn .ensures) _ (c .before .outcome2 .given .1))
+    (underway-stopped (z .args .schedule) (z .args .monitored) (now (z .args .job)) (now (z .args .tables)) (now (z .args .work)) ready (z
+    .pre .1 .0) _ (l .s) (l .trace) (l .examined) (l .from) (l .at) (l .k) (underway i ready) (more i ready) _ _ (rw (c .before .before
+    .before .before .before .before .before .before .before .before .choice2 .given .1) at (c .before .before .before .before .before
+    .before .before .before .before .before .before .before .choice-of .ensures)) (c .before .before .before .before .before .fetch
+    .result) (c .before .before .before .before .before .fetch .ensures .0) (c .before .before .before .before .turn .result) (c .before
+    .before .before .before .turn .ensures) _ (c .before .outcome2 .given .1))
 
 ending-of-requires : tie.Need-ending-of-requires Inv-loop μ-loop
 ending-of-requires c κs = search needs
@@ -206,13 +296,29 @@ put-snapshot-requires c κs =
     let z = p .before .before .before .before .before .before .before .before .before .before in
     let ready = z .pre .0 in
     let o = p .before .before .loop .inv (z .pre .0) .ended (omega (arith, p .before .loop-test .left)) _ (p .ending-of .ensures) in (
-      (z .pre .1 .1 .1, omega (arith, c .before .before .before .before .before .before .before .before .before .before .count-of .ensures, nodes-few (z .args .schedule) (z .args .monitored) (now (z .args .job)) (now (z .args .tables)) (now (z .args .work)) ready (z .pre .1 .0)), omega (arith, c .before .before .before .before .before .before .before .before .before .count-of2 .ensures, variables-few (z .args .schedule) (z .args .monitored) (now (z .args .job)) (now (z .args .tables)) (now (z .args .work)) ready (z .pre .1 .0))),
+      (
+        z .pre .1 .1 .1,
+        omega (
+          arith,
+          c .before .before .before .before .before .before .before .before .before .before .count-of
+              .ensures,
+          nodes-few (z .args .schedule) (z .args .monitored) (now (z .args .job)) (now (z .args .tables)) (now (z .args .work))
+              ready (z .pre .1 .0),
+        ),
+        omega (
+          arith,
+          c .before .before .before .before .before .before .before .before .before .count-of2 .ensures,
+          variables-few (z .args .schedule) (z .args .monitored) (now (z .args .job)) (now (z .args .tables)) (now (z .args .work)) ready (z
+              .pre .1 .0),
+        ),
+      ),
       (o .bounded, o .positions),
     )
 
 same-length : tie.Need-same-length Inv-loop μ-loop
 same-length c =
-    let p = c .before .before .before .before .before .before .before .before .before .before .before .before .before .before .before .before in
+    let p = c .before .before .before .before .before .before .before .before .before .before .before .before .before .before .before
+    .before in
     let z = p .before .before .before .before .before .before .before .before in
     p .loop .inv (z .pre .0) .size
 
@@ -227,11 +333,18 @@ returns c past e =
     let ready = z .pre .0 in
     let d = ready .decoded in
     let same : ready .past ≡ past = cc in
-    subst (λ (x : List Command). RunsAs (programOf x) (runOf (z .args .schedule) (z .args .monitored) x) (now (z .args .trace)) (now (z .args .snapshot)) (l .trace)
+    subst (λ (x : List Command). RunsAs (programOf x) (runOf (z .args .schedule) (z .args .monitored) x) (now (z .args .trace)) (now (z
+    .args .snapshot)) (l .trace)
     (c .before .before .put-snapshot .last .0) (record { ending = p .ending-of .result; examined = l .examined })) same
-    (runs-as (z .args .schedule) (z .args .monitored) (now (z .args .job)) (now (z .args .tables)) (now (z .args .work)) ready (z .pre .1 .0) _ _ (l .s) _ (l .examined)
+    (runs-as (z .args .schedule) (z .args .monitored) (now (z .args .job)) (now (z .args .tables)) (now (z .args .work)) ready (z .pre .1
+    .0) _ _ (l .s) _ (l .examined)
     (l .inv (z .pre .0) .ended (omega (arith, p .before .loop-test .left)) _ (p .ending-of .ensures)) _ _ _
-    (rw (c .before .before .before .before .before .before .before .before .before .before .before .before .before .count-of .ensures, c .before .before .before .before .before .before .before .before .before .before .before .before .count-of2 .ensures) at (c .before .before .put-snapshot .ensures)))
+    (rw (
+      c .before .before .before .before .before .before .before .before .before .before .before .before .before .count-of .ensures,
+      c
+          .before .before .before .before .before .before .before .before .before .before .before .before .count-of2 .ensures,
+    ) at (c .before
+    .before .put-snapshot .ensures)))
 
 pub run-turns-spec : {M : Type 1} → statement M
 run-turns-spec =

@@ -27,7 +27,8 @@ returns : tie.Need-returns
 returns c =
     let a = c .before .before .before .before .before .before .before .args in
     refused-first (a .schedule) (now (a .job)) (sizes (a .trace) (a .snapshot) (a .work)) _ _
-    (rw (c .before .before .before .budgeted .given .1) at (c .before .before .before .before .before .check-budget .ensures)) (c .clear .ensures)
+    (rw (c .before .before .before .budgeted .given .1) at (c .before .before .before .before .before .check-budget .ensures)) (c .clear
+    .ensures)
 
 returns-2 : tie.Need-returns-2
 returns-2 c = search needs

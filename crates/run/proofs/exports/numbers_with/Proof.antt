@@ -36,7 +36,7 @@ cast-t29 : tie.Need-cast-t29
 cast-t29 c = search needs
 
 returns : tie.Need-returns
-returns c = nine-numbers (toldBy (c .before .before .args .report .answer)) _ _ (c .before .numbers-in .ensures)
+returns c = nine-numbers (toldBy (c .before .before .args .handed .answer)) _ _ (c .before .numbers-in .ensures)
 
 pub numbers-with-spec : {M : Type 1} → statement M
 numbers-with-spec =
