@@ -93,7 +93,7 @@ void leqsumir_run_unmonitored(const uint8_t *job, size_t job_len, uint8_t *trace
  *   answer   gets nine numbers: those of a run, and how many nodes were examined for all choices, the last fruitless or stopped one
  *            included
  *
- * A job with a TURN is refused by 14, behind 1 to 9, 15 and 19 and before 10 to 12. Refusal 10 asks for 7 bytes for each turn of the
+ * A job with a TURN is refused by 14, after 1 to 9, 15 and 19 and before 10 to 12. Refusal 10 asks for 7 bytes for each turn of the
  * budget, made or not. All else is as above. */
 void leqsumir_dispatch_monitored(const uint8_t *job, size_t job_len, uint64_t budget, uint8_t *trace, size_t trace_len,
                                  uint8_t *snapshot, size_t snapshot_len, uint8_t *work, size_t work_len, uint64_t answer[9]);

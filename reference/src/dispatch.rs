@@ -66,7 +66,7 @@ fn first_turn(job: &[u8], program: &Program) -> Option<usize> {
     (bytes > 0).then(|| job.len() - bytes)
 }
 
-/// The program and its budget, or a refusal: 13 before all others, 14 behind 19, and 10 by the budget.
+/// The program and its budget, or a refusal: 13 before all others, 14 after 19, and 10 by the budget.
 fn accept(job: &[u8], budget: u64, lengths: [usize; 3]) -> Result<(Program, usize), Refusal> {
     let budget = accepted_budget(budget).ok_or(Refusal { number: 13, place: 0 })?;
     let program = decode(job)?;

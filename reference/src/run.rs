@@ -9,7 +9,7 @@ use crate::state::State;
 
 /// Which node gets the next turn.
 pub trait Order {
-    /// The node of the next turn, behind so many completed ones; or the stop of a run that has no next turn.
+    /// The node of the next turn, after so many completed ones; or the stop of a run that has no next turn.
     fn next(&mut self, program: &Program, state: &State, turns: usize) -> Result<u8, u8>;
 
     /// The nodes examined so far, if any are.

@@ -150,7 +150,7 @@ fn budgets() {
     }
 }
 
-/// 14 behind all other tests of the job, and at its first TURN.
+/// 14 after all other tests of the job, and at its first TURN.
 #[test]
 fn turns_of_a_dispatched_job() {
     for (text, number, place) in [

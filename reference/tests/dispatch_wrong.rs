@@ -26,7 +26,7 @@ enum Fault {
     StoppedNotCounted,
     FruitlessNotCounted,
     LastOfFruitlessNotCounted,
-    CountsBehindTheBudget,
+    CountsAfterTheBudget,
     CountsAllNodes,
     // How it ends.
     NobodyReadyIsStop0,
@@ -65,7 +65,7 @@ const FAULTS: [Fault; 32] = [
     StoppedNotCounted,
     FruitlessNotCounted,
     LastOfFruitlessNotCounted,
-    CountsBehindTheBudget,
+    CountsAfterTheBudget,
     CountsAllNodes,
     NobodyReadyIsStop0,
     NobodyReadyIsStop2,
@@ -173,7 +173,7 @@ impl Wrong<'_> {
                 }
             }
         }
-        if self.fault == CountsBehindTheBudget {
+        if self.fault == CountsAfterTheBudget {
             self.choose();
         }
         (self.ended(true), Entry::default(), entries)
