@@ -103,16 +103,16 @@ pub fn run_to_text(
         (handedWith schedule monitored (now (job .entry)) (now (trace .entry)) (now (snapshot .entry)) (now (work .entry)))))
         (now (text .entry)) ⌝ }
     ensures trace { λ _. ⌜ now (trace .exit) ≡ cond (hasRoom (now (text .entry)) at)
-        (traceAfter (handedWith schedule monitored (now (job .entry)) (now (trace .entry)) (now (snapshot .entry)) (now (work .entry))
-        .result)
+        (traceAfter
+        (handedWith schedule monitored (now (job .entry)) (now (trace .entry)) (now (snapshot .entry)) (now (work .entry)) .result)
         (now (trace .entry))) (now (trace .entry)) ⌝ }
     ensures snapshot { λ _. ⌜ now (snapshot .exit) ≡ cond (hasRoom (now (text .entry)) at)
-        (snapshotAfter (handedWith schedule monitored (now (job .entry)) (now (trace .entry)) (now (snapshot .entry)) (now (work .entry))
-        .result)
+        (snapshotAfter
+        (handedWith schedule monitored (now (job .entry)) (now (trace .entry)) (now (snapshot .entry)) (now (work .entry)) .result)
         (now (snapshot .entry))) (now (snapshot .entry)) ⌝ }
     ensures work { λ _. ⌜ now (work .exit) ≡ cond (hasRoom (now (text .entry)) at)
-        (workAfter (handedWith schedule monitored (now (job .entry)) (now (trace .entry)) (now (snapshot .entry)) (now (work .entry))
-        .result)
+        (workAfter
+        (handedWith schedule monitored (now (job .entry)) (now (trace .entry)) (now (snapshot .entry)) (now (work .entry)) .result)
         (now (work .entry))) (now (work .entry)) ⌝ }
 {
     if !has_room(text, at) {

@@ -133,14 +133,14 @@ pub fn dispatch_monitored(
     ensures examined { λ r. ⌜ r .examined ≡
         monitoredUnder budget (now (job .entry)) (now (trace .entry)) (now (snapshot .entry)) (now (work .entry)) .examined ⌝ }
     ensures trace { λ _. ⌜ now (trace .exit) ≡ traceAfter
-        (monitoredUnder budget (now (job .entry)) (now (trace .entry)) (now (snapshot .entry)) (now (work .entry)) .result) (now (trace
-        .entry)) ⌝ }
+        (monitoredUnder budget (now (job .entry)) (now (trace .entry)) (now (snapshot .entry)) (now (work .entry)) .result)
+        (now (trace .entry)) ⌝ }
     ensures snapshot { λ _. ⌜ now (snapshot .exit) ≡ snapshotAfter
-        (monitoredUnder budget (now (job .entry)) (now (trace .entry)) (now (snapshot .entry)) (now (work .entry)) .result) (now (snapshot
-        .entry)) ⌝ }
+        (monitoredUnder budget (now (job .entry)) (now (trace .entry)) (now (snapshot .entry)) (now (work .entry)) .result)
+        (now (snapshot .entry)) ⌝ }
     ensures work { λ _. ⌜ now (work .exit) ≡ workAfter
-        (monitoredUnder budget (now (job .entry)) (now (trace .entry)) (now (snapshot .entry)) (now (work .entry)) .result) (now (work
-        .entry)) ⌝ }
+        (monitoredUnder budget (now (job .entry)) (now (trace .entry)) (now (snapshot .entry)) (now (work .entry)) .result)
+        (now (work .entry)) ⌝ }
 {
     let schedule = Schedule::Dispatched(budget);
     run(job, schedule, trace, snapshot, work, true)
@@ -159,14 +159,14 @@ pub fn dispatch_unmonitored(
     ensures examined { λ r. ⌜ r .examined ≡
         unmonitoredUnder budget (now (job .entry)) (now (trace .entry)) (now (snapshot .entry)) (now (work .entry)) .examined ⌝ }
     ensures trace { λ _. ⌜ now (trace .exit) ≡ traceAfter
-        (unmonitoredUnder budget (now (job .entry)) (now (trace .entry)) (now (snapshot .entry)) (now (work .entry)) .result) (now (trace
-        .entry)) ⌝ }
+        (unmonitoredUnder budget (now (job .entry)) (now (trace .entry)) (now (snapshot .entry)) (now (work .entry)) .result)
+        (now (trace .entry)) ⌝ }
     ensures snapshot { λ _. ⌜ now (snapshot .exit) ≡ snapshotAfter
-        (unmonitoredUnder budget (now (job .entry)) (now (trace .entry)) (now (snapshot .entry)) (now (work .entry)) .result) (now
-        (snapshot .entry)) ⌝ }
+        (unmonitoredUnder budget (now (job .entry)) (now (trace .entry)) (now (snapshot .entry)) (now (work .entry)) .result)
+        (now (snapshot .entry)) ⌝ }
     ensures work { λ _. ⌜ now (work .exit) ≡ workAfter
-        (unmonitoredUnder budget (now (job .entry)) (now (trace .entry)) (now (snapshot .entry)) (now (work .entry)) .result) (now (work
-        .entry)) ⌝ }
+        (unmonitoredUnder budget (now (job .entry)) (now (trace .entry)) (now (snapshot .entry)) (now (work .entry)) .result)
+        (now (work .entry)) ⌝ }
 {
     let schedule = Schedule::Dispatched(budget);
     run(job, schedule, trace, snapshot, work, false)
