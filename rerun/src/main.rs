@@ -56,12 +56,17 @@ fn print_parting(monitored: &Rerun, unmonitored: &Rerun) {
     }
 }
 
+/// A number of decimal digits and nothing else.
+fn digits(word: &str) -> Option<u64> {
+    word.bytes().all(|c| c.is_ascii_digit()).then(|| word.parse().ok())?
+}
+
 /// The file's name and the budget, if there is one.
 fn arguments() -> Option<(OsString, Option<u64>)> {
     let mut words = std::env::args_os().skip(1);
     let file = words.next()?;
     let budget = match words.next() {
-        Some(word) => Some(word.to_str()?.parse().ok()?),
+        Some(word) => Some(digits(word.to_str()?)?),
         None => None,
     };
     words.next().is_none().then_some((file, budget))
