@@ -35,7 +35,7 @@ choices-along rule nodes budget s =
     dispatch-by rule nodes (λ budget from s d. Along nodes budget from d)
     (record {
       made = λ from s. refl;
-      fails = λ budget from s c. along-one nodes budget from s (fruitless nodes) (c .choice);
+      fails = λ budget from s c. along-one nodes budget from s fruitless (c .choice);
       halts = λ budget from s i c k e t. along-one nodes budget from s _ (c .choice);
       goes = λ budget from s i c e s′ t d ih.
           rw (c .choice) (ap (λ (cs : List Choice). chosen (goingRound nodes from i) (i + 1) ∷ cs) ih);

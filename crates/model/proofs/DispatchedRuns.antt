@@ -1,5 +1,5 @@
 -- Dispatched runs by a rule that serves: written out they are runs of written turns; what they choose and examine, and how they end.
-use Prim.Native.Nat.{ℕ, zero, suc, _≤_, _<_, zero-le}
+use Prim.Native.Nat.{ℕ, zero, suc, _*_, _≤_, _<_, zero-le}
 use mathlib.Core.Path.{_≡_, refl, ap}
 use mathlib.Core.Logic.{_↔_}
 use mathlib.Core.Bool.{true, false}
@@ -11,29 +11,42 @@ use borrow.Author.Tests.{ne-eqb}
 use Rattle.model.specs.State.{State}
 use Rattle.model.specs.Turn.{Entry, entry, Turned, stopped}
 use Rattle.model.specs.Run.{after, runFrom}
-use Rattle.model.specs.Dispatch.{ready, goingRound, Choice, nobody, fruitless, Dispatched, dispatchFrom, chosenIn, examinedFor}
-use Rattle.model.specs.Dispatch.{examinedIn}
+use Rattle.model.specs.Dispatch.{ready, goingRound, Choice, chosen, nobody, fruitless, Dispatched, dispatchFrom, chosenIn, examinedFor}
+use Rattle.model.specs.Dispatch.{examinedIn, readyCount}
 use Rattle.model.specs.Dispatching.{writtenOut, Examined}
 use Rattle.model.proofs.Lists.{AllBelow}
 use Rattle.model.proofs.Stops.{StopsBy}
 use Rattle.model.proofs.Serving.{Serving}
 use Rattle.model.proofs.Logic.{not-both}
 use Rattle.model.proofs.Choosing.{round-below, reached}
+use Rattle.model.proofs.Counting.{count-none, none-counted}
 use Rattle.model.proofs.Pursuing.{Ways, dispatch-by}
+
+-- each choice of one more
+each-more : (nodes : ℕ) (c : Choice) (cs : List Choice) → examinedFor c ≤ nodes
+    → ((k : ℕ) → k < length cs → examinedFor (getD cs k (nobody 0)) ≤ nodes)
+    → (k : ℕ) → k < length (c ∷ cs) → examinedFor (getD (c ∷ cs) k (nobody 0)) ≤ nodes
+each-more nodes c cs h rest zero l = h
+each-more nodes c cs h rest (suc k) l = rest k (le-of-suc-le-suc l)
 
 -- what is examined for no choice, and for one choice more
 examined-none : (nodes budget : ℕ) → Examined nodes budget []
 unfolding examinedIn
 examined-none nodes budget = record { each = λ k h. absurd (not-suc-le-zero h); number = zero-le; total = zero-le }
 
-examined-more : (nodes budget : ℕ) (c : Choice) (cs : List Choice) → examinedFor c ≤ nodes → Examined nodes budget cs
-    → Examined nodes (suc budget) (c ∷ cs)
-unfolding examinedIn
-examined-more nodes budget c cs h x = record { each = each; number = omega (arith, x .number); total = omega (arith, x .total) }
-  where
-    each : (k : ℕ) → k < length (c ∷ cs) → examinedFor (getD (c ∷ cs) k (nobody 0)) ≤ nodes
-    each zero l = h
-    each (suc k) l = x .each k (le-of-suc-le-suc l)
+examined-more : (nodes budget : ℕ) (c : Choice) (cs : List Choice) → examinedFor c ≤ nodes * length (chosenIn (c ∷ []))
+    → Examined nodes budget cs → Examined nodes (suc budget) (c ∷ cs)
+unfolding examinedIn chosenIn
+examined-more nodes budget (chosen n j) cs h x = record {
+  each = each-more nodes (chosen n j) cs (omega arith) (x .each);
+  number = omega (arith, x .number);
+  total = omega (arith, x .total);
+}
+examined-more nodes budget (nobody j) cs h x = record {
+  each = each-more nodes (nobody j) cs (omega arith) (x .each);
+  number = omega (arith, x .number);
+  total = omega (arith, x .total);
+}
 
 -- the dispatched run from node 0 on
 abbrev pub dispatched : (State → ℕ → Turned) → ℕ → ℕ → State → Dispatched
@@ -46,11 +59,12 @@ module _ (rule : State → ℕ → Turned) (nodes budget : ℕ) (start : State) 
 
   -- at most all nodes are examined for a choice, and at most one choice is made a turn
   pub examined : Examined nodes budget (dispatched rule nodes budget start .choices)
+  unfolding chosenIn
   examined =
       by-ways (λ budget from s d. Examined nodes budget (d .choices))
       (record {
         made = λ from s. examined-none nodes 0;
-        fails = λ budget from s c. examined-more nodes budget (fruitless nodes) [] (omega arith) (examined-none nodes budget);
+        fails = λ budget from s c. examined-more nodes budget fruitless [] (omega arith) (examined-none nodes budget);
         halts = λ budget from s i c k e t. examined-more nodes budget _ [] (omega (arith, c .near)) (examined-none nodes budget);
         goes = λ budget from s i c e s′ t d ih. examined-more nodes budget _ (d .choices) (omega (arith, c .near)) ih;
       })
@@ -137,6 +151,16 @@ module _ (rule : State → ℕ → Turned) (nodes budget : ℕ) (start : State) 
             λ h. ih .1 (omega (arith, h .0), h .1),
           );
         })
+
+    -- exactly if turns are left and the ready count is 0
+    pub count-tells : (dispatched rule nodes budget start .run .stop ≡ 4)
+        ↔ ((length (dispatched rule nodes budget start .run .steps) < budget)
+        × (readyCount nodes (dispatched rule nodes budget start .run .final) ≡ 0))
+    count-tells =
+        let final = ready (dispatched rule nodes budget start .run .final) in (
+          λ h. let q = nobody-ready .0 h in (q .0, count-none final nodes (q .1)),
+          λ h. nobody-ready .1 (h .0, none-counted final nodes (h .1)),
+        )
 
     -- with zeros as attempted entry then
     pub nobody-attempts : dispatched rule nodes budget start .run .stop ≡ 4

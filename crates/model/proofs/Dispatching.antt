@@ -15,7 +15,7 @@ use Rattle.model.proofs.Following.{follows}
 use Rattle.model.proofs.Serving.{Serving, ready-stops, ready-monitored-stops, turn-stays, monitored-stays, turn-serving}
 use Rattle.model.proofs.Serving.{monitored-serving}
 use Rattle.model.proofs.DispatchedRuns.{dispatched, examined, dispatch-stops, written-out, budget-made, nobody-ready}
-use Rattle.model.proofs.DispatchedRuns.{nobody-attempts}
+use Rattle.model.proofs.DispatchedRuns.{count-tells, nobody-attempts}
 use Rattle.model.proofs.DispatchCompared.{choices-along, dispatches-compared}
 use Rattle.model.proofs.Fairness.{is-fair}
 
@@ -34,6 +34,7 @@ dispatches rule serving nodes budget s =
       serves = λ k h. rw (goes .goesOn k h) at (serving .makes (stateAt (d .run) k) (getD (chosenIn (d .choices)) k 0));
       budgetMade = budget-made rule nodes budget s serving;
       nobodyReady = nobody-ready rule nodes budget s serving;
+      noneCounted = count-tells rule nodes budget s serving;
       nobodyAttempts = nobody-attempts rule nodes budget s serving;
       examines = examined rule nodes budget s;
       isFair = is-fair rule serving nodes budget s;

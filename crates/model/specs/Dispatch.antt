@@ -1,4 +1,5 @@
--- The dispatcher (S-2): given a budget of turns, it chooses the node of each turn instead of reading it from the job.
+-- The dispatcher (S-2): given a budget of turns, it chooses the node of each turn instead of reading it from the job. And the ready count
+-- (S-4), by which it finds that nobody is ready.
 use Prim.Native.Nat.{ℕ, zero, suc, _+_, _-_}
 use mathlib.Core.Bool.{Bool, cond, not, _&&_}
 use mathlib.Core.List.{List, [], _∷_}
@@ -14,6 +15,15 @@ use Rattle.model.specs.Run.{Run, ended, after}
 abbrev pub ready : State → ℕ → Bool
 ready s n = not (eqb (positionAt s n) idle && eqb (waitingAt s n) 0)
 
+-- how many of the numbers below k pass the test
+unfoldable pub countBelow : (ℕ → Bool) → ℕ → ℕ
+countBelow test zero = 0
+countBelow test (suc k) = cond (test k) (countBelow test k + 1) (countBelow test k)
+
+-- the ready count (S-4): how many of so many nodes are ready
+abbrev pub readyCount : ℕ → State → ℕ
+readyCount nodes s = countBelow (ready s) nodes
+
 -- the node i places on from a number, going round: after the last of the nodes comes node 0
 abbrev pub goingRound : ℕ → ℕ → ℕ → ℕ
 goingRound nodes from i = cond (ltb (from + i) nodes) (from + i) (from + i - nodes)
@@ -28,13 +38,13 @@ pub data Choice : Type 0 where
   chosen : ℕ → ℕ → Choice
   nobody : ℕ → Choice
 
--- the fruitless choice: all nodes were examined
-abbrev pub fruitless : ℕ → Choice
-fruitless nodes = nobody nodes
+-- the fruitless choice: no node was examined, as the ready count is 0 (S-4)
+abbrev pub fruitless : Choice
+fruitless = nobody 0
 
 -- the choice of the node i places on, the chosen one counted; the fruitless one where there are not so many nodes
 abbrev pub choiceAt : ℕ → ℕ → ℕ → Choice
-choiceAt nodes from i = cond (ltb i nodes) (chosen (goingRound nodes from i) (i + 1)) (fruitless nodes)
+choiceAt nodes from i = cond (ltb i nodes) (chosen (goingRound nodes from i) (i + 1)) fruitless
 
 -- the first ready node, going round from a number on
 unfoldable pub choose : ℕ → ℕ → State → Choice

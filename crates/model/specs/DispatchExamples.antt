@@ -60,9 +60,10 @@ servedLast sent = traced 1 5 0 sent ++ traced 1 2 0 0
 -- the rows
 unfoldable pub dispatchRows : List DispatchExample
 dispatchRows =
-    -- K1: node 0, with its message taken and an empty queue, is ready and is served on; after nine turns nobody is ready
+    -- K1: node 0, with its message taken and an empty queue, is ready and is served on; after nine turns nobody is ready, and no node is
+    -- examined to find that (S-4)
     dispatchedRow 12 (k1Front 2)
-    (ends 4 9 noEntry (servedFirst 2 7 ++ servedNext ++ servedLast 7) (idleNode ++ idleNode ++ four 5)) 16
+    (ends 4 9 noEntry (servedFirst 2 7 ++ servedNext ++ servedLast 7) (idleNode ++ idleNode ++ four 5)) 14
     -- nine turns: no tenth choice; five, with a trace buffer for five; one
     ∷ dispatchedRow 9 (k1Front 2)
     (ends 0 9 noEntry (servedFirst 2 7 ++ servedNext ++ servedLast 7) (idleNode ++ idleNode ++ four 5)) 14
@@ -73,7 +74,7 @@ dispatchRows =
     ∷ dispatchedRow 12 (k1Front 3)
     (ends 1 7 (entry 1 5 0 8) (servedFirst 3 8 ++ servedNext) (idleNode ++ nodePart 1 8 8 0 ++ four 5)) 12
     ∷ rowWith false enough 12 (k1Front 3)
-    (ends 4 9 noEntry (servedFirst 3 8 ++ servedNext ++ servedLast 8) (idleNode ++ idleNode ++ four 5)) 16
+    (ends 4 9 noEntry (servedFirst 3 8 ++ servedNext ++ servedLast 8) (idleNode ++ idleNode ++ four 5)) 14
     -- K7 without its turns: its first 18 bytes
     ∷ dispatchedRow 40 (take 18 k7)
     (ends 3 33 (entry 0 6 0 0) (traced 0 1 255 1 ++ times 16 (traced 0 6 0 0 ++ traced 0 0 0 0))

@@ -1,4 +1,4 @@
--- What holds of dispatched runs (S-2), for every program and every budget.
+-- What holds of dispatched runs (S-2) and of the ready count (S-4), for every program and every budget.
 use Prim.Native.Nat.{ℕ, suc, _+_, _*_, _≤_, _<_}
 use mathlib.Core.Path.{_≡_}
 use mathlib.Core.Logic.{_↔_}
@@ -13,20 +13,30 @@ use Rattle.model.specs.Permission.{monitoredTurn}
 use Rattle.model.specs.Run.{Run, runFrom, statesOf, entryAt, stateAt}
 use Rattle.model.specs.Following.{Follows}
 use Rattle.model.specs.Transparency.{AllPermitted, FirstForbidden, stoppedAt, Comparison}
-use Rattle.model.specs.Dispatch.{ready, goingRound, Choice, chosen, nobody, choose, Dispatched, chosenIn, examinedFor}
+use Rattle.model.specs.Dispatch.{ready, readyCount, goingRound, Choice, chosen, nobody, choose, Dispatched, chosenIn, examinedFor}
 use Rattle.model.specs.Dispatch.{examinedIn, unmonitoredDispatch, monitoredDispatch}
 use Rattle.model.specs.DispatchResult.{Handed, handed}
 
--- a choice, going round from a number on: the first ready node, all before it being unready, or nobody, all being unready
+-- a choice, going round from a number on: the first ready node, all before it being unready, or nobody, all being unready; no node is
+-- examined for nobody (S-4)
 pub data Chooses (nodes from : ℕ) (s : State) : Choice → Type 0 where
   found :
       (i : ℕ) → i < nodes → ready s (goingRound nodes from i) ≡ true → ((j : ℕ) → j < i → ready s (goingRound nodes from j) ≡ false)
       → Chooses nodes from s (chosen (goingRound nodes from i) (i + 1))
-  nobodyFound : ((j : ℕ) → j < nodes → ready s (goingRound nodes from j) ≡ false) → Chooses nodes from s (nobody nodes)
+  nobodyFound : ((j : ℕ) → j < nodes → ready s (goingRound nodes from j) ≡ false) → Chooses nodes from s (nobody 0)
 
 -- every choice, in every state
 abbrev pub ChoicesHold : Type 0
 ChoicesHold = (nodes from : ℕ) (s : State) → Chooses nodes from s (choose nodes from s)
+
+-- the ready count tells whether anybody is chosen (S-4): nobody is exactly if it is 0; and it is at most the number of nodes
+pub record Counts (nodes from : ℕ) (s : State) : Type 0 where
+  pub tells : (choose nodes from s ≡ nobody 0) ↔ (readyCount nodes s ≡ 0)
+  pub most : readyCount nodes s ≤ nodes
+
+-- in every state, going round from every number that a choice goes round from
+abbrev pub ReadyCountHolds : Type 0
+ReadyCountHolds = (nodes from : ℕ) (s : State) → from ≤ nodes → Counts nodes from s
 
 -- a dispatched run as the run of written turns has it: its turns ran out where nobody was ready
 abbrev pub writtenOut : Run → Run
@@ -84,11 +94,11 @@ abbrev pub Fair : ℕ → Run → Type 0
 Fair nodes r =
     (k node : ℕ) → node < nodes → ready (stateAt r k) node ≡ true → k + nodes ≤ length (r .steps) → ServedBetween r node k (k + nodes)
 
--- at most all nodes are examined for one choice, and there are at most as many choices as budgeted turns
+-- at most all nodes are examined for one choice, none for a fruitless one (S-4), and there are at most as many choices as budgeted turns
 pub record Examined (nodes budget : ℕ) (choices : List Choice) : Type 0 where
   pub each : (k : ℕ) → k < length choices → examinedFor (getD choices k (nobody 0)) ≤ nodes
   pub number : length choices ≤ budget
-  pub total : examinedIn choices ≤ nodes * length choices
+  pub total : examinedIn choices ≤ nodes * length (chosenIn choices)
 
 -- a dispatched run by a rule for one turn, with this budget, from this state
 pub record Dispatches (rule : State → ℕ → Turned) (nodes budget : ℕ) (start : State) (d : Dispatched) : Type 0 where
@@ -103,6 +113,8 @@ pub record Dispatches (rule : State → ℕ → Turned) (nodes budget : ℕ) (st
   pub budgetMade : (d .run .stop ≡ 0) ↔ (length (d .run .steps) ≡ budget)
   pub nobodyReady : (d .run .stop ≡ 4)
       ↔ ((length (d .run .steps) < budget) × ((n : ℕ) → n < nodes → ready (d .run .final) n ≡ false))
+  -- so the ready count tells stop 4 (S-4)
+  pub noneCounted : (d .run .stop ≡ 4) ↔ ((length (d .run .steps) < budget) × (readyCount nodes (d .run .final) ≡ 0))
   -- the attempted entry is all 0 then
   pub nobodyAttempts : d .run .stop ≡ 4 → d .run .attempted ≡ entry 0 0 0 0
   pub examines : Examined nodes budget (d .choices)
