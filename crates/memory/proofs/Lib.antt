@@ -4,3 +4,4 @@ pub mod Sending
 pub mod Changing
 pub mod Filled
 pub mod Unchanged
+pub mod Readying

@@ -34,7 +34,7 @@ pub record Ahead (all k targets : ℕ) : Type 0 where
   pub small : targets < 2 ^ (32 - k)
   pub bits : (j : ℕ) → bitOf targets j ≡ bitOf all (k + j)
 
-ahead-first : (all : ℕ) → all < 2 ^ 32 → Ahead all 0 all
+pub ahead-first : (all : ℕ) → all < 2 ^ 32 → Ahead all 0 all
 ahead-first all small = record { inside = omega arith; small = small; bits = λ j. let e : 0 + j ≡ j = omega arith in rw e }
 
 module _ {all k targets : ℕ} (a : Ahead all k targets) where
@@ -47,14 +47,14 @@ module _ {all k targets : ℕ} (a : Ahead all k targets) where
       by-place (suc d) e l = omega arith
 
   -- bit k is the lowest
-  here : bitOf all k ≡ eqb (targets % 2) 1
-  here = let e : k + 0 ≡ k = omega arith in sym (rw e at (a .bits 0)) ∙ low-bit targets
+  pub ahead-here : bitOf all k ≡ eqb (targets % 2) 1
+  ahead-here = let e : k + 0 ≡ k = omega arith in sym (rw e at (a .bits 0)) ∙ low-bit targets
 
   pub ahead-one : targets % 2 ≡ 1 → bitOf all k ≡ true
-  ahead-one e = here ∙ eq-eqb (targets % 2) 1 e
+  ahead-one e = ahead-here ∙ eq-eqb (targets % 2) 1 e
 
   pub ahead-other : ¬ (targets % 2 ≡ 1) → bitOf all k ≡ false
-  ahead-other e = here ∙ ne-eqb (targets % 2) 1 e
+  ahead-other e = ahead-here ∙ ne-eqb (targets % 2) 1 e
 
   pub ahead-next : k < 32 → Ahead all (k + 1) (targets / 2)
   ahead-next h =

@@ -1,4 +1,4 @@
--- Changes that leave the queues, and changes that leave the variables.
+-- Changes that leave the queues, those that wake nobody, and those that leave the variables.
 use Prim.Native.Nat.{ℕ}
 use mathlib.Core.Path.{_≡_, refl}
 use mathlib.Core.Bool.{Bool}
@@ -9,11 +9,15 @@ use Rattle.command.proofs.Keys.{one-of}
 use Rattle.memory.specs.declared.Change.{Change}
 use Rattle.memory.specs.declared.Change.the-variants as k
 use Rattle.memory.specs.Changes.{slotsAfter, countsAfter, variablesAfter}
+use Rattle.memory.specs.Ready.{wokenBy}
 use Rattle.memory.proofs.Change.{the-type}
 
--- the changes that no message takes part in, and those that do not store
+-- the changes that no message takes part in, those that send none, and those that do not store
 abbrev silent : List ℕ
 silent = 0 ∷ 3 ∷ []
+
+abbrev sendless : List ℕ
+sendless = 0 ∷ 1 ∷ 3 ∷ []
 
 abbrev storeless : List ℕ
 storeless = 0 ∷ 1 ∷ 2 ∷ []
@@ -31,6 +35,13 @@ counts-left wired n ws k.Nothing h = refl
 counts-left wired n ws k.Take h = absurd (one-of silent 1 h)
 counts-left wired n ws (k.Send port) h = absurd (one-of silent 2 h)
 counts-left wired n ws (k.Store y) h = refl
+
+pub woken-none : (wired : ℕ → ℕ → Bool) (position ws : List ℕ) (y : Change) → OneOf sendless (tagOf the-type y)
+    → wokenBy wired position ws y ≡ 0
+woken-none wired position ws k.Nothing h = refl
+woken-none wired position ws k.Take h = refl
+woken-none wired position ws (k.Send port) h = absurd (one-of sendless 2 h)
+woken-none wired position ws (k.Store y) h = refl
 
 pub variables-left : (value : ℕ) (xs : List ℕ) (x : Change) → OneOf storeless (tagOf the-type x) → xs ≡ variablesAfter value xs x
 variables-left value xs k.Nothing h = refl

@@ -1,2 +1,3 @@
 pub mod Queues
 pub mod Changes
+pub mod Ready

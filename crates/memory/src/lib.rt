@@ -1,6 +1,7 @@
-// The parts of a run's state: a node's registers, the queues with their senders, the variables; what they hold at the start, and what a
-// turn changes in them.
+// The parts of a run's state: a node's registers, the queues with their senders, which nodes are ready, the variables; what they hold at
+// the start, and what a turn changes in them.
 pub mod queues;
+pub mod ready;
 pub mod senders;
 pub mod variables;
 

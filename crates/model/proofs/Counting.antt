@@ -28,6 +28,12 @@ count-suc test k = by-test (test k)
 pub count-next : (test : ℕ → Bool) (k : ℕ) → countBelow test (k + 1) ≡ countBelow test k + bit (test k)
 count-next test k = rw (add-one k) (count-suc test k)
 
+pub count-passes : (test : ℕ → Bool) (k count : ℕ) → count ≡ countBelow test k → test k ≡ true → count + 1 ≡ countBelow test (k + 1)
+count-passes test k count e p = let one : bit (test k) ≡ 1 = rw p in omega (arith, count-next test k)
+
+pub count-fails : (test : ℕ → Bool) (k count : ℕ) → count ≡ countBelow test k → test k ≡ false → count ≡ countBelow test (k + 1)
+count-fails test k count e p = let none : bit (test k) ≡ 0 = rw p in omega (arith, count-next test k)
+
 pub count-nothing : (test : ℕ → Bool) → countBelow test 0 ≡ 0
 unfolding countBelow
 count-nothing test = refl
@@ -101,10 +107,18 @@ count-one f g n (suc k) l same = by-last (eqb n k) refl (λ h. count-one f g n k
         omega (arith, count-suc f k, count-suc g k, ih (omega (arith, eqb-false n k p)))
 
 -- a test that passes where another does, and where a third does and not the other
-pub count-more : (f g h : ℕ → Bool) (k : ℕ) → ((j : ℕ) → bit (g j) ≡ bit (f j) + bit (h j))
+pub count-more : (f g h : ℕ → Bool) (k : ℕ) → ((j : ℕ) → j < k → bit (g j) ≡ bit (f j) + bit (h j))
     → countBelow g k ≡ countBelow f k + countBelow h k
 count-more f g h zero both = omega (arith, count-nothing f, count-nothing g, count-nothing h)
-count-more f g h (suc k) both = omega (arith, count-suc f k, count-suc g k, count-suc h k, both k, count-more f g h k both)
+count-more f g h (suc k) both =
+    omega (
+      arith,
+      count-suc f k,
+      count-suc g k,
+      count-suc h k,
+      both k (omega arith),
+      count-more f g h k (λ j l. both j (omega arith)),
+    )
 
 -- nobody is chosen exactly if nobody is counted
 pub ready-count : ReadyCountHolds
