@@ -1,5 +1,5 @@
 -- The search for the first ready node, one node after the other; and the choice in a state, by its arrays.
-use Prim.Native.Nat.{ℕ, suc, _+_, _-_, _≤_, _<_}
+use Prim.Native.Nat.{ℕ, zero, suc, _+_, _-_, _≤_, _<_}
 use mathlib.Core.Path.{_≡_, refl, sym, ap, _∙_}
 use mathlib.Core.Bool.{Bool, true, false, cond, not, _&&_}
 use mathlib.Core.List.{List}
@@ -8,9 +8,11 @@ use lib.Dec.{ltb, eqb}
 use lib.ListN.{getD}
 use borrow.Author.Tests.{ltb-true, ltb-false, lt-ltb, le-ltb}
 use Rattle.model.specs.State.{State, idle, positionAt, waitingAt}
-use Rattle.model.specs.Dispatch.{goingRound, firstFrom, chosen, nobody, choiceAt, choose}
+use Rattle.model.specs.Dispatch.{ready, countBelow, readyCount, goingRound, firstFrom, chosen, nobody, choiceAt, choose}
 use Rattle.model.proofs.Choosing.{round-below}
-use Rattle.chooser.specs.Choosing.{readyIn, chooseIn, wrappedTo}
+use Rattle.model.proofs.Counting.{search-fails, search-finds, count-agree}
+use Rattle.memory.specs.Ready.{readyIn, readyCountIn}
+use Rattle.chooser.specs.Choosing.{chooseIn, wrappedTo}
 
 -- the search from a number on: it is found there, or the search goes on
 module _ (test : ℕ → Bool) (i nodes : ℕ) where
@@ -20,9 +22,14 @@ module _ (test : ℕ → Bool) (i nodes : ℕ) where
       let e : nodes - i ≡ suc (nodes - (i + 1)) = omega arith in
       rw e
 
-  search-over : i ≡ nodes → firstFrom test i (nodes - i) ≡ nodes
+  -- where one is found, it is not over
+  search-on : firstFrom test 0 nodes ≡ firstFrom test (i + 1) (nodes - (i + 1)) → i < nodes → firstFrom test 0 nodes < nodes → i + 1 < nodes
   unfolding firstFrom
-  search-over h = let e : nodes - i ≡ 0 = omega arith in rw e h
+  search-on later h some = by-rest (nodes - (i + 1)) refl
+    where
+      by-rest : (d : ℕ) → nodes - (i + 1) ≡ d → i + 1 < nodes
+      by-rest zero e = let over : firstFrom test 0 nodes ≡ i + 1 = later ∙ rw e in absurd (omega arith)
+      by-rest (suc d) e = omega arith
 
 -- going round: the first node, and the next one
 module _ (nodes from : ℕ) (low : from ≤ nodes) where
@@ -52,52 +59,63 @@ module _ (nodes from : ℕ) (low : from ≤ nodes) where
 abbrev isReady : List ℕ → List ℕ → ℕ → ℕ → ℕ → Bool
 isReady position waiting nodes from i = readyIn position waiting (goingRound nodes from i)
 
--- the search before a node is examined: how many were, none of them ready, and which one is next
-pub record Searched (position waiting : List ℕ) (nodes from n examined : ℕ) : Type 0 where
-  pub few : examined ≤ nodes
-  pub next : examined < nodes → n ≡ goingRound nodes from examined
+-- the search where node n is examined: how many nodes were before it, none of them ready; and one is
+pub record Searched (position waiting : List ℕ) (nodes from n before : ℕ) : Type 0 where
+  pub more : before < nodes
+  pub next : n ≡ goingRound nodes from before
   pub unready : firstFrom (isReady position waiting nodes from) 0 nodes
-      ≡ firstFrom (isReady position waiting nodes from) examined (nodes - examined)
+      ≡ firstFrom (isReady position waiting nodes from) before (nodes - before)
+  pub some : firstFrom (isReady position waiting nodes from) 0 nodes < nodes
 
 module _ (position waiting : List ℕ) (nodes from : ℕ) (low : from ≤ nodes) where
   abbrev test : ℕ → Bool
   test = isReady position waiting nodes from
 
-  pub searched-none : Searched position waiting nodes from (wrappedTo nodes from) 0
-  searched-none =
+  -- nobody is ready
+  pub searched-nobody : readyCountIn position waiting nodes ≡ 0 → nobody 0 ≡ chooseIn position waiting nodes from
+  searched-nobody none =
+      rw (le-ltb (firstFrom test 0 nodes) nodes (search-fails (readyIn position waiting) nodes from low none))
+
+  -- somebody is
+  pub searched-first : 0 < readyCountIn position waiting nodes → Searched position waiting nodes from (wrappedTo nodes from) 0
+  searched-first some =
       let all : nodes ≡ nodes - 0 = omega arith in
-      record { few = omega arith; next = λ h. round-first nodes from low; unready = ap (firstFrom test 0) all }
+      let found = search-finds (readyIn position waiting) nodes from low some in
+      record { more = omega arith; next = round-first nodes from low; unready = ap (firstFrom test 0) all; some = found }
 
-  module _ (n examined : ℕ) (s : Searched position waiting nodes from n examined) where
-    -- nobody is ready
-    pub searched-over : examined ≡ nodes → nobody examined ≡ chooseIn position waiting nodes from
-    searched-over h = rw (s .unready ∙ search-over test examined nodes h, le-ltb nodes nodes (omega arith)) (ap nobody h)
+  module _ (n before : ℕ) (s : Searched position waiting nodes from n before) where
+    pub searched-inside : n < nodes
+    searched-inside = rw (s .next) (round-below nodes from before low (s .more))
 
-    -- the next node is one, and is ready or not
-    module _ (more : examined < nodes) where
-      pub searched-inside : n < nodes
-      searched-inside = rw (s .next more) (round-below nodes from examined low more)
+    -- the node is ready, or not
+    pub searched-found : readyIn position waiting n ≡ true → chosen n (before + 1) ≡ chooseIn position waiting nodes from
+    searched-found r =
+        let e : test before ≡ true = rw (s .next) at r in
+        let f : firstFrom test 0 nodes ≡ before = s .unready ∙ search-next test before nodes (s .more) ∙ rw e in
+        rw (f, lt-ltb before nodes (s .more)) (ap (λ (m : ℕ). chosen m (before + 1)) (s .next))
 
-      pub searched-found : readyIn position waiting n ≡ true → chosen n (examined + 1) ≡ chooseIn position waiting nodes from
-      searched-found r =
-          let e : test examined ≡ true = rw (s .next more) at r in
-          let f : firstFrom test 0 nodes ≡ examined = s .unready ∙ search-next test examined nodes more ∙ rw e in
-          rw (f, lt-ltb examined nodes more) (ap (λ (m : ℕ). chosen m (examined + 1)) (s .next more))
+    pub searched-next : readyIn position waiting n ≡ false → Searched position waiting nodes from (wrappedTo nodes (n + 1)) (before + 1)
+    searched-next r =
+        let e : test before ≡ false = rw (s .next) at r in
+        let later : firstFrom test 0 nodes ≡ firstFrom test (before + 1) (nodes - (before + 1)) =
+        s .unready ∙ search-next test before nodes (s .more) ∙ rw e in
+        let more = search-on test before nodes later (s .more) (s .some) in
+        record {
+          more = more;
+          next = ap (λ (m : ℕ). wrappedTo nodes (m + 1)) (s .next) ∙ round-next nodes from low before more;
+          unready = later;
+          some = s .some;
+        }
 
-      pub searched-next : readyIn position waiting n ≡ false → Searched position waiting nodes from (wrappedTo nodes (n + 1)) (examined + 1)
-      searched-next r =
-          let e : test examined ≡ false = rw (s .next more) at r in
-          record {
-            few = omega arith;
-            next = λ h. ap (λ (m : ℕ). wrappedTo nodes (m + 1)) (s .next more) ∙ round-next nodes from low examined h;
-            unready = s .unready ∙ search-next test examined nodes more ∙ rw e;
-          }
+-- the choice and the ready count in a state, by arrays that show its positions and how many messages wait
+module _ (position waiting : List ℕ) (s : State) (p : (n : ℕ) → positionAt s n ≡ getD position n 0)
+    (w : (n : ℕ) → waitingAt s n ≡ getD waiting n 0) where
+  ready-shown : readyIn position waiting ≡ ready s
+  ready-shown = λ k. λ i. not (eqb (sym (p i) k) idle && eqb (sym (w i) k) 0)
 
--- the choice in a state, by arrays that show its positions and how many messages wait
-pub choose-shown :
-    (position waiting : List ℕ) (s : State) → ((n : ℕ) → positionAt s n ≡ getD position n 0) → ((n : ℕ) → waitingAt s n ≡ getD waiting n 0)
-    → (nodes from : ℕ) → chooseIn position waiting nodes from ≡ choose nodes from s
-unfolding choose
-choose-shown position waiting s p w nodes from =
-    ap (λ (t : ℕ → Bool). choiceAt nodes from (firstFrom t 0 nodes))
-    (λ k. λ i. not (eqb (sym (p (goingRound nodes from i)) k) idle && eqb (sym (w (goingRound nodes from i)) k) 0))
+  pub choose-shown : (nodes from : ℕ) → chooseIn position waiting nodes from ≡ choose nodes from s
+  unfolding choose
+  choose-shown nodes from = ap (λ (t : ℕ → Bool). choiceAt nodes from (firstFrom (λ i. t (goingRound nodes from i)) 0 nodes)) ready-shown
+
+  pub count-shown : (nodes : ℕ) → readyCountIn position waiting nodes ≡ readyCount nodes s
+  count-shown nodes = ap (λ (t : ℕ → Bool). countBelow t nodes) ready-shown

@@ -1,19 +1,14 @@
 -- The dispatcher's choice (S-2) by the arrays of a state.
 use Prim.Native.Nat.{ℕ}
-use mathlib.Core.Bool.{Bool, cond, not, _&&_}
+use mathlib.Core.Bool.{cond}
 use mathlib.Core.List.{List}
-use lib.Dec.{ltb, eqb}
-use lib.ListN.{getD}
-use Rattle.model.specs.State.{idle}
+use lib.Dec.{ltb}
 use Rattle.model.specs.Dispatch.{goingRound, firstFrom, Choice as Meant, chosen, nobody, choiceAt}
+use Rattle.memory.specs.Ready.{readyIn}
 use Rattle.chooser.specs.declared.Choice.{Choice}
 use Rattle.chooser.specs.declared.Choice.the-variants as c
 
--- a node is ready, by the positions of the nodes and the numbers of their waiting messages
-abbrev pub readyIn : List ℕ → List ℕ → ℕ → Bool
-readyIn position waiting n = not (eqb (getD position n 0) idle && eqb (getD waiting n 0) 0)
-
--- the first node that is ready by them, going round from a number on
+-- the first node that is ready by the positions of the nodes and the numbers of their waiting messages, going round from a number on
 abbrev pub chooseIn : List ℕ → List ℕ → ℕ → ℕ → Meant
 chooseIn position waiting nodes from = choiceAt nodes from (firstFrom (λ i. readyIn position waiting (goingRound nodes from i)) 0 nodes)
 

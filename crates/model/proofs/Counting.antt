@@ -7,10 +7,10 @@ use native.Mathlib.Numerals.{add-one}
 use lib.Dec.{eqb, ltb}
 use borrow.Author.Tests.{eqb-true, eqb-false, ltb-true, ltb-false}
 use Rattle.model.specs.State.{State}
-use Rattle.model.specs.Dispatch.{ready, countBelow, readyCount, goingRound, Choice, fruitless, choose}
+use Rattle.model.specs.Dispatch.{ready, countBelow, readyCount, goingRound, firstFrom, Choice, fruitless, choose}
 use Rattle.model.specs.Dispatching.{Chooses, found, nobodyFound, ReadyCountHolds}
 use Rattle.model.proofs.Logic.{not-both}
-use Rattle.model.proofs.Choosing.{chooses, round-below, reached}
+use Rattle.model.proofs.Choosing.{first-passes, first-earlier, chooses, round-below, reached}
 
 -- a test as a number
 abbrev pub bit : Bool → ℕ
@@ -119,6 +119,35 @@ count-more f g h (suc k) both =
       both k (omega arith),
       count-more f g h k (λ j l. both j (omega arith)),
     )
+
+-- a search that goes round finds one exactly if one is counted
+module _ (test : ℕ → Bool) (nodes from : ℕ) (low : from ≤ nodes) where
+  abbrev first : ℕ
+  first = firstFrom (λ i. test (goingRound nodes from i)) 0 nodes
+
+  pub search-fails : countBelow test nodes ≡ 0 → nodes ≤ first
+  search-fails none = by-place (ltb first nodes) refl
+    where
+      by-place : (b : Bool) → ltb first nodes ≡ b → nodes ≤ first
+      by-place true p =
+          let l : first < nodes = ltb-true first nodes p in
+          not-both (first-passes (λ i. test (goingRound nodes from i)) 0 nodes (omega arith))
+          (none-counted test nodes none (goingRound nodes from first) (round-below nodes from first low l))
+      by-place false p = ltb-false first nodes p
+
+  pub search-finds : 0 < countBelow test nodes → first < nodes
+  search-finds some = by-place (ltb first nodes) refl
+    where
+      by-place : (b : Bool) → ltb first nodes ≡ b → first < nodes
+      by-place true p = ltb-true first nodes p
+      by-place false p =
+          let l : nodes ≤ first = ltb-false first nodes p in
+          absurd (omega (
+            arith,
+            count-none test nodes
+                (λ n h. let a = reached nodes from n low h in
+                rw (a .arrives) at (first-earlier (λ i. test (goingRound nodes from i)) 0 nodes (a .distance) (omega arith) (omega (arith, a .near)))),
+          ))
 
 -- nobody is chosen exactly if nobody is counted
 pub ready-count : ReadyCountHolds
