@@ -112,8 +112,8 @@ module _ (P : Program) (s : State) (node : NodeNum) where
   pub stop-planned :
       (l : Registers) → registersAt s (node .0) ≡ l → (turned : Turned) (k : ℕ) (x : Meant) → turned ≡ stopped k x → (outcome : Outcome)
       → ((after : State) → turnedBy outcome after ≡ stopped k x)
-      → Plans P s (node .0) turned (plan l c.Nothing outcome)
-  stop-planned l own turned k x e outcome tells =
+      → (ready : ℕ) → Plans P s (node .0) turned (plan l c.Nothing outcome ready)
+  stop-planned l own turned k x e outcome tells ready =
       record {
         comes = record {
           tells = tells _ ∙ sym e;
@@ -129,8 +129,8 @@ module _ (P : Program) (s : State) (node : NodeNum) where
       (l : Registers) (change : Change) (turned : Turned) (x : Meant) (after : State) → turned ≡ completed x after → (event : Event)
       → entryFor (node .0) event ≡ x → carried P s (node .0) l change ≡ after
       → Possible (P .wired (node .0)) (node .0) (waitingAt s) change
-      → Plans P s (node .0) turned (plan l change (o.Made (entryBy node event)))
-  made-planned l change turned x after e event same leads can =
+      → (ready : ℕ) → Plans P s (node .0) turned (plan l change (o.Made (entryBy node event)) ready)
+  made-planned l change turned x after e event same leads can ready =
       record {
         comes = record { tells = rw (same, leads) (sym e); leaves = leads ∙ ap (stateAfter s) (sym e) };
         possible = can;
@@ -144,36 +144,36 @@ module _ (P : Program) (s : State) (node : NodeNum) (monitored : Bool) (k : Inst
   pub forbidden-planned :
       (l : Registers) → registersAt s (node .0) ≡ l → (monitored && not (permitted P (entryFor (node .0) event))) ≡ true → (shown : Event)
       → entryFor (node .0) shown ≡ redacted (entryFor (node .0) event)
-      → Plans P s (node .0) (judged monitored P (executed P s (node .0) (instructionOf k)))
-      (plan l c.Nothing (o.Stopped (st.Forbidden (entryBy node shown))))
-  forbidden-planned l own h shown same =
+      → (ready : ℕ) → Plans P s (node .0) (judged monitored P (executed P s (node .0) (instructionOf k)))
+      (plan l c.Nothing (o.Stopped (st.Forbidden (entryBy node shown))) ready)
+  forbidden-planned l own h shown same ready =
       let n = node .0 in
       let f : (monitored && not (permitted P (entryOf P s n (instructionOf k)))) ≡ true = rw (← left) h in
       let goes = forbidden-goes P s n k (not-permitted monitored _ f) in
       stop-planned P s node l own _ 1 (redacted (entryOf P s n (instructionOf k)))
       (ap (judged monitored P) (executed-done P s n (instructionOf k) goes)
       ∙ judged-forbidden monitored P _ (performed P s n (instructionOf k)) f)
-      (o.Stopped (st.Forbidden (entryBy node shown))) (λ after. ap (stopped 1) (same ∙ ap redacted left))
+      (o.Stopped (st.Forbidden (entryBy node shown))) (λ after. ap (stopped 1) (same ∙ ap redacted left)) ready
 
   pub full-planned :
       (l : Registers) → registersAt s (node .0) ≡ l → blocked P s (node .0) (instructionOf k) ≡ true
-      → Plans P s (node .0) (judged monitored P (executed P s (node .0) (instructionOf k)))
-      (plan l c.Nothing (o.Stopped (st.Full (entryBy node event))))
-  full-planned l own h =
+      → (ready : ℕ) → Plans P s (node .0) (judged monitored P (executed P s (node .0) (instructionOf k)))
+      (plan l c.Nothing (o.Stopped (st.Full (entryBy node event))) ready)
+  full-planned l own h ready =
       let n = node .0 in
       stop-planned P s node l own _ 3 (entryOf P s n (instructionOf k))
       (ap (judged monitored P) (executed-full P s n (instructionOf k) h) ∙ judged-stopped monitored P 3 (entryOf P s n (instructionOf k)))
-      (o.Stopped (st.Full (entryBy node event))) (λ after. ap (stopped 3) left)
+      (o.Stopped (st.Full (entryBy node event))) (λ after. ap (stopped 3) left) ready
 
   pub made-by :
       (monitored && not (permitted P (entryFor (node .0) event))) ≡ false → blocked P s (node .0) (instructionOf k) ≡ false → (x : Effect)
       → Does P s (node .0) (instructionOf k) x
-      → Plans P s (node .0) (judged monitored P (executed P s (node .0) (instructionOf k)))
-      (plan (x .registers) (x .change) (o.Made (entryBy node event)))
-  made-by h goes x does =
+      → (ready : ℕ) → Plans P s (node .0) (judged monitored P (executed P s (node .0) (instructionOf k)))
+      (plan (x .registers) (x .change) (o.Made (entryBy node event)) ready)
+  made-by h goes x does ready =
       let n = node .0 in
       let f : (monitored && not (permitted P (entryOf P s n (instructionOf k)))) ≡ false = rw (← left) h in
       made-planned P s node (x .registers) (x .change) _ (entryOf P s n (instructionOf k)) (performed P s n (instructionOf k))
       (ap (judged monitored P) (executed-done P s n (instructionOf k) goes)
       ∙ judged-made monitored P (entryOf P s n (instructionOf k)) (performed P s n (instructionOf k)) f)
-      event left (does .state) (does .possible goes)
+      event left (does .state) (does .possible goes) ready

@@ -41,33 +41,34 @@ module _ (P : Program) (s : State) (node : NodeNum) (monitored : Bool) (l : Regi
   ruled turned h = rule-judged monitored P s (node .0) ∙ ap (judged monitored P) h
 
   pub unready-planned : l .position ≡ 255 → waitingAt s (node .0) ≡ 0
-      → Plans P s (node .0) (ruleOf monitored P s (node .0)) (plan l c.Nothing (o.Stopped (st.Unready node)))
-  unready-planned p empty =
+      → (ready : ℕ) → Plans P s (node .0) (ruleOf monitored P s (node .0)) (plan l c.Nothing (o.Stopped (st.Unready node)) ready)
+  unready-planned p empty ready =
       stop-planned P s node l own _ 2 (entry (node .0) 0 0 0)
       (ruled _ (turn-unready P s (node .0) (at ∙ p) empty) ∙ judged-stopped monitored P 2 (entry (node .0) 0 0 0))
-      (o.Stopped (st.Unready node)) (λ after. refl)
+      (o.Stopped (st.Unready node)) (λ after. refl) ready
 
   pub begun-planned :
       l .position ≡ 255 → ¬ (waitingAt s (node .0) ≡ 0) → (first : Message) → oldest s (node .0) ≡ first
-      → Plans P s (node .0) (ruleOf monitored P s (node .0))
-      (plan (registers 0 0 (first .value)) c.Take (o.Made (entryBy node (e.Begin (first .sender) (first .value)))))
-  begun-planned p waits first h =
+      → (ready : ℕ) → Plans P s (node .0) (ruleOf monitored P s (node .0))
+      (plan (registers 0 0 (first .value)) c.Take (o.Made (entryBy node (e.Begin (first .sender) (first .value)))) ready)
+  begun-planned p waits first h ready =
       let m = oldest s (node .0) in
       subst (λ (m : Message). Plans P s (node .0) (ruleOf monitored P s (node .0))
-      (plan (registers 0 0 (m .value)) c.Take (o.Made (entryBy node (e.Begin (m .sender) (m .value)))))) h
+      (plan (registers 0 0 (m .value)) c.Take (o.Made (entryBy node (e.Begin (m .sender) (m .value)))) ready)) h
       (made-planned P s node (registers 0 0 (m .value)) c.Take _ (entry (node .0) 1 (m .sender) (m .value)) (begun s (node .0))
       (ruled _ (turn-begun P s (node .0) (at ∙ p) waits) ∙ judged-made monitored P (entry (node .0) 1 (m .sender) (m .value))
       (begun s (node .0)) (never monitored))
-      (e.Begin (m .sender) (m .value)) refl refl (omega (arith, waits)))
+      (e.Begin (m .sender) (m .value)) refl refl (omega (arith, waits)) ready)
 
   pub finished-planned :
       ¬ (l .position ≡ 255) → length (P .handler (node .0)) ≤ l .position
-      → Plans P s (node .0) (ruleOf monitored P s (node .0)) (plan (registers 255 0 0) c.Nothing (o.Made (entryBy node e.Finish)))
-  finished-planned p h =
+      → (ready : ℕ) → Plans P s (node .0) (ruleOf monitored P s (node .0))
+      (plan (registers 255 0 0) c.Nothing (o.Made (entryBy node e.Finish)) ready)
+  finished-planned p h ready =
       made-planned P s node (registers 255 0 0) c.Nothing _ (entry (node .0) 2 0 0) (finished s (node .0))
       (ruled _ (turn-finished P s (node .0) (λ q. p (sym at ∙ q)) (omega (arith, at)))
       ∙ judged-made monitored P (entry (node .0) 2 0 0) (finished s (node .0)) (never monitored))
-      e.Finish refl refl tt
+      e.Finish refl refl tt ready
 
   pub executed-planned :
       ¬ (l .position ≡ 255) → l .position < length (P .handler (node .0)) → (i : Instruction) → i ≡ instructionAt P (node .0) (l .position)
@@ -78,12 +79,15 @@ module _ (P : Program) (s : State) (node : NodeNum) (monitored : Bool) (l : Regi
       (sym (ruled _ (turn-executed P s (node .0) (λ r. q (sym at ∙ r)) (omega (arith, at)))
       ∙ ap (λ (j : Instruction). judged monitored P (executed P s (node .0) j)) (ap (instructionAt P (node .0)) at ∙ sym same))) plans
 
--- where a command was fetched, the next position can be counted
-pub countable :
-    (fetched : Fetched) (i : Code) (position : ℕ) → (fetchedOf fetched ≡ none) ⊎ (position < 4294967295) → fetched ≡ f.Command i
-    → position < 4294967295
-countable fetched i position (inl e) is =
+-- where a command was fetched, it is not the end; and the next position can be counted
+pub not-end : {A : Type 0} (fetched : Fetched) (i : Code) → fetched ≡ f.Command i → fetchedOf fetched ≡ none → A
+not-end fetched i is e =
     let never : some (instructionOf i) ≡ none = sym (ap fetchedOf is) ∙ e in
     let z : _≡_ {A = ℕ} 0 1 = cc in
     absurd (omega arith)
+
+pub countable :
+    (fetched : Fetched) (i : Code) (position : ℕ) → (fetchedOf fetched ≡ none) ⊎ (position < 4294967295) → fetched ≡ f.Command i
+    → position < 4294967295
+countable fetched i position (inl e) is = not-end fetched i is e
 countable fetched i position (inr h) is = h

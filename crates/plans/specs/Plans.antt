@@ -1,17 +1,21 @@
--- A turn as a plan: the node's registers after it, what it changes besides, and its outcome.
+-- A turn as a plan: the node's registers after it, what it changes besides, its outcome, and the ready count after it.
 use Prim.Native.Nat.{ℕ, _≤_}
 use mathlib.Core.Path.{_≡_}
 use mathlib.Core.Bool.{Bool, true, cond}
 use mathlib.Core.List.{List}
-use lib.ListN.{getD}
+use mathlib.Core.Logic.{_⊎_}
+use mathlib.Core.Option.{none}
+use lib.ListN.{getD, set}
+use Rattle.model.specs.Table.{NODE}
 use Rattle.model.specs.Program.{Program}
-use Rattle.model.specs.State.{Message, State, waitingAt}
+use Rattle.model.specs.State.{Message, State, idle, waitingAt}
 use Rattle.model.specs.Turn.{Turned, blocked, executed, oldest}
 use Rattle.model.specs.Permission.{enforced}
 use Rattle.command.specs.declared.instruction.Instruction.{Instruction}
 use Rattle.command.specs.declared.instruction.Fetched.{Fetched}
 use Rattle.command.specs.Instructions.{instructionOf, fetchedOf, commandIn}
 use Rattle.command.specs.declared.numbers.NodeNum.{NodeNum}
+use Rattle.tables.specs.Tables.{countIn, wiredIn}
 use Rattle.tables.specs.Programs.{Handlers, programIn}
 use Rattle.entries.specs.declared.Event.{Event}
 use Rattle.entries.specs.declared.Entry.{Entry}
@@ -21,7 +25,8 @@ use Rattle.memory.specs.declared.Registers.{Registers}
 use Rattle.memory.specs.declared.Change.{Change}
 use Rattle.memory.specs.declared.Change.the-variants as c
 use Rattle.effects.specs.Effects.{Shows}
-use Rattle.memory.specs.Changes.{Possible, registersAt, carried}
+use Rattle.memory.specs.Changes.{Possible, registersAt, countsAfter, carried}
+use Rattle.memory.specs.Ready.{readyCountIn}
 use Rattle.plans.specs.declared.Plan.{Plan}
 
 -- the entry of a node with an event
@@ -29,8 +34,8 @@ abbrev pub entryBy : NodeNum → Event → Entry
 entryBy n event = record { node = n; event = event }
 
 -- the plan with these parts
-abbrev pub plan : Registers → Change → Outcome → Plan
-plan l change outcome = record { registers = l; change = change; outcome = outcome }
+abbrev pub plan : Registers → Change → Outcome → ℕ → Plan
+plan l change outcome ready = record { registers = l; change = change; outcome = outcome; ready = ready }
 
 -- as many messages wait at each node as `ws` says
 abbrev pub Waits : State → List ℕ → Type 0
@@ -64,3 +69,13 @@ PlansTurn t fetched n monitored l first ws variables p =
     (hs : Handlers) (s : State) → Shows s (n .0) l variables → Waits s ws → (1 ≤ waitingAt s (n .0) → oldest s (n .0) ≡ first)
     → fetchedOf fetched ≡ commandIn (hs (n .0)) (l .position)
     → Plans (programIn t hs) s (n .0) (ruleOf monitored (programIn t hs) s (n .0)) p
+
+-- a turn makes its node idle only at the end of its handler, by the node's position before and after it: as it is with handlers of at most
+-- 64 commands, where no command leads to the position that stands for idle
+abbrev pub IdlesAtEnd : Fetched → ℕ → ℕ → Type 0
+IdlesAtEnd fetched before after = after ≡ idle → (before ≡ idle) ⊎ (fetchedOf fetched ≡ none)
+
+-- the plan has the ready count (S-4) of the arrays after it, over the nodes of the tables
+abbrev pub PlansReady : List ℕ → ℕ → List ℕ → List ℕ → Plan → Type 0
+PlansReady t n position ws p =
+    p .ready ≡ readyCountIn (set position n (p .registers .position)) (countsAfter (wiredIn t n) n ws (p .change)) (countIn t NODE)

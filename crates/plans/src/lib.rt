@@ -5,11 +5,13 @@ ghost use mathlib.Core.Option.{none};
 ghost use mathlib.Core.Bool.{not, _&&_};
 ghost use Prim.Native.Nat.{_<_};
 ghost use Rattle.model.specs.Permission.{permitted};
-ghost use Rattle.model.specs.State.{messageFrom};
+ghost use lib.ListN.{getD};
+ghost use Rattle.model.specs.State.{messageFrom, idle};
 ghost use Rattle.command.specs.Instructions.{fetchedOf};
 ghost use Rattle.tables.specs.Programs.{Handlers, programIn};
 ghost use Rattle.entries.specs.Entries.{entryFor};
-ghost use Rattle.plans.specs.Plans.{plan, entryBy, Blocks, PlansCommand, PlansTurn};
+ghost use Rattle.memory.specs.Ready.{Counted};
+ghost use Rattle.plans.specs.Plans.{plan, entryBy, Blocks, PlansCommand, PlansTurn, IdlesAtEnd, PlansReady};
 use command::instruction::Fetched;
 use command::instruction::Instruction;
 use command::numbers::NodeNum;
@@ -25,12 +27,14 @@ use memory::Change;
 use memory::IDLE;
 use memory::Registers;
 use memory::queues::has_full;
+use memory::ready::ready_with;
 
-// A turn: the node's registers after it, its change and its outcome.
+// A turn: the node's registers after it, its change, its outcome, and how many nodes are ready after it (S-4).
 pub struct Plan {
     pub registers: Registers,
     pub change: Change,
     pub outcome: Outcome,
+    pub ready: u32,
 }
 
 // Whether a handler command is a send with a full target.
@@ -56,13 +60,14 @@ fn is_forbidden(tables: &[u32], n: NodeNum, monitored: bool, event: Event) -> bo
 }
 
 // The plan with these parts.
-fn planned(registers: Registers, change: Change, outcome: Outcome) -> Plan
-    ensures { λ r. ⌜ r ≡ plan registers change outcome ⌝ }
+fn planned(registers: Registers, change: Change, outcome: Outcome, ready: u32) -> Plan
+    ensures { λ r. ⌜ r ≡ plan registers change outcome ready ⌝ }
 {
     Plan {
         registers: registers,
         change: change,
         outcome: outcome,
+        ready: ready,
     }
 }
 
@@ -77,7 +82,7 @@ fn make_entry(n: NodeNum, event: Event) -> Entry
 }
 
 // The turn of a node at a handler command: forbidden, a target full, or made. What the command does is worked out first, and stands only
-// in the plan of a turn that is made.
+// in the plan of a turn that is made; and only there are nodes woken.
 fn decide<'a>(
     tables: &[u32],
     n: NodeNum,
@@ -86,10 +91,17 @@ fn decide<'a>(
     registers: Registers,
     waiting: &'a [u8; 32],
     variable: &'a [u32],
+    position: &'a [u32; 32],
+    ready: u32,
 ) -> Plan
     requires { ⌜ registers .position < 4294967295 ⌝ }
+    requires { ⌜ Counted (now tables) (n .0) (now position) (now waiting) ready ⌝ }
+    requires { ⌜ registers .position ≡ getD (now position) (n .0) 0 ⌝ }
+    requires { ⌜ ¬ (registers .position ≡ idle) ⌝ }
     ensures { λ r. ⌜ PlansCommand (now (tables .entry)) n monitored instruction registers (now (waiting .entry))
         (now (variable .entry)) r ⌝ }
+    ensures ready { λ r. ⌜ (¬ (r .registers .position ≡ idle)
+        → PlansReady (now (tables .entry)) (n .0) (now (position .entry)) (now (waiting .entry)) r) ⌝ }
 {
     let event = event_of(tables, instruction, registers.accumulator, variable);
     let effect = effect_of(tables, instruction, registers, variable);
@@ -98,18 +110,20 @@ fn decide<'a>(
         let shown = redact(event);
         let entry = make_entry(n, shown);
         let forbidden = Outcome::Stopped(Stop::Forbidden(entry));
-        return planned(registers, Change::Nothing, forbidden);
+        return planned(registers, Change::Nothing, forbidden, ready);
     }
     let entry = make_entry(n, event);
     if blocks(tables, n, instruction, waiting) {
         let full = Outcome::Stopped(Stop::Full(entry));
-        return planned(registers, Change::Nothing, full);
+        return planned(registers, Change::Nothing, full, ready);
     }
-    planned(effect.registers, change, Outcome::Made(entry))
+    let counted = ready_with(ready, tables, n, change, position, waiting);
+    planned(effect.registers, change, Outcome::Made(entry), counted)
 }
 
 // The turn of a node, by what stands in its handler at its position, its registers, the message in its first slot with its sender, how many
-// messages wait at each node, and the variables.
+// messages wait at each node, the variables, the positions of all nodes and how many are ready. A node that begins was ready and is; one
+// that finishes is no longer, unless a message waits at it.
 pub fn plan_turn<'a>(
     tables: &[u32],
     fetched: Fetched,
@@ -120,17 +134,23 @@ pub fn plan_turn<'a>(
     sender: u8,
     waiting: &'a [u8; 32],
     variable: &'a [u32],
+    position: &'a [u32; 32],
+    ready: u32,
 ) -> Plan
     requires { ⌜ n .0 < 32 ⌝ }
     requires { ⌜ (fetchedOf fetched ≡ none) ⊎ (registers .position < 4294967295) ⌝ }
+    requires { ⌜ Counted (now tables) (n .0) (now position) (now waiting) ready ⌝ }
+    requires { ⌜ registers .position ≡ getD (now position) (n .0) 0 ⌝ }
     ensures { λ r. ⌜ PlansTurn (now (tables .entry)) fetched n monitored registers (messageFrom sender oldest) (now (waiting .entry))
         (now (variable .entry)) r ⌝ }
+    ensures ready { λ r. ⌜ (IdlesAtEnd fetched (registers .position) (r .registers .position)
+        → PlansReady (now (tables .entry)) (n .0) (now (position .entry)) (now (waiting .entry)) r) ⌝ }
 {
     let i = n.0 as usize;
     if registers.position == IDLE {
         if waiting[i] == 0 {
             let unready = Outcome::Stopped(Stop::Unready(n));
-            return planned(registers, Change::Nothing, unready);
+            return planned(registers, Change::Nothing, unready, ready);
         }
         let entry = make_entry(n, Event::Begin(sender, oldest));
         let begun = Registers {
@@ -138,7 +158,7 @@ pub fn plan_turn<'a>(
             accumulator: 0,
             message: oldest,
         };
-        return planned(begun, Change::Take, Outcome::Made(entry));
+        return planned(begun, Change::Take, Outcome::Made(entry), ready);
     }
     match fetched {
         Fetched::Command(instruction) => {
@@ -150,6 +170,8 @@ pub fn plan_turn<'a>(
                 registers,
                 waiting,
                 variable,
+                position,
+                ready,
             )
         }
         Fetched::End => {
@@ -159,7 +181,10 @@ pub fn plan_turn<'a>(
                 accumulator: 0,
                 message: 0,
             };
-            planned(idle, Change::Nothing, Outcome::Made(entry))
+            if waiting[i] == 0 {
+                return planned(idle, Change::Nothing, Outcome::Made(entry), ready - 1);
+            }
+            planned(idle, Change::Nothing, Outcome::Made(entry), ready)
         }
     }
 }

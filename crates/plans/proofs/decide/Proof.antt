@@ -4,7 +4,9 @@ use denote.Ref.{now}
 use borrow.Author.Needs.{needs}
 use Rattle.tables.specs.Programs.{programIn}
 use Rattle.memory.specs.declared.Registers.{Registers}
+use Rattle.memory.proofs.Readying.{ready-few, ready-stays, ready-on}
 use Rattle.effects.proofs.Carrying.{does-at}
+use Rattle.plans.specs.declared.Plan.{Plan}
 use Rattle.plans.proofs.Deciding.{forbidden-planned, full-planned, made-by}
 use Rattle.plans.proofs.decide.Statement.{statement}
 use Rattle.plans.proofs.decide.Tie as tie
@@ -28,15 +30,18 @@ planned-requires : tie.Need-planned-requires
 planned-requires c κs = search needs
 
 returns : tie.Need-returns
-returns c hs s h counts =
+returns c =
     let p6 = c .before .before .before .before .before .before in
-    let p9 = p6 .before .before .before in
-    let a = p9 .args in
-    let left = p6 .event-of .ensures hs s (a .n .0) (ap (λ (o : Registers). o .accumulator) (h .own)) (h .variables) in
-    rw (c .planned .ensures, c .before .make-entry .ensures)
-    (forbidden-planned (programIn (now (a .tables)) hs) s (a .n) (a .monitored) (a .instruction) (p6 .event-of .result) left
-    (a .registers) (h .own) (sym (c .before .before .before .before .is-forbidden .ensures hs)
-    ∙ c .before .before .before .if1 .taken) (c .before .before .redact .result) (c .before .before .redact .ensures (a .n .0)))
+    let z = p6 .before .before .before in
+    let a = z .args in (
+      λ hs s h counts.
+          let left = p6 .event-of .ensures hs s (a .n .0) (ap (λ (o : Registers). o .accumulator) (h .own)) (h .variables) in
+          rw (c .planned .ensures, c .before .make-entry .ensures)
+          (forbidden-planned (programIn (now (a .tables)) hs) s (a .n) (a .monitored) (a .instruction) (p6 .event-of .result) left
+          (a .registers) (h .own) (sym (c .before .before .before .before .is-forbidden .ensures hs)
+          ∙ c .before .before .before .if1 .taken) (c .before .before .redact .result) (c .before .before .redact .ensures (a .n .0)) (a .ready)),
+      λ busy. rw (c .planned .ensures) (ready-stays _ _ _ _ _ (z .pre .1 .0) _ (z .pre .1 .1 .0)),
+    )
 
 make-entry-requires-2 : tie.Need-make-entry-requires-2
 make-entry-requires-2 c κs = search needs
@@ -48,30 +53,42 @@ planned-requires-2 : tie.Need-planned-requires-2
 planned-requires-2 c κs = search needs
 
 returns-2 : tie.Need-returns-2
-returns-2 c hs s h counts =
-    let a = c .before .before .before .before .before .before .before .before .before .before .args in
-    let left = c .before .before .before .before .before .before .before .event-of .ensures hs s (a .n .0)
-    (ap (λ (o : Registers). o .accumulator) (h .own)) (h .variables) in
-    rw (c .planned2 .ensures, c .before .before .before .make-entry2 .ensures)
-    (full-planned (programIn (now (a .tables)) hs) s (a .n) (a .monitored) (a .instruction)
-    (c .before .before .before .before .before .before .before .event-of .result) left (a .registers) (h .own)
-    (sym (c .before .before .blocks2 .ensures hs s counts) ∙ c .before .if2 .taken))
+returns-2 c =
+    let p7 = c .before .before .before .before .before .before .before in
+    let z = p7 .before .before .before in
+    let a = z .args in (
+      λ hs s h counts.
+          let left = p7 .event-of .ensures hs s (a .n .0) (ap (λ (o : Registers). o .accumulator) (h .own)) (h .variables) in
+          rw (c .planned2 .ensures, c .before .before .before .make-entry2 .ensures)
+          (full-planned (programIn (now (a .tables)) hs) s (a .n) (a .monitored) (a .instruction) (p7 .event-of .result) left (a .registers)
+          (h .own) (sym (c .before .before .blocks2 .ensures hs s counts) ∙ c .before .if2 .taken) (a .ready)),
+      λ busy. rw (c .planned2 .ensures) (ready-stays _ _ _ _ _ (z .pre .1 .0) _ (z .pre .1 .1 .0)),
+    )
+
+ready-with-requires : tie.Need-ready-with-requires
+ready-with-requires c κs = ready-few _ _ _ _ _ (c .before .before .before .before .before .before .before .before .before .pre .1 .0)
 
 planned-requires-3 : tie.Need-planned-requires-3
 planned-requires-3 c κs = search needs
 
 returns-3 : tie.Need-returns-3
-returns-3 c hs s h counts =
-    let p6 = c .before .before .before .before .before .before in
+returns-3 c =
+    let q = c .before in
+    let p6 = q .before .before .before .before .before .before in
     let p7 = p6 .before in
-    let p10 = p7 .before .before .before in
-    let a = p10 .args in
-    let left = p7 .event-of .ensures hs s (a .n .0) (ap (λ (o : Registers). o .accumulator) (h .own)) (h .variables) in
-    rw (c .planned3 .ensures, c .before .before .before .make-entry2 .ensures)
-    (made-by (programIn (now (a .tables)) hs) s (a .n) (a .monitored) (a .instruction) (p7 .event-of .result) left
-    (sym (c .before .before .before .before .before .is-forbidden .ensures hs) ∙ c .before .before .before .before .if1 .left)
-    (sym (c .before .before .blocks2 .ensures hs s counts) ∙ c .before .if2 .left) (p6 .effect-of .result)
-    (does-at _ _ _ _ _ (p6 .effect-of .ensures) hs s (a .n .0) h))
+    let z = p7 .before .before .before in
+    let a = z .args in (
+      λ hs s h counts.
+          let left = p7 .event-of .ensures hs s (a .n .0) (ap (λ (o : Registers). o .accumulator) (h .own)) (h .variables) in
+          rw (c .planned3 .ensures, q .before .before .before .make-entry2 .ensures)
+          (made-by (programIn (now (a .tables)) hs) s (a .n) (a .monitored) (a .instruction) (p7 .event-of .result) left
+          (sym (q .before .before .before .before .before .is-forbidden .ensures hs) ∙ q .before .before .before .before .if1 .left)
+          (sym (q .before .before .blocks2 .ensures hs s counts) ∙ q .before .if2 .left) (p6 .effect-of .result)
+          (does-at _ _ _ _ _ (p6 .effect-of .ensures) hs s (a .n .0) h) (q .ready-with .result)),
+      λ goes. rw (c .planned3 .ensures, q .ready-with .ensures)
+          (ready-on _ _ _ _ _ (z .pre .1 .0) _ (λ e. z .pre .1 .1 .1 (z .pre .1 .1 .0 ∙ e))
+          (λ e. goes (ap (λ (r : Plan). r .registers .position) (c .planned3 .ensures) ∙ e)) (p6 .effect-of .result .change)),
+    )
 
 pub decide-spec : {M : Type 1} → statement M
 decide-spec =
@@ -88,5 +105,6 @@ decide-spec =
     blocks-requires
     planned-requires-2
     returns-2
+    ready-with-requires
     planned-requires-3
     returns-3)
