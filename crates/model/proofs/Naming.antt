@@ -8,7 +8,7 @@ use lib.Dec.{ltb, eqb}
 use lib.ListN.{length, getD, length-append}
 use borrow.Author.Tests.{leb-false, ltb-true, ltb-false, eqb-true, eqb-false, eq-eqb, ne-eqb}
 use Rattle.model.specs.Table.{FLOW, NODE, WIRE, BODY, START, TURN, node, operandsIn, operandsOf, kindAt, groupOf}
-use Rattle.model.specs.Command.{Operands, binary, Command, is}
+use Rattle.model.specs.Command.{Operands, binary, Command, is, ternary}
 use Rattle.model.specs.Declared.{only, countOf, isSame, occurs, flowOf, isHandler, openBody, belongs, bodyLength, instruction}
 use Rattle.model.specs.Declared.{handlerOf, startsOf, startedIn, turnsOf}
 use Rattle.model.specs.Refusal.{countsOf, namesNothing, mustDiffer}
@@ -96,6 +96,23 @@ names-node past c v e =
     let h : namesNothing (countsOf past) (c .operands .first) (kindAt (c .byte) 0) (c .operands .first) ≡ false = none-of 2 _
     (passes past c (v .2) .declares) in
     leb-false (countOf NODE past) (c .operands .first) (rw e at h)
+
+-- every wire ends at a declared node
+pub wires-inside : (past : List Command) → Valid past → (n p m : ℕ) → occurs WIRE (ternary n p m) past ≡ true → m < countOf NODE past
+unfolding occurs operandsOf operandsIn
+wires-inside [] v n p m e = true-false (sym e)
+wires-inside (c ∷ past) v n p m e = by-command (isSame WIRE (ternary n p m) c) refl e (wires-inside past (v .0) n p m)
+  where
+    by-command : (t : Bool) → isSame WIRE (ternary n p m) c ≡ t → (t || occurs WIRE (ternary n p m) past) ≡ true
+        → (occurs WIRE (ternary n p m) past ≡ true → m < countOf NODE past) → m < countOf NODE (c ∷ past)
+    by-command true same q ih =
+        let wire : c .byte ≡ WIRE = same-byte WIRE (ternary n p m) c same in
+        let ends : c .operands .third ≡ m = ap (λ (x : Operands). x .third) (same-operands WIRE (ternary n p m) c same) in
+        let h : namesNothing (countsOf past) (c .operands .first) (kindAt (c .byte) 2) (c .operands .third) ≡ false = none-of 4 _
+        (passes past c (v .2) .declares) in
+        let g : c .operands .third < countOf NODE past = leb-false (countOf NODE past) (c .operands .third) (rw wire at h) in
+        omega (arith, count-grows NODE c past)
+    by-command false same q ih = omega (arith, ih q, count-grows NODE c past)
 
 -- the node of every turn is declared
 pub turns-inside : (past : List Command) → Valid past → (i : ℕ) → i < length (turnsOf past) → getD (turnsOf past) i 0 < countOf NODE past

@@ -17,7 +17,7 @@ use Rattle.model.specs.Program.{Program, programOf}
 use Rattle.model.specs.State.{State, idle, positionAt, initialState}
 use Rattle.model.specs.Turn.{performed, instructionAt, turn}
 use Rattle.model.specs.Permission.{monitoredTurn}
-use Rattle.model.specs.Valid.{ValidJob}
+use Rattle.model.specs.Valid.{ValidJob, AtPlace, Placed}
 use Rattle.model.proofs.Logic.{and-right, and-rest}
 use Rattle.model.proofs.Lists.{only-each, set-each, replicate-each}
 use Rattle.model.proofs.Ways.{Keeps, isJump, performed-by, turn-by, monitored-by}
@@ -62,13 +62,6 @@ jumps-inside all (c ∷ past) e n =
         let node : openBody past ≡ n = eqb-true (openBody past) n (and-right (isHandler c) _ p) in
         ltb-false (bodyLength all n) (c .operands .first) (rw node at near)
 
--- a node is idle or at a place of its handler, the end included
-abbrev pub AtPlace : Program → ℕ → ℕ → Type 0
-AtPlace P n p = (p ≡ idle) ⊎ (p ≤ length (P .handler n))
-
-abbrev pub Placed : Program → State → Type 0
-Placed P s = (n : ℕ) → AtPlace P n (positionAt s n)
-
 -- a handler command that stays inside
 module _ (P : Program) (s : State) (n : ℕ) (i : Instruction) (placed : Placed P s) (inside : positionAt s n < length (P .handler n))
     (stays : StaysInside (length (P .handler n)) i) where
@@ -103,3 +96,29 @@ initial-placed P = replicate-each (AtPlace P) 0 maxNodes idle (λ m. inl refl) (
 pub program-jumps : (past : List Command) → ValidJob past → JumpsInside (programOf past)
 unfolding programOf
 program-jumps past v n i h = rw (length-handler past n) (jumps-inside past past (v .jumps) n i h)
+
+-- a turn makes its node idle only at the end of its handler, where the handlers are short: no command leads to the position of an idle node
+abbrev pub Idles : Program → State → ℕ → State → Type 0
+Idles P s n s′ = positionAt s′ n ≡ idle → (positionAt s n ≡ idle) ⊎ (length (P .handler n) ≤ positionAt s n)
+
+module _ (P : Program) (s : State) (n : ℕ) (inside : JumpsInside P) (short : length (P .handler n) < idle) where
+  module _ (here : positionAt s n < length (P .handler n)) where
+    -- a position inside is not that of an idle node
+    busy : (p : ℕ) → p ≤ length (P .handler n) → ¬ (getD (set (s .position) n p) n 0 ≡ idle)
+    busy p h = set-each (λ i q. i ≡ n → ¬ (q ≡ idle)) 0 (s .position) n p (λ e q. omega arith)
+        (λ i e q. let same : positionAt s n ≡ idle = rw e at q in omega arith) n refl
+
+    on-busy : ¬ (getD (set (s .position) n (positionAt s n + 1)) n 0 ≡ idle)
+    on-busy = busy (positionAt s n + 1) (omega arith)
+
+    performed-busy : (i : Instruction) → StaysInside (length (P .handler n)) i → ¬ (positionAt (performed P s n i) n ≡ idle)
+    performed-busy i stays = performed-by (λ s′. ¬ (positionAt s′ n ≡ idle)) P s n i (λ a. on-busy) (λ x. on-busy) on-busy
+        (λ j. busy (i .operand) (stays j)) (λ e. on-busy)
+
+  pub turn-idles : Keeps (Idles P s n) (turn P s n)
+  turn-idles =
+      turn-by (Keeps (Idles P s n)) P s n (λ p w. tt) (λ p w e. inl p) (λ l b. tt)
+      (λ l b e. absurd (performed-busy l (instructionAt P n (positionAt s n)) (inside n (positionAt s n) l) e)) (λ l e. inr l)
+
+  pub monitored-idles : Keeps (Idles P s n) (monitoredTurn P s n)
+  monitored-idles = monitored-by (Keeps (Idles P s n)) P s n turn-idles (λ e. tt)

@@ -4,6 +4,7 @@ use Prim.Native.Nat.{ℕ, _+_, _^_, _≤_, _<_}
 use mathlib.Core.Path.{_≡_}
 use mathlib.Core.Bool.{true, false, _&&_}
 use mathlib.Core.List.{List, [], _∷_}
+use mathlib.Core.Logic.{_⊎_}
 use mathlib.Core.Option.{none}
 use lib.Dec.{leb}
 use lib.ListN.{length, getD}
@@ -14,7 +15,7 @@ use Rattle.model.specs.Table.{maxWaiting}
 use Rattle.model.specs.Command.{Operands, Command}
 use Rattle.model.specs.Declared.{Instruction, countOf, bodyLength}
 use Rattle.model.specs.Program.{Program}
-use Rattle.model.specs.State.{State, accumulatorAt, messageAt, waitingAt, variableAt, EachWaiting}
+use Rattle.model.specs.State.{State, idle, positionAt, accumulatorAt, messageAt, waitingAt, variableAt, EachWaiting}
 use Rattle.model.specs.Turn.{instructionAt}
 use Rattle.model.specs.Refusal.{groupFalls, exceedsCount, undeclared, outOfReach, repeated, emptySpan, violation}
 use Rattle.model.specs.Refusal.{farJump}
@@ -90,6 +91,13 @@ pub record Limits (past : List Command) : Type 0 where
 -- at most 16 messages wait at a node
 abbrev pub Bounded : State → Type 0
 Bounded s = (n : ℕ) → waitingAt s n ≤ maxWaiting
+
+-- a node is idle or at a place of its handler, the end included
+abbrev pub AtPlace : Program → ℕ → ℕ → Type 0
+AtPlace P n p = (p ≡ idle) ⊎ (p ≤ length (P .handler n))
+
+abbrev pub Placed : Program → State → Type 0
+Placed P s = (n : ℕ) → AtPlace P n (positionAt s n)
 
 -- there are 32 nodes and 64 variables
 pub record Sized (s : State) : Type 0 where
