@@ -1,17 +1,18 @@
 -- The search for the first ready node, one node after the other; and the choice in a state, by its arrays.
 use Prim.Native.Nat.{ℕ, zero, suc, _+_, _-_, _≤_, _<_}
 use mathlib.Core.Path.{_≡_, refl, sym, ap, _∙_}
-use mathlib.Core.Bool.{Bool, true, false, cond, not, _&&_}
+use mathlib.Core.Bool.{Bool, true, false, cond}
 use mathlib.Core.List.{List}
 use native.Mathlib.Omega.{arith}
-use lib.Dec.{ltb, eqb}
+use lib.Dec.{ltb}
 use lib.ListN.{getD}
 use borrow.Author.Tests.{ltb-true, ltb-false, lt-ltb, le-ltb}
-use Rattle.model.specs.State.{State, idle, positionAt, waitingAt}
-use Rattle.model.specs.Dispatch.{ready, countBelow, readyCount, goingRound, firstFrom, chosen, nobody, choiceAt, choose}
+use Rattle.model.specs.State.{State, positionAt, waitingAt}
+use Rattle.model.specs.Dispatch.{goingRound, firstFrom, chosen, nobody, choiceAt, choose}
 use Rattle.model.proofs.Choosing.{round-below}
-use Rattle.model.proofs.Counting.{search-fails, search-finds, count-agree}
+use Rattle.model.proofs.Counting.{search-fails, search-finds}
 use Rattle.memory.specs.Ready.{readyIn, readyCountIn}
+use Rattle.memory.proofs.Readying.{ready-shown}
 use Rattle.chooser.specs.Choosing.{chooseIn, wrappedTo}
 
 -- the search from a number on: it is found there, or the search goes on
@@ -107,15 +108,10 @@ module _ (position waiting : List ℕ) (nodes from : ℕ) (low : from ≤ nodes)
           some = s .some;
         }
 
--- the choice and the ready count in a state, by arrays that show its positions and how many messages wait
-module _ (position waiting : List ℕ) (s : State) (p : (n : ℕ) → positionAt s n ≡ getD position n 0)
-    (w : (n : ℕ) → waitingAt s n ≡ getD waiting n 0) where
-  ready-shown : readyIn position waiting ≡ ready s
-  ready-shown = λ k. λ i. not (eqb (sym (p i) k) idle && eqb (sym (w i) k) 0)
-
-  pub choose-shown : (nodes from : ℕ) → chooseIn position waiting nodes from ≡ choose nodes from s
-  unfolding choose
-  choose-shown nodes from = ap (λ (t : ℕ → Bool). choiceAt nodes from (firstFrom (λ i. t (goingRound nodes from i)) 0 nodes)) ready-shown
-
-  pub count-shown : (nodes : ℕ) → readyCountIn position waiting nodes ≡ readyCount nodes s
-  count-shown nodes = ap (λ (t : ℕ → Bool). countBelow t nodes) ready-shown
+-- the choice in a state, by arrays that show its positions and how many messages wait
+pub choose-shown :
+    (position waiting : List ℕ) (s : State) → ((n : ℕ) → positionAt s n ≡ getD position n 0) → ((n : ℕ) → waitingAt s n ≡ getD waiting n 0)
+    → (nodes from : ℕ) → chooseIn position waiting nodes from ≡ choose nodes from s
+unfolding choose
+choose-shown position waiting s p w nodes from =
+    ap (λ (t : ℕ → Bool). choiceAt nodes from (firstFrom (λ i. t (goingRound nodes from i)) 0 nodes)) (ready-shown position waiting s p w)

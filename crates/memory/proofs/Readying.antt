@@ -10,8 +10,8 @@ use lib.ListN.{length, getD, set, length-set}
 use lib.Seq.{getD-set-same, getD-set-other, set-getD}
 use borrow.Author.Tests.{eqb-true, eqb-false, eq-eqb, ne-eqb}
 use Rattle.model.specs.Table.{NODE, maxNodes}
-use Rattle.model.specs.State.{idle}
-use Rattle.model.specs.Dispatch.{countBelow}
+use Rattle.model.specs.State.{State, idle, positionAt, waitingAt}
+use Rattle.model.specs.Dispatch.{ready as isReady, countBelow, readyCount}
 use Rattle.model.proofs.Logic.{true-false}
 use Rattle.model.proofs.Counting.{bit, count-agree, count-nothing, count-passes, count-fails, count-one, count-more, count-beyond, count-most}
 use Rattle.tables.specs.Bits.{bitOf}
@@ -23,6 +23,19 @@ use Rattle.memory.specs.Changes.{countsAfter}
 use Rattle.memory.specs.Ready.{readyIn, readyCountIn, wokenIn, wokenBy, Among, Counted}
 use Rattle.memory.proofs.Sending.{Ahead, ahead-first, ahead-here, ahead-next, ahead-none, ahead-inside}
 use Rattle.memory.proofs.Sending.{counted-later}
+
+-- which nodes are ready in a state, and how many, by arrays that show its positions and how many messages wait
+module _ (position waiting : List ℕ) (s : State) (p : (n : ℕ) → positionAt s n ≡ getD position n 0)
+    (w : (n : ℕ) → waitingAt s n ≡ getD waiting n 0) where
+  pub ready-shown : readyIn position waiting ≡ isReady s
+  ready-shown = λ k. λ n. not (eqb (sym (p n) k) idle && eqb (sym (w n) k) 0)
+
+  pub count-shown : (nodes : ℕ) → readyCountIn position waiting nodes ≡ readyCount nodes s
+  count-shown nodes = ap (λ (test : ℕ → Bool). countBelow test nodes) ready-shown
+
+-- a node of the tables is below 32
+pub among-below : {t : List ℕ} {n : ℕ} → Among t n → n < 32
+among-below a = omega (arith, a .inside, a .few)
 
 -- a target that is not ready, where the targets are the bits of a number
 abbrev pub asleep : ℕ → List ℕ → List ℕ → ℕ → Bool
@@ -256,4 +269,3 @@ module _ (t : List ℕ) (n : ℕ) (position waiting : List ℕ) (ready : ℕ) (c
           same-others (set waiting n (getD waiting n 0 - 1)) (λ m other. getD-set-other waiting n m (getD waiting n 0 - 1) 0 other),
         )
     ready-on (c′.Send port) = ready-sent (wiredIn t n port) (c .among .wires port)
-

@@ -40,6 +40,7 @@ fn choice_of<'a>(
     from: u32,
     position: &'a [u32; 32],
     waiting: &'a [u8; 32],
+    ready: u32,
 ) -> Choice
     requires { ⌜ countIn (now tables) NODE ≤ 32 ⌝ }
     requires { ⌜ from ≤ countIn (now tables) NODE ⌝ }
@@ -48,7 +49,15 @@ fn choice_of<'a>(
 {
     match schedule {
         Schedule::Written => Choice::Chosen(turn_at(job, tables, k), 0),
-        Schedule::Dispatched(_) => choose(position, waiting, count_of(tables, bytes::NODE), from),
+        Schedule::Dispatched(_) => {
+            choose(
+                position,
+                waiting,
+                ready,
+                count_of(tables, bytes::NODE),
+                from,
+            )
+        }
     }
 }
 
@@ -78,7 +87,17 @@ pub fn run_turns(
     let mut at: usize = 0;
     let mut k: u32 = 0;
     while k < last {
-        let choice = choice_of(job, tables, schedule, k, from, &s.position, &s.waiting);
+        let ready = s.ready;
+        let choice = choice_of(
+            job,
+            tables,
+            schedule,
+            k,
+            from,
+            &s.position,
+            &s.waiting,
+            ready,
+        );
         match choice {
             Choice::Nobody(count) => {
                 examined += count;

@@ -1,4 +1,5 @@
 -- `engine::start` meets its contract.
+use mathlib.Core.Path.{ap, _∙_}
 use borrow.Author.Needs.{needs}
 use Rattle.engine.proofs.Starting.{started}
 use Rattle.engine.proofs.start.Statement.{statement}
@@ -7,13 +8,22 @@ use Rattle.engine.proofs.start.Tie as tie
 fill-queues-requires : tie.Need-fill-queues-requires
 fill-queues-requires c κs = search needs
 
+count-of-requires : tie.Need-count-of-requires
+count-of-requires c κs = search needs
+
+count-ready-requires : tie.Need-count-ready-requires
+count-ready-requires c κs = search needs
+
 fill-variables-requires : tie.Need-fill-variables-requires
 fill-variables-requires c κs = search needs
 
 returns : tie.Need-returns
 returns c =
-    let q = c .before .before .fill-queues .ensures in
-    started _ _ _ _ (q .1 .1) (q .0) (q .1 .0) (c .fill-variables .ensures)
+    let p = c .before .before in
+    let nodes = p .before .before .before .before .count-of .ensures in
+    let q = p .before .before .before .before .before .fill-queues .ensures in
+    started _ _ _ _ _ (q .1 .1) (q .0) (q .1 .0) (c .fill-variables .ensures) (rw nodes at (p .count-ready .ensures))
 
 pub start-spec : {M : Type 1} → statement M
-start-spec = tie.close (tie.spec fill-queues-requires fill-variables-requires returns)
+start-spec =
+    tie.close (tie.spec fill-queues-requires count-of-requires count-ready-requires fill-variables-requires returns)
