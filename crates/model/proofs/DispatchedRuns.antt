@@ -173,3 +173,23 @@ module _ (rule : State → ℕ → Turned) (nodes budget : ℕ) (start : State) 
           halts = λ budget from s i c k e t h. absurd (proper s _ k e t .1 h);
           goes = λ budget from s i c e s′ t d ih. ih;
         })
+
+    -- and every chosen node has made its turn
+    pub nobody-stopped : dispatched rule nodes budget start .run .stop ≡ 4
+        → length (chosenIn (dispatched rule nodes budget start .choices)) ≡ length (dispatched rule nodes budget start .run .steps)
+    unfolding chosenIn
+    nobody-stopped =
+        by-ways (λ budget from s d. d .run .stop ≡ 4 → length (chosenIn (d .choices)) ≡ length (d .run .steps))
+        (record {
+          made = λ from s h. refl;
+          fails = λ budget from s c h. refl;
+          halts = λ budget from s i c k e t h. absurd (proper s _ k e t .1 h);
+          goes = λ budget from s i c e s′ t d ih h. ap suc (ih h);
+        })
+
+-- at most all choices are of a node
+pub chosen-few : (cs : List Choice) → length (chosenIn cs) ≤ length cs
+unfolding chosenIn
+chosen-few [] = zero-le
+chosen-few (chosen n k ∷ cs) = omega (arith, chosen-few cs)
+chosen-few (nobody k ∷ cs) = omega (arith, chosen-few cs)

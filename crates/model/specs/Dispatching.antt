@@ -115,8 +115,9 @@ pub record Dispatches (rule : State → ℕ → Turned) (nodes budget : ℕ) (st
       ↔ ((length (d .run .steps) < budget) × ((n : ℕ) → n < nodes → ready (d .run .final) n ≡ false))
   -- so the ready count tells stop 4 (S-4)
   pub noneCounted : (d .run .stop ≡ 4) ↔ ((length (d .run .steps) < budget) × (readyCount nodes (d .run .final) ≡ 0))
-  -- the attempted entry is all 0 then
+  -- the attempted entry is all 0 then, and every chosen node has made its turn
   pub nobodyAttempts : d .run .stop ≡ 4 → d .run .attempted ≡ entry 0 0 0 0
+  pub nobodyStopped : d .run .stop ≡ 4 → length (chosenIn (d .choices)) ≡ length (d .run .steps)
   pub examines : Examined nodes budget (d .choices)
   pub isFair : Fair nodes (d .run)
 

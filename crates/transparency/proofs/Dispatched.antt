@@ -18,6 +18,7 @@ use Rattle.model.specs.Dispatch.{Dispatched}
 use Rattle.model.specs.DispatchResult.{Handed, handed, dispatchMonitored, dispatchUnmonitored}
 use Rattle.model.specs.Dispatching.{writtenOut, Dispatches}
 use Rattle.model.specs.DispatchConclusion.{DispatchRefuses, refusedWith}
+use Rattle.model.proofs.DispatchedRuns.{chosen-few}
 use Rattle.model.proofs.Dispatching.{dispatch-holds}
 use Rattle.model.proofs.DispatchConclusion.{dispatch-concludes}
 use Rattle.run.specs.Answers.{toldIn, Call, call, Gives}
@@ -99,7 +100,16 @@ module _ (P : Program) (d : Dispatched) (c : DispatchCall) (g : Hands (handed P 
     hands = g;
     stops = λ x e. subst Stops (ap stopIn (sym (g .gives .told) ∙ e)) stop;
     turns = λ x e. let told : length (d .run .steps) ≡ x .turns = ap turnsIn (sym (g .gives .told) ∙ e) in omega arith;
-    few = omega (arith, mul-le-mul-left (P .nodes) (goes .examines .number));
+    few = omega (
+      arith,
+      goes .examines .total,
+      mul-le-mul-left (P .nodes) (chosen-few (d .choices)),
+      mul-le-mul-left (P .nodes) (goes .examines .number),
+    );
+    fruitless = λ x e four.
+        let told = sym (g .gives .told) ∙ e in
+        let all = goes .nobodyStopped (ap stopIn told ∙ four) ∙ ap turnsIn told in
+        omega (arith, rw all at (goes .examines .total));
     fair = λ x e k node h is l.
         let turns : length (d .run .steps) ≡ x .turns = ap turnsIn (sym (g .gives .told) ∙ e) in
         let s = goes .isFair k node h is (omega arith) in

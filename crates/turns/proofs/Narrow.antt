@@ -14,9 +14,8 @@ use Rattle.model.specs.Declared.{Instruction}
 use Rattle.model.specs.Program.{Program, programOf}
 use Rattle.model.specs.State.{Message, State, positionAt, EachWaiting, initialState}
 use Rattle.model.specs.Turn.{Entry, entryOf, instructionAt, turn}
-use Rattle.model.specs.Valid.{Valid, Allowed, NamedInstruction}
+use Rattle.model.specs.Valid.{Valid, Allowed, NamedInstruction, Placed}
 use Rattle.model.proofs.Growth.{length-handler}
-use Rattle.model.proofs.Positions.{Placed}
 use Rattle.model.proofs.Naming.{handler-named}
 use Rattle.model.proofs.Valid.{limits}
 use Rattle.model.proofs.Ways.{Makes, left-by, turn-by, monitored-by}

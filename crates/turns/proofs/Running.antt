@@ -12,18 +12,20 @@ use Rattle.model.specs.Program.{Program, programOf}
 use Rattle.model.specs.State.{State as Meant, positionAt}
 use Rattle.model.specs.Turn.{Entry as Numbered, entry, Turned as Rule, completed, stopped}
 use Rattle.model.specs.Run.{Run, Step, entriesOf}
-use Rattle.model.specs.Dispatch.{Choice as Meaning, chosen, nobody, choose, Dispatched, examinedIn}
+use Rattle.model.specs.Dispatch.{Choice as Meaning, readyCount, chosen, nobody, choose, Dispatched, examinedIn}
 use Rattle.model.specs.Output.{answerIn, entryBytes, traceBytes, traceIn, snapshotBytes}
 use Rattle.model.specs.Result.{written}
-use Rattle.model.specs.Valid.{ValidJob}
+use Rattle.model.specs.Valid.{ValidJob, Placed}
 use Rattle.model.proofs.Bounds.{length-trace}
-use Rattle.model.proofs.Positions.{Placed, initial-placed, turn-placed, monitored-placed, program-jumps}
+use Rattle.model.proofs.Positions.{initial-placed, turn-placed, monitored-placed, program-jumps}
 use Rattle.model.proofs.Runs.{trace-snoc, entries-snoc}
 use Rattle.model.proofs.Growth.{length-turns}
 use Rattle.model.proofs.Valid.{job-valid, limits}
 use Rattle.model.proofs.Ways.{Keeps}
 use Rattle.tables.specs.Tables.{countIn}
 use Rattle.memory.specs.Queues.{BoundedCounts}
+use Rattle.memory.specs.Ready.{readyCountIn, Among}
+use Rattle.memory.proofs.Readying.{count-shown}
 use Rattle.command.specs.declared.instruction.Fetched.{Fetched}
 use Rattle.command.specs.Instructions.{fetchedOf, commandIn}
 use Rattle.handlers.specs.Loading.{handlersIn}
@@ -41,8 +43,8 @@ use Rattle.entries.specs.declared.Stop.{Stop}
 use Rattle.entries.specs.Entries.{numbersOf, stopNumber, attemptedBy, turnedBy, stateAfter, Comes, ruleOf}
 use Rattle.engine.specs.declared.State.{State}
 use Rattle.engine.specs.declared.Turned.{Turned}
-use Rattle.engine.specs.Engine.{view, CountsWaiting, Starts, Turns}
-use Rattle.engine.specs.Accepted.{EngineMeets}
+use Rattle.engine.specs.Engine.{view, CountsWaiting, CountsReady, Starts, Turns}
+use Rattle.engine.specs.Accepted.{Led, started, turned as led-turned, EngineMeets}
 use Rattle.engine.proofs.Accepted.{engine-holds}
 use Rattle.writing.specs.Writing.{Writes}
 use Rattle.writing.proofs.Placing.{writes-on, writes-nothing, placed-front}
@@ -58,7 +60,8 @@ use Rattle.turns.proofs.Given.{turnsFor, choiceFor, runBy, ahead, overA
 use Rattle.turns.proofs.Given.{ahead-completed, examined-snoc, wholeRun, whole-run, Within, choice-within}
 
 -- the run after k completed turns, whose entries stand at the front of the trace; the next choice goes round from `from` on
-pub record Underway (schedule : Schedule) (monitored : Bool) (past : List Command) (before : List ℕ) (s : State) (trace : List ℕ)
+pub record Underway (schedule : Schedule) (monitored : Bool) (job t w : List ℕ) (past : List Command) (before : List ℕ) (s : State)
+    (trace : List ℕ)
     (examined from at k : ℕ) : Type 0 where
   pub done : List Step
   pub choices : List Meaning
@@ -73,6 +76,7 @@ pub record Underway (schedule : Schedule) (monitored : Bool) (past : List Comman
   pub size : length trace ≡ length before
   pub bounded : BoundedCounts (s .waiting)
   pub counts : CountsWaiting s
+  pub led : Led job t w (programOf past .nodes) s
   pub placed : Placed (programOf past) (view s)
   pub senders : NarrowSenders (view s)
 
@@ -86,13 +90,13 @@ pub record Over (d : Dispatched) (before after : List ℕ) (s : State) (x : Endi
   pub positions : NarrowPositions (view s)
 
 -- what the loop keeps: while it goes on, the run after k turns; when it is left, the run that is over
-pub record Reached (schedule : Schedule) (monitored : Bool) (past : List Command) (before : List ℕ) (trace : List ℕ) (s : State) (halt :
-    Halt)
+pub record Reached (schedule : Schedule) (monitored : Bool) (job t w : List ℕ) (past : List Command) (before : List ℕ) (trace : List ℕ)
+    (s : State) (halt : Halt)
     (last examined from at k : ℕ) : Type 0 where
   pub size : length trace ≡ length before
   pub all : k < last → last ≡ turnsFor schedule past
   pub never : k < last → halt ≡ v.RanOut
-  pub going : k < last → Underway schedule monitored past before s trace examined from at k
+  pub going : k < last → Underway schedule monitored job t w past before s trace examined from at k
   pub ended : last ≤ k → (x : Ending) → answerOf x ≡ answerAt k halt
       → Over (wholeRun schedule monitored past) before trace s x examined
 
@@ -144,7 +148,7 @@ module _ (schedule : Schedule) (monitored : Bool) (job t w : List ℕ) (ready : 
       by-way (g.Dispatched budget) e = budget-few schedule budget e good .1
 
   -- before the loop
-  pub underway-none : (s : State) (before : List ℕ) → Starts t s → Underway schedule monitored past before s before 0 0 0 0
+  pub underway-none : (s : State) (before : List ℕ) → Starts t s → Underway schedule monitored job t w past before s before 0 0 0 0
   unfolding traceBytes examinedIn
   underway-none s before h =
       let e = meets .start s h in
@@ -164,6 +168,7 @@ module _ (schedule : Schedule) (monitored : Bool) (job t w : List ℕ) (ready : 
         size = refl;
         bounded = h .bounded;
         counts = h .counts;
+        led = started s h;
         placed = rw e (initial-placed P);
         senders = subst NarrowSenders (sym e) (initial-narrow P);
       }
@@ -171,7 +176,7 @@ module _ (schedule : Schedule) (monitored : Bool) (job t w : List ℕ) (ready : 
   -- the run is over
   over :
       {before : List ℕ} {s : State} {trace : List ℕ} {examined from at k : ℕ}
-      (u : Underway schedule monitored past before s trace examined from at k) (s′ : State) (x : Ending) (cs : List Meaning) (total j : ℕ)
+      (u : Underway schedule monitored job t w past before s trace examined from at k) (s′ : State) (x : Ending) (cs : List Meaning) (total j : ℕ)
       (e : Numbered)
       → wholeRun schedule monitored past ≡ overAfter (u .done) cs j e (view s)
       → total ≡ examinedIn cs
@@ -191,10 +196,17 @@ module _ (schedule : Schedule) (monitored : Bool) (job t w : List ℕ) (ready : 
 
   -- turn k of the loop
   module _ (before : List ℕ) (s : State) (trace : List ℕ) (examined from at k : ℕ)
-      (u : Underway schedule monitored past before s trace examined from at k) (more : k < turnsFor schedule past) where
+      (u : Underway schedule monitored job t w past before s trace examined from at k) (more : k < turnsFor schedule past) where
     -- the choice may be asked for
     pub from-low : from ≤ countIn t NODE
     from-low = rw (← nodes-in) (u .low)
+
+    -- the ready count is that of the state
+    pub counts-ready : CountsReady t s
+    counts-ready = meets .ready s (u .led) ∙ ap (λ (m : ℕ). readyCount m (view s)) nodes-in
+
+    pub ready-counted : s .ready ≡ readyCountIn (s .position) (s .waiting) (countIn t NODE)
+    ready-counted = counts-ready ∙ sym (count-shown (s .position) (s .waiting) (view s) (λ n. refl) (u .counts) (countIn t NODE))
 
     -- it is the model's
     shown : choiceBy schedule job t k from (s .position) (s .waiting) ≡ choiceFor schedule past k from (view s)
@@ -243,6 +255,9 @@ module _ (schedule : Schedule) (monitored : Bool) (job t w : List ℕ) (ready : 
       pub node-inside : n < 32
       node-inside = omega (arith, bounds .0, nodes-in, nodes-few)
 
+      pub node-among : Among t n
+      node-among = meets .among n (bounds .0)
+
       pub chosen-few : c ≤ 32
       chosen-few = omega (arith, bounds .1, nodes-in, nodes-few)
 
@@ -274,7 +289,7 @@ module _ (schedule : Schedule) (monitored : Bool) (job t w : List ℕ) (ready : 
               (shown : Numbered) → shown ≡ numbersOf x
               → (after : List ℕ) (next : ℕ) → 7 * turnsFor schedule past ≤ length before → length after ≡ length trace
               → Writes (entryBytes shown) trace at after next
-              → Underway schedule monitored past before (turned .state) after (examined + c) (n + 1) next (k + 1)
+              → Underway schedule monitored job t w past before (turned .state) after (examined + c) (n + 1) next (k + 1)
           underway-next shown is after next fits same q =
               let p = subst (λ (y : Numbered). Writes (entryBytes y) trace at after next) is q in
               let step : Step = record { before = view s; made = numbersOf x } in
@@ -298,6 +313,7 @@ module _ (schedule : Schedule) (monitored : Bool) (job t w : List ℕ) (ready : 
                 size = same ∙ u .size;
                 bounded = turns .bounded;
                 counts = turns .counts;
+                led = led-turned s (u .led) fetched n monitored turned (bounds .0) at-position turns;
                 placed = rw (← completes) at keeps;
                 senders = rw (← completes) at (rule-senders past (valid .commands) (view s) (u .senders) n
                     (omega (arith, node-inside)) monitored);
@@ -319,9 +335,9 @@ module _ (schedule : Schedule) (monitored : Bool) (job t w : List ℕ) (ready : 
   pub reached :
       (before : List ℕ) (s : State) (trace : List ℕ) (examined from at k last : ℕ) → last ≡ turnsFor schedule past → k ≤ turnsFor schedule
       past
-      → Underway schedule monitored past before s trace examined from at k
+      → Underway schedule monitored job t w past before s trace examined from at k
       → (halt : Halt) → halt ≡ v.RanOut
-      → Reached schedule monitored past before trace s halt last examined from at k
+      → Reached schedule monitored job t w past before trace s halt last examined from at k
   reached before s trace examined from at k last same inside u halt out =
       record {
         size = u .size;
@@ -359,12 +375,12 @@ module _ (schedule : Schedule) (monitored : Bool) (job t w : List ℕ) (ready : 
 
 -- the run is over at a stop
 pub halted :
-    (schedule : Schedule) (monitored : Bool) (past : List Command) (before : List ℕ) (trace : List ℕ) (s : State) (halt : Halt)
-    (examined from at k : ℕ)
+    (schedule : Schedule) (monitored : Bool) (job t w : List ℕ) (past : List Command) (before : List ℕ) (trace : List ℕ) (s : State)
+    (halt : Halt) (examined from at k : ℕ)
     → length trace ≡ length before
     → ((x : Ending) → answerOf x ≡ answerAt k halt → Over (wholeRun schedule monitored past) before trace s x examined)
-    → Reached schedule monitored past before trace s halt k examined from at k
-halted schedule monitored past before trace s halt examined from at k size r =
+    → Reached schedule monitored job t w past before trace s halt k examined from at k
+halted schedule monitored job t w past before trace s halt examined from at k size r =
     record {
       size = size;
       all = λ h. absurd (omega (arith, h));

@@ -11,6 +11,7 @@ ghost use Rattle.model.specs.Command.{Command};
 ghost use Rattle.model.specs.Program.{programOf};
 ghost use Rattle.model.specs.Refusal.{accepted, decodeJob, snapshotSize};
 ghost use Rattle.tables.specs.Tables.{countIn};
+ghost use Rattle.memory.specs.Ready.{readyCountIn};
 ghost use Rattle.job.specs.Scheduling.{budgetRefusal, turnsBy};
 ghost use Rattle.chooser.specs.Choosing.{choiceOf};
 ghost use Rattle.turns.specs.Runs.{Loaded, choiceBy, runOf, RunsAs};
@@ -31,7 +32,8 @@ use output::numbers::numbers_of;
 use output::snapshot::put_snapshot;
 use output::trace::put_entry;
 
-// Whose turn k is: the node of the job's TURN k, for which nobody is examined, or the dispatcher's choice, going round from a number on.
+// Whose turn k is: the node of the job's TURN k, for which nobody is examined, or the dispatcher's choice, going round from a number on, by
+// the ready count too.
 fn choice_of<'a>(
     job: &[u8],
     tables: &[u32],
@@ -44,6 +46,7 @@ fn choice_of<'a>(
 ) -> Choice
     requires { ⌜ countIn (now tables) NODE ≤ 32 ⌝ }
     requires { ⌜ from ≤ countIn (now tables) NODE ⌝ }
+    requires { ⌜ ready ≡ readyCountIn (now position) (now waiting) (countIn (now tables) NODE) ⌝ }
     ensures { λ r. ⌜ choiceOf r ≡
         choiceBy schedule (now (job .entry)) (now (tables .entry)) k from (now (position .entry)) (now (waiting .entry)) ⌝ }
 {

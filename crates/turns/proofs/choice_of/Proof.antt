@@ -19,7 +19,9 @@ count-of-requires : tie.Need-count-of-requires
 count-of-requires c κs = search needs
 
 choose-requires : tie.Need-choose-requires
-choose-requires c κs = search needs
+choose-requires c κs =
+    let z = c .before .before .before .before .before in
+    rw (c .count-of .ensures) ((z .pre .0, z .pre .1 .0), z .pre .1 .1)
 
 returns : tie.Need-returns
 returns c = ap (λ (n : ℕ). chosen n 0) (c .turn-at .ensures) ∙ rw (c .before .enum-told .given .1)

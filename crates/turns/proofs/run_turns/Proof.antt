@@ -10,15 +10,15 @@ use Rattle.model.specs.Program.{programOf}
 use Rattle.output.specs.Written.{entryWith, Narrow}
 use Rattle.turns.specs.Runs.{Loaded, runOf, RunsAs}
 use Rattle.turns.proofs.Given.{turnsFor}
-use Rattle.turns.proofs.Running.{Underway, Reached, underway-none, from-low, nobody-few, underway-nobody, node-inside, chosen-few}
-use Rattle.turns.proofs.Running.{made-narrow, underway-next, underway-stopped, reached, halted, turns-by, turns-few}
+use Rattle.turns.proofs.Running.{Underway, Reached, underway-none, from-low, counts-ready, ready-counted, nobody-few, underway-nobody}
+use Rattle.turns.proofs.Running.{node-inside, node-among, chosen-few, made-narrow, underway-next, underway-stopped, reached, halted, turns-by, turns-few}
 use Rattle.turns.proofs.Running.{nodes-few, variables-few, runs-as}
 use Rattle.turns.proofs.run_turns.Statement.{statement}
 use Rattle.turns.proofs.run_turns.Tie as tie
 
 abbrev Inv-loop : tie.InvT-loop
 Inv-loop job t work schedule trace₀ snapshot monitored s₀ halt₀ last₀ examined₀ from₀ at₀ k₀ trace s halt last examined from at k =
-    (ready : Loaded job t work) → Reached schedule monitored (ready .past) trace₀ trace s halt last examined from at k
+    (ready : Loaded job t work) → Reached schedule monitored job t work (ready .past) trace₀ trace s halt last examined from at k
 
 abbrev μ-loop : tie.MeasureT-loop
 μ-loop job t work schedule trace₀ snapshot monitored s₀ halt₀ last₀ examined₀ from₀ at₀ k₀ trace s halt last examined from at k = last - k
@@ -31,14 +31,15 @@ module _ (i : tie.In-loop Inv-loop μ-loop) (ready : Loaded (now (i .before .bef
       (ready .past)
   more = omega (arith, i .loop-test .taken, i .before .loop .inv ready .all (i .loop-test .taken))
 
-  underway : Underway (i .before .before .before .before .before .before .before .before .before .args .schedule) (i .before .before
-      .before .before .before .before .before .before .before .args .monitored) (ready .past) (now (i .before .before .before .before
-      .before .before .before .before .before .args .trace)) (i .before .loop .s) (i .before .loop .trace)
+  underway : Underway (i .before .before .before .before .before .before .before .before .before .args .schedule) (i .before .before .before .before .before .before .before .before .before .args .monitored) (now (i .before .before .before .before .before .before .before .before .before .args .job)) (now (i .before .before .before .before .before .before .before .before .before .args .tables))
+      (now (i .before .before .before .before .before .before .before .before .before .args .work)) (ready .past) (now (i .before .before .before .before .before .before .before .before .before .args .trace)) (i .before .loop .s) (i .before .loop .trace)
       (i .before .loop .examined) (i .before .loop .from) (i .before .loop .at) (i .before .loop .k)
   underway = i .before .loop .inv ready .going (i .loop-test .taken)
 
 start-requires : tie.Need-start-requires Inv-loop μ-loop
-start-requires c κs = search needs
+start-requires c κs =
+    let z = c .before .before .before .before .before in
+    nodes-few (z .args .schedule) (z .args .monitored) (now (z .args .job)) (now (z .args .tables)) (now (z .args .work)) (z .pre .0) (z .pre .1 .0)
 
 turns-in-requires : tie.Need-turns-in-requires Inv-loop μ-loop
 turns-in-requires c κs = search needs
@@ -62,8 +63,12 @@ choice-of-requires c κs =
     let ready = z .pre .0 in (
       nodes-few (z .args .schedule) (z .args .monitored) (now (z .args .job)) (now (z .args .tables)) (now (z .args .work)) ready (z .pre
           .1 .0),
-      from-low (z .args .schedule) (z .args .monitored) (now (z .args .job)) (now (z .args .tables)) (now (z .args .work)) ready (z
-          .pre .1 .0) _ (l .s) (l .trace) (l .examined) (l .from) (l .at) (l .k) (underway i ready) (more i ready),
+      (
+        from-low (z .args .schedule) (z .args .monitored) (now (z .args .job)) (now (z .args .tables)) (now (z .args .work)) ready (z
+            .pre .1 .0) _ (l .s) (l .trace) (l .examined) (l .from) (l .at) (l .k) (underway i ready) (more i ready),
+        ready-counted (z .args .schedule) (z .args .monitored) (now (z .args .job)) (now (z .args .tables)) (now (z .args .work)) ready (z
+            .pre .1 .0) _ (l .s) (l .trace) (l .examined) (l .from) (l .at) (l .k) (underway i ready) (more i ready),
+      ),
     )
 
 enum-known-choice : tie.Need-enum-known-choice Inv-loop μ-loop
@@ -98,7 +103,7 @@ loop-again c =
     let l = i .before .loop in
     let z = i .before .before .before .before .before .before .before .before .before in
     λ ready.
-    halted (z .args .schedule) (z .args .monitored) _ _ _ _ _ _ _ _ _ (l .inv ready .size)
+    halted (z .args .schedule) (z .args .monitored) _ _ _ _ _ _ _ _ _ _ _ _ (l .inv ready .size)
     (underway-nobody (z .args .schedule) (z .args .monitored) (now (z .args .job)) (now (z .args .tables)) (now (z .args .work)) ready (z
     .pre .1 .0) _ (l .s) (l .trace) (l .examined) (l .from) (l .at) (l .k) (underway i ready) (more i ready) _ (rw (c .before .choice
     .given .1) at (c .before .before .before .choice-of .ensures)))
@@ -167,11 +172,15 @@ turn-requires c κs =
     let ready = z .pre .0 in (
       underway i ready .bounded,
       (
-        node-inside (z .args .schedule) (z .args .monitored) (now (z .args .job)) (now (z .args .tables)) (now (z
+        node-among (z .args .schedule) (z .args .monitored) (now (z .args .job)) (now (z .args .tables)) (now (z
             .args .work)) ready (z .pre .1 .0) _ (l .s) (l .trace) (l .examined) (l .from) (l .at) (l .k) (underway i ready) (more i ready) _ _
             (rw (c .before .before .before .before .before .choice2 .given .1) at (c .before .before .before .before .before .before .before
             .choice-of .ensures)),
-        c .fetch .ensures .1,
+        (
+          c .fetch .ensures .1,
+          counts-ready (z .args .schedule) (z .args .monitored) (now (z .args .job)) (now (z .args .tables)) (now (z .args .work)) ready (z
+              .pre .1 .0) _ (l .s) (l .trace) (l .examined) (l .from) (l .at) (l .k) (underway i ready) (more i ready),
+        ),
       ),
     )
 
@@ -267,7 +276,7 @@ loop-again-3 c =
     let l = i .before .loop in
     let z = i .before .before .before .before .before .before .before .before .before in
     λ ready.
-    halted (z .args .schedule) (z .args .monitored) _ _ _ _ _ _ _ _ _ (l .inv ready .size)
+    halted (z .args .schedule) (z .args .monitored) _ _ _ _ _ _ _ _ _ _ _ _ (l .inv ready .size)
     (underway-stopped (z .args .schedule) (z .args .monitored) (now (z .args .job)) (now (z .args .tables)) (now (z .args .work)) ready (z
     .pre .1 .0) _ (l .s) (l .trace) (l .examined) (l .from) (l .at) (l .k) (underway i ready) (more i ready) _ _ (rw (c .before .before
     .before .before .before .before .before .before .before .before .choice2 .given .1) at (c .before .before .before .before .before
