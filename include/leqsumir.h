@@ -1,8 +1,8 @@
 /* Running a job, monitored or not, with its written turns or dispatched: the C functions of the static library librun.a.
  *
- * Document 01, with requests S-1, S-2, S-5, S-7, S-9 and S-11 of document 02, says what a job is, what a run does and when a job is
+ * Document 01, with requests S-1, S-2, S-4, S-5, S-7, S-9 and S-11 of document 02, says what a job is, what a run does and when a job is
  * refused. "Monitored" is 01's "watched", "unmonitored" its "bare", "snapshot" its "end picture". All four functions are proved to do
- * what the definitions of 01, S-1, S-2, S-5, S-7, S-9 and S-11 say, for any bytes, lengths and budgets. */
+ * what the definitions of 01, S-1, S-2, S-4, S-5, S-7, S-9 and S-11 say, for any bytes, lengths and budgets. */
 #ifndef LEQSUMIR_H
 #define LEQSUMIR_H
 
@@ -87,11 +87,12 @@ void leqsumir_run_unmonitored(const uint8_t *job, size_t job_len, uint8_t *trace
  *
  * A node is ready unless it is idle with an empty queue. Before each turn there is a choice: nodes are examined one after the other, the
  * first time from node 0 on, later from the node after the one served last, round to that one itself; the first ready one gets the turn.
- * A choice that finds nobody has examined all nodes and ends the run. When the budgeted turns are made, no further choice is made.
+ * If nobody is ready, the run ends, and no node is examined for that: how many are ready is kept from turn to turn. When the budgeted
+ * turns are made, no further choice is made.
  *
  *   budget   1 to 4,096; every other number is a refusal, 13, that goes before all others
- *   answer   gets nine numbers: those of a run, and how many nodes were examined for all choices, the last fruitless or stopped one
- *            included
+ *   answer   gets nine numbers: those of a run, and how many nodes were examined for all choices, a last one whose turn is stopped
+ *            included, and none for a fruitless one
  *
  * A job with a TURN is refused by 14, after 1 to 9, 15 and 19 and before 10 to 12. Refusal 10 asks for 7 bytes for each turn of the
  * budget, made or not. All else is as above. */

@@ -45,8 +45,8 @@ fn expected_dispatched(Dispatched { shape, budget }: Dispatched) -> (u8, usize, 
     match (shape, budget) {
         (_, 1) => (stop::TURNS_OUT, 1, 0, 1),
         (Shape::Script, _) => (stop::TURNS_OUT, MAX_TURNS, 0, 5_270),
-        (Shape::Idle, _) => (stop::NOBODY_READY, 3_002, 0, 1 + 32 * 3_002),
-        (Shape::Lone, _) => (stop::NOBODY_READY, 3_002, 0, 3_003),
+        (Shape::Idle, _) => (stop::NOBODY_READY, 3_002, 0, 1 + 32 * 3_001),
+        (Shape::Lone, _) => (stop::NOBODY_READY, 3_002, 0, 3_002),
     }
 }
 

@@ -1,8 +1,8 @@
 //! Running a job, monitored or not, with its written turns or dispatched, from Rust: the functions of the proved static
 //! library librun.a.
 //!
-//! Document 01, with requests S-1, S-2, S-5, S-7, S-9 and S-11 of document 02, says what a job is, what a run does and
-//! when a job is refused; `include/leqsumir.h` says what the functions promise. The lengths below are enough for
+//! Document 01, with requests S-1, S-2, S-4, S-5, S-7, S-9 and S-11 of document 02, says what a job is, what a run does
+//! and when a job is refused; `include/leqsumir.h` says what the functions promise. The lengths below are enough for
 //! every job.
 
 /// The longest job that is accepted.
@@ -98,7 +98,7 @@ pub fn run_unmonitored(job: &[u8], trace: &mut [u8], snapshot: &mut [u8], work: 
 ///
 /// Any budget is allowed: 0 and those above 4,096 are a refusal (13), as is a job with a TURN (14). The answer: the eight
 /// numbers of a run, with 13 and 14 among the refusals and 4, nobody ready, among the stops; and how many nodes were
-/// examined for all choices.
+/// examined for all choices, none for the one that finds nobody ready.
 #[inline]
 pub fn dispatch_monitored(
     job: &[u8],

@@ -1,4 +1,5 @@
-//! The dispatcher (02, S-2): a job without TURN, a budget of turns, and a choice before each turn.
+//! The dispatcher (02, S-2): a job without TURN, a budget of turns, and a choice before each turn. That nobody is ready it
+//! finds by the ready count (S-4).
 
 use crate::decode::decode;
 use crate::outcome::{stop, Mode, Outcome, Refusal};
@@ -20,8 +21,12 @@ impl Dispatcher {
         Dispatcher { budget, first: 0, examined: 0 }
     }
 
-    /// One choice: examines nodes until one is ready. The node served last is examined as the last one.
+    /// One choice: examines nodes until one is ready, and none if the ready count is 0. The node served last is examined
+    /// as the last one.
     fn choose(&mut self, nodes: usize, state: &State) -> Option<u8> {
+        if state.ready() == 0 {
+            return None;
+        }
         for step in 0..nodes {
             let node = (self.first + step) % nodes;
             self.examined += 1;
@@ -30,7 +35,7 @@ impl Dispatcher {
                 return Some(node as u8);
             }
         }
-        None
+        unreachable!("the ready count is not 0")
     }
 }
 

@@ -11,18 +11,12 @@ pub struct Halt {
     pub attempted: Entry,
 }
 
-/// Gives one turn to a node.
+/// Gives one turn to a node. Completed or stopped, it leaves the right ready count.
 #[inline]
 pub fn turn(program: &Program, state: &mut State, node: u8, mode: Mode) -> Result<Entry, Halt> {
-    let mut turn = Turn { program, state, node, mode };
-    let position = turn.state.nodes[usize::from(node)].position;
-    if position == IDLE {
-        return turn.begin();
-    }
-    match program.instruction(node, position) {
-        Some(instruction) => turn.execute(instruction),
-        None => Ok(turn.finish()),
-    }
+    let result = Turn { program, state, node, mode }.make();
+    debug_assert_eq!(state.ready(), state.count_ready());
+    result
 }
 
 /// The node numbers in a bit set, lowest first.
@@ -46,6 +40,18 @@ struct Turn<'a> {
 
 impl Turn<'_> {
     #[inline]
+    fn make(&mut self) -> Result<Entry, Halt> {
+        let position = self.own().position;
+        if position == IDLE {
+            return self.begin();
+        }
+        match self.program.instruction(self.node, position) {
+            Some(instruction) => self.execute(instruction),
+            None => Ok(self.finish()),
+        }
+    }
+
+    #[inline]
     fn own(&mut self) -> &mut NodeState {
         &mut self.state.nodes[usize::from(self.node)]
     }
@@ -55,6 +61,7 @@ impl Turn<'_> {
         Entry::plain(self.node, kind)
     }
 
+    /// The node is ready before, by its message, and after, at work.
     #[inline]
     fn begin(&mut self) -> Result<Entry, Halt> {
         let Some(Message { value, sender }) = self.state.pop(self.node) else {
@@ -69,10 +76,7 @@ impl Turn<'_> {
 
     #[inline]
     fn finish(&mut self) -> Entry {
-        let own = self.own();
-        own.position = IDLE;
-        own.accumulator = 0;
-        own.message = 0;
+        self.state.finish(self.node);
         self.plain(kind::FINISH)
     }
 
@@ -164,7 +168,7 @@ impl Turn<'_> {
             return Err(Halt { stop: stop::QUEUE_FULL, attempted: entry });
         }
         for target in members(targets) {
-            self.state.push(target, Message { value, sender: self.node });
+            self.state.send(target, Message { value, sender: self.node });
         }
         Ok(entry)
     }

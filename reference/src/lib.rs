@@ -1,4 +1,4 @@
-//! Second implementation of the flow runner, written from the papers alone: 01, and S-1, S-2, S-5, S-7, S-9 and
+//! Second implementation of the flow runner, written from the papers alone: 01, and S-1, S-2, S-4, S-5, S-7, S-9 and
 //! S-11 of 02.
 //!
 //! `run` takes a job and three buffers, `dispatch` a budget of turns as well; `Runner` steps through a decoded job turn

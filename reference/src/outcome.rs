@@ -53,7 +53,7 @@ pub struct Answer {
     /// Completed turns.
     pub turns: usize,
     pub attempted: Entry,
-    /// Of a dispatched run: the examined nodes of all its choices.
+    /// Of a dispatched run: the examined nodes of all its choices; a fruitless one has none.
     pub examined: Option<usize>,
 }
 

@@ -69,7 +69,8 @@ impl<'p, O: Order> Runner<'p, O> {
         self.order.examined()
     }
 
-    /// The next turn. After a stop, every further step stops the same way, but a dispatcher examines nodes again.
+    /// The next turn. After a stop the run is over: with written turns every further step stops the same way, but a
+    /// dispatcher chooses again.
     #[inline]
     pub fn step(&mut self) -> Step {
         let node = match self.order.next(self.program, &self.state, self.turns) {

@@ -1,4 +1,4 @@
-//! The run's state: nodes, queues and variables in flat arrays.
+//! The run's state: nodes, queues and variables in flat arrays, and how many nodes are ready (02, S-4).
 
 use crate::program::Program;
 use crate::table::{MAX_NODES, MAX_VARIABLES, QUEUE_CAPACITY};
@@ -33,6 +33,8 @@ pub struct State {
     pub variables: [u32; MAX_VARIABLES],
     /// One ring of 16 slots a node.
     queues: [Message; MAX_NODES * QUEUE_CAPACITY],
+    /// How many nodes are ready: changed with them, and not counted again.
+    ready: usize,
 }
 
 impl State {
@@ -43,6 +45,7 @@ impl State {
             nodes: [idle; MAX_NODES],
             variables: [0; MAX_VARIABLES],
             queues: [Message::default(); MAX_NODES * QUEUE_CAPACITY],
+            ready: 0,
         };
         for (value, variable) in state.variables.iter_mut().zip(&program.variables) {
             *value = variable.start;
@@ -50,6 +53,7 @@ impl State {
         for &(node, value) in &program.starts {
             state.push(node, Message { value, sender: FROM_START });
         }
+        state.ready = state.count_ready();
         state
     }
 
@@ -69,10 +73,23 @@ impl State {
     }
 
     /// Puts a message at the back of a queue that is not full.
-    pub fn push(&mut self, node: u8, message: Message) {
+    fn push(&mut self, node: u8, message: Message) {
         let slot = self.slot(node, self.waiting(node));
         self.queues[slot] = message;
         self.nodes[usize::from(node)].waiting += 1;
+    }
+
+    /// A node gets a message, which wakes it if it was not ready.
+    pub fn send(&mut self, node: u8, message: Message) {
+        self.ready += usize::from(!self.is_ready(node));
+        self.push(node, message);
+    }
+
+    /// A node at work finishes: it is still ready if a message waits.
+    pub fn finish(&mut self, node: u8) {
+        let own = &mut self.nodes[usize::from(node)];
+        (own.position, own.accumulator, own.message) = (IDLE, 0, 0);
+        self.ready -= usize::from(!self.is_ready(node));
     }
 
     /// Takes the oldest message.
@@ -95,5 +112,15 @@ impl State {
     /// A turn of this node would not stop with 2.
     pub fn is_ready(&self, node: u8) -> bool {
         self.nodes[usize::from(node)].position != IDLE || self.waiting(node) > 0
+    }
+
+    /// How many nodes are ready, as it is kept.
+    pub fn ready(&self) -> usize {
+        self.ready
+    }
+
+    /// The same, counted. Nodes that the job does not have are idle and get no message.
+    pub fn count_ready(&self) -> usize {
+        (0..MAX_NODES as u8).filter(|&node| self.is_ready(node)).count()
     }
 }

@@ -44,7 +44,7 @@ fn commands(holds: impl Fn(&Row) -> bool) -> BTreeSet<u8> {
 #[test]
 fn sizes() {
     let runs = all_runs();
-    assert_eq!(runs.len(), 8_319);
+    assert_eq!(runs.len(), 8_367);
     assert!(records(&runs).len() < 1_750_000);
     assert!(all_texts().len() < 2_000_000);
     assert!(runs.iter().all(|run| run.job.len() <= 16_400));

@@ -1,4 +1,4 @@
-//! The dispatched runs of the stored corpus (02, S-2).
+//! The dispatched runs of the stored corpus (02, S-2 and S-4).
 
 mod common;
 
@@ -9,7 +9,7 @@ use flow_reference::corpus::Run;
 use flow_reference::{decode, Mode};
 
 /// The families of dispatched runs, which stand behind all others.
-const FAMILIES: [&str; 8] = [
+const FAMILIES: [&str; 9] = [
     "dispatched",
     "choices",
     "budgets",
@@ -18,6 +18,7 @@ const FAMILIES: [&str; 8] = [
     "dispatched buffers",
     "dispatched changes",
     "dispatched pairs",
+    "ready counts",
 ];
 
 fn dispatched() -> Vec<&'static Made> {
@@ -91,24 +92,40 @@ fn worked_jobs() {
     let runs = runs_of("dispatched");
     let ends: Vec<[u64; 3]> = runs[..40].iter().map(end).collect();
     let [monitored, bare] = [0, 1].map(|mode| ends.iter().skip(mode).step_by(2).copied().collect::<Vec<_>>());
-    let k1 = [[0, 1, 1], [0, 2, 3], [0, 4, 7], [0, 5, 8], [0, 8, 12], [0, 9, 14], [4, 9, 16], [4, 9, 16]];
+    let k1 = [[0, 1, 1], [0, 2, 3], [0, 4, 7], [0, 5, 8], [0, 8, 12], [0, 9, 14], [4, 9, 14], [4, 9, 14]];
     let k7 = [[0, 33, 33], [3, 33, 34], [3, 33, 34]];
     let stopped = [[0, 7, 10], [1, 7, 12], [1, 7, 12], [1, 7, 12], [0, 2, 3], [1, 2, 5]];
-    let bare_too = [[0, 7, 10], [0, 8, 12], [0, 9, 14], [4, 9, 16], [0, 2, 3], [0, 3, 5]];
-    let k6 = [[[0, 7, 10], [1, 7, 12], [1, 7, 12]], [[0, 7, 10], [0, 8, 12], [4, 9, 16]]];
+    let bare_too = [[0, 7, 10], [0, 8, 12], [0, 9, 14], [4, 9, 14], [0, 2, 3], [0, 3, 5]];
+    let k6 = [[[0, 7, 10], [1, 7, 12], [1, 7, 12]], [[0, 7, 10], [0, 8, 12], [4, 9, 14]]];
     assert_eq!(monitored, [&k1[..], &stopped, &k6[0], &k7].concat());
     assert_eq!(bare, [&k1[..], &bare_too, &k6[1], &k7].concat());
 }
 
-/// The only node at work, of 1 to 32: its three or four turns, then nobody is ready.
+/// The only node at work, of 1 to 32: its three or four turns, then nobody is ready and nobody is examined.
 #[test]
 fn a_lonely_node() {
     let ends: Vec<[u64; 3]> = runs_of("choices").iter().step_by(2).take(15).map(end).collect();
     let few = |nodes: u64, node: u64| {
-        [[0, 3, node + 1 + 2 * nodes], [0, 4, node + 1 + 3 * nodes], [4, 4, node + 1 + 4 * nodes]]
+        [[0, 3, node + 1 + 2 * nodes], [0, 4, node + 1 + 3 * nodes], [4, 4, node + 1 + 3 * nodes]]
     };
-    let many = [0, 15, 31].map(|node| [4, 4, node + 1 + 4 * 32]);
+    let many = [0, 15, 31].map(|node| [4, 4, node + 1 + 3 * 32]);
     assert_eq!(ends, [&few(1, 0)[..], &few(2, 0), &few(2, 1), &few(3, 1), &many].concat());
+}
+
+/// The ready count falls to 0 with the last turn. With one more in the budget the stop is 4, and the total the same.
+#[test]
+fn ready_counts() {
+    let ends: Vec<[u64; 3]> = runs_of("ready counts").iter().step_by(2).map(end).collect();
+    let turns = [68, 68, 72, 13, 12, 46, 46, 15, 11, 11, 4, 72];
+    assert_eq!(ends.len(), 2 * turns.len());
+    for (pair, turns) in ends.chunks(2).zip(turns) {
+        assert_eq!(pair, [0, 4].map(|stop| [stop, turns, pair[0][2]]));
+    }
+    let two_senders = 1 + 4 + 1 + 1 + 2 + 1 + 1 + 1 + 2 + 1 + 1 + 4 + 4;
+    assert_eq!(ends[7], [4, 13, two_senders]);
+    assert_eq!([ends[11], ends[13]], [[4, 46, 46], [4, 46, 2 + 45 * 3]], "to itself, alone and one of three");
+    let three_waiting = 1 + 2 + 1 + 1 + 1 + 1 + 1 + 1 + 1 + 2 + 2;
+    assert_eq!(ends[17], [4, 11, three_waiting]);
 }
 
 /// As many turns as there can be, bare and monitored, and as many TURN commands, and one more.

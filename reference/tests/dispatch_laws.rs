@@ -1,5 +1,5 @@
-//! What holds of every dispatched run (02, S-2), on generated jobs: a plain rule for the choices, how soon a ready node is
-//! served, how many nodes are examined, and the choices written out as turns.
+//! What holds of every dispatched run (02, S-2 and S-4), on generated jobs: a plain rule for the choices, how soon a ready
+//! node is served, how many nodes are examined, and the choices written out as turns.
 
 mod common;
 
@@ -56,11 +56,12 @@ fn follow(program: &Program, budget: usize, mode: Mode) -> Followed {
     }
 }
 
-/// The node that has to be chosen: the ready one that comes first if one counts on from a node; and its place there.
+/// The node that has to be chosen: the ready one that comes first if one counts on from a node; and its place there, 0 if
+/// there is none.
 fn chosen(state: &State, nodes: usize, from: usize) -> (Option<u8>, usize) {
     let steps = |node: usize| (node + nodes - from) % nodes;
     let first = (0..nodes).filter(|&node| is_ready(state, node)).min_by_key(|&node| steps(node));
-    (first.map(|node| node as u8), first.map_or(nodes, |node| steps(node) + 1))
+    (first.map(|node| node as u8), first.map_or(0, |node| steps(node) + 1))
 }
 
 /// The choices by the plain rule; the run ends when the budget is made, nobody is ready or a turn is stopped.
@@ -112,7 +113,7 @@ fn choices_and_fairness() {
     assert!(longest > 300, "{longest}");
 }
 
-/// The examined total is the sum over the choices: at most all nodes for each turn and one more choice.
+/// The examined total is the sum over the choices: at most all nodes for each turn and for a stopped choice.
 #[test]
 fn examined_totals() {
     for (index, mode) in (0..1_500).flat_map(|index| MODES.map(|mode| (index, mode))) {
@@ -120,9 +121,10 @@ fn examined_totals() {
         let program = decode(&job).expect("a valid job");
         let followed = follow(&program, budget as usize, mode);
         let sum: usize = followed.choices.iter().map(|&(_, examined)| examined).sum();
-        let Answer { turns, examined, .. } = answer(&dispatch_dirty(&job, budget, mode, LONG, 0x5A));
+        let Answer { stop, turns, examined, .. } = answer(&dispatch_dirty(&job, budget, mode, LONG, 0x5A));
         assert_eq!(examined, Some(sum));
-        assert!(turns <= sum && sum <= program.nodes.len() * (turns + 1));
+        let choices = turns + usize::from(matches!(stop, 1 | 3));
+        assert!(choices <= sum && sum <= program.nodes.len() * choices);
     }
 }
 

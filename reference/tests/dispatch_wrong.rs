@@ -1,4 +1,4 @@
-//! Wrong dispatchers (02, S-2): the stored runs tell each of them from the right one.
+//! Wrong dispatchers (02, S-2 and S-4): the stored runs tell each of them from the right one.
 
 mod common;
 
@@ -24,10 +24,25 @@ enum Fault {
     // What is counted.
     ChosenNotCounted,
     StoppedNotCounted,
-    FruitlessNotCounted,
-    LastOfFruitlessNotCounted,
+    FruitlessCounted,
+    FruitlessCountsOne,
+    FruitlessTotalIs0,
     CountsAfterTheBudget,
     CountsAllNodes,
+    // How the ready count is kept.
+    StartCountsOne,
+    StartCountsNobody,
+    BeginWithLastMessageEnds,
+    BeginWakes,
+    FinishAlwaysEnds,
+    FinishNeverEnds,
+    SendWakesNobody,
+    SendWakesOneAtMost,
+    SendWakesAllTargets,
+    WaitingTargetWakes,
+    TargetAtWorkWakes,
+    OwnMessageWakes,
+    SendToNobodyWakes,
     // How it ends.
     NobodyReadyIsStop0,
     NobodyReadyIsStop2,
@@ -52,7 +67,7 @@ enum Fault {
 
 use Fault::*;
 
-const FAULTS: [Fault; 32] = [
+const FAULTS: [Fault; 46] = [
     StartsAtNode1,
     StartsAgainAtNode0,
     LastServedFirst,
@@ -63,10 +78,24 @@ const FAULTS: [Fault; 32] = [
     IdleWithMessageUnready,
     ChosenNotCounted,
     StoppedNotCounted,
-    FruitlessNotCounted,
-    LastOfFruitlessNotCounted,
+    FruitlessCounted,
+    FruitlessCountsOne,
+    FruitlessTotalIs0,
     CountsAfterTheBudget,
     CountsAllNodes,
+    StartCountsOne,
+    StartCountsNobody,
+    BeginWithLastMessageEnds,
+    BeginWakes,
+    FinishAlwaysEnds,
+    FinishNeverEnds,
+    SendWakesNobody,
+    SendWakesOneAtMost,
+    SendWakesAllTargets,
+    WaitingTargetWakes,
+    TargetAtWorkWakes,
+    OwnMessageWakes,
+    SendToNobodyWakes,
     NobodyReadyIsStop0,
     NobodyReadyIsStop2,
     MadeBudgetIsStop4,
@@ -97,11 +126,32 @@ struct Wrong<'p> {
     state: State,
     last: Option<usize>,
     examined: usize,
+    /// How many nodes are ready, kept here once more.
+    ready: i64,
 }
 
-impl Wrong<'_> {
+impl<'p> Wrong<'p> {
+    fn new(program: &'p Program, fault: Fault) -> Wrong<'p> {
+        let state = State::new(program);
+        let starts = program.starts.len() as i64;
+        let ready = match fault {
+            StartCountsOne => starts.min(1),
+            StartCountsNobody => 0,
+            _ => starts,
+        };
+        Wrong { fault, program, state, last: None, examined: 0, ready }
+    }
+
+    fn is_at_work(&self, node: usize) -> bool {
+        self.state.nodes[node].position != IDLE
+    }
+
+    fn waits(&self, node: usize) -> bool {
+        self.state.waiting(node as u8) > 0
+    }
+
     fn is_ready(&self, node: usize) -> bool {
-        let (at_work, waits) = (self.state.nodes[node].position != IDLE, self.state.waiting(node as u8) > 0);
+        let (at_work, waits) = (self.is_at_work(node), self.waits(node));
         match self.fault {
             AtWorkWithEmptyQueueUnready => waits,
             IdleWithMessageUnready => at_work,
@@ -127,19 +177,65 @@ impl Wrong<'_> {
         (0..most).map(node).collect()
     }
 
-    /// One choice, counted.
+    /// One choice, counted. If nobody is ready by the kept count, nobody is examined; if that is wrong, all are in vain.
     fn choose(&mut self) -> Option<u8> {
         let order = self.order();
-        let found = order.iter().position(|&node| self.is_ready(node));
+        let found = order.iter().position(|&node| self.is_ready(node)).filter(|_| self.ready != 0);
         self.examined += match (self.fault, found) {
-            (CountsAllNodes, _) => order.len(),
+            (CountsAllNodes, Some(_)) | (FruitlessCounted, None) => order.len(),
             (ChosenNotCounted, Some(place)) => place,
-            (FruitlessNotCounted, None) => 0,
-            (LastOfFruitlessNotCounted, None) => order.len().saturating_sub(1),
-            (_, found) => found.map_or(order.len(), |place| place + 1),
+            (FruitlessCountsOne, None) => 1,
+            (_, Some(place)) => place + 1,
+            (_, None) if self.ready != 0 => order.len(),
+            (_, None) => 0,
         };
+        if self.fault == FruitlessTotalIs0 && found.is_none() {
+            self.examined = 0;
+        }
         self.last = found.map(|place| order[place]);
         self.last.map(|node| node as u8)
+    }
+
+    /// The targets of a node's port.
+    fn targets(&self, node: usize, port: u8) -> Vec<usize> {
+        let set = self.program.nodes[node].wires[usize::from(port)];
+        (0..self.program.nodes.len()).filter(|&target| set >> target & 1 == 1).collect()
+    }
+
+    /// How many nodes a SEND wakes, asked after it: the targets at which one message waits now and which are not at work.
+    fn waked(&self, node: usize, port: u8) -> i64 {
+        let targets = self.targets(node, port);
+        let is_waked = |target: &usize| {
+            let (at_work, waiting) = (self.is_at_work(*target), self.state.waiting(*target as u8));
+            match self.fault {
+                SendWakesNobody => false,
+                SendWakesAllTargets => true,
+                WaitingTargetWakes => !at_work,
+                TargetAtWorkWakes => waiting == 1,
+                OwnMessageWakes => *target == node || !at_work && waiting == 1,
+                _ => !at_work && waiting == 1,
+            }
+        };
+        let waked = targets.iter().filter(|&target| is_waked(target)).count() as i64;
+        match self.fault {
+            SendWakesOneAtMost => waked.min(1),
+            SendToNobodyWakes if targets.is_empty() => 1,
+            _ => waked,
+        }
+    }
+
+    /// Keeps the ready count, by the entry of the turn that was made.
+    fn keep(&mut self, entry: &Entry) {
+        let node = usize::from(entry.node);
+        self.ready += match (entry.kind, self.fault) {
+            (1, BeginWakes) => 1,
+            (1, BeginWithLastMessageEnds) if !self.waits(node) => -1,
+            (2, FinishNeverEnds) => 0,
+            (2, FinishAlwaysEnds) => -1,
+            (2, _) if !self.waits(node) => -1,
+            (6, _) => self.waked(node, entry.number),
+            _ => 0,
+        };
     }
 
     /// What nobody ready and a budget that is made are answered by.
@@ -164,7 +260,10 @@ impl Wrong<'_> {
             let before = self.examined;
             let Some(node) = self.choose() else { return (self.ended(false), Entry::default(), entries) };
             match turn(self.program, &mut self.state, node, run.mode) {
-                Ok(entry) => entries.push(entry),
+                Ok(entry) => {
+                    self.keep(&entry);
+                    entries.push(entry);
+                }
                 Err(halt) => {
                     if self.fault == StoppedNotCounted {
                         self.examined = before;
@@ -243,8 +342,7 @@ fn left(run: &Run, fault: Fault) -> Left {
         return refused(refusal);
     }
     let program = decode(&run.job).expect("an accepted job");
-    let state = State::new(&program);
-    let mut wrong = Wrong { fault, program: &program, state, last: None, examined: 0 };
+    let mut wrong = Wrong::new(&program, fault);
     let (stop, attempted, entries) = wrong.run(run, budget);
     if let Some(refusal) = refusal(run, entries.len(), fault).filter(|_| fault == TraceOfTurnsMade) {
         return refused(refusal);

@@ -168,7 +168,8 @@ impl Model {
         lines
     }
 
-    /// Dispatched: the same lines, and the examined total. The nodes stand in a circle, the next to be examined in front.
+    /// Dispatched: the same lines, and the examined total. The nodes stand in a circle, the next to be examined in front. If
+    /// nobody is ready, nobody was examined for that.
     fn dispatched(&mut self, budget: usize, lists: Option<&Permissions>) -> (Vec<String>, usize) {
         let mut circle: VecDeque<u8> = (0..self.nodes.len() as u8).collect();
         let (mut lines, mut examined) = (Vec::new(), 0);
@@ -179,7 +180,7 @@ impl Model {
             };
             let Some(place) = circle.iter().position(is_ready) else {
                 lines.push(format!("end 4 {} 0 0 0 0", lines.len()));
-                return (lines, examined + circle.len());
+                return (lines, examined);
             };
             examined += place + 1;
             circle.rotate_left(place + 1);

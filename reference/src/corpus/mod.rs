@@ -20,6 +20,7 @@ mod order;
 mod pairs;
 mod random;
 mod ranges;
+mod ready;
 mod repeats;
 mod replies;
 mod run;
@@ -159,8 +160,8 @@ fn about_senders(runs: &mut Runs) -> [Family; 3] {
     ]
 }
 
-/// Dispatched runs: pairs alone, but for the longest.
-fn dispatched(runs: &mut Runs) -> [Family; 8] {
+/// Dispatched runs: pairs alone, but for the longest. The last family is about the ready count.
+fn dispatched(runs: &mut Runs) -> [Family; 9] {
     [
         Family { name: "dispatched", runs: runs.dispatched(&worked::dispatched()) },
         Family { name: "choices", runs: runs.dispatched(&choices::jobs()) },
@@ -170,6 +171,7 @@ fn dispatched(runs: &mut Runs) -> [Family; 8] {
         Family { name: "dispatched buffers", runs: budgets::beside_buffers(runs) },
         Family { name: "dispatched changes", runs: changes::dispatched(runs) },
         Family { name: "dispatched pairs", runs: runs.dispatched(&pairs::dispatched(8)) },
+        Family { name: "ready counts", runs: runs.dispatched(&ready::jobs()) },
     ]
 }
 
