@@ -81,8 +81,8 @@ fn make_entry(n: NodeNum, event: Event) -> Entry
     }
 }
 
-// The turn of a node at a handler command: forbidden, a target full, or made. What the command does is worked out first, and stands only
-// in the plan of a turn that is made; and only there are nodes woken.
+// The turn of a node at a handler command: forbidden, a target full, or made. What the command does, and how many nodes are ready after
+// it, is worked out first, and stands only in the plan of a turn that is made.
 fn decide<'a>(
     tables: &[u32],
     n: NodeNum,
@@ -106,6 +106,7 @@ fn decide<'a>(
     let event = event_of(tables, instruction, registers.accumulator, variable);
     let effect = effect_of(tables, instruction, registers, variable);
     let change = effect.change;
+    let counted = ready_with(ready, tables, n, change, position, waiting);
     if is_forbidden(tables, n, monitored, event) {
         let shown = redact(event);
         let entry = make_entry(n, shown);
@@ -117,7 +118,6 @@ fn decide<'a>(
         let full = Outcome::Stopped(Stop::Full(entry));
         return planned(registers, Change::Nothing, full, ready);
     }
-    let counted = ready_with(ready, tables, n, change, position, waiting);
     planned(effect.registers, change, Outcome::Made(entry), counted)
 }
 

@@ -17,6 +17,9 @@ event-of-requires c κs = search needs
 effect-of-requires : tie.Need-effect-of-requires
 effect-of-requires c κs = search needs
 
+ready-with-requires : tie.Need-ready-with-requires
+ready-with-requires c κs = ready-few _ _ _ _ _ (c .before .before .before .before .pre .1 .0)
+
 is-forbidden-requires : tie.Need-is-forbidden-requires
 is-forbidden-requires c κs = search needs
 
@@ -31,7 +34,7 @@ planned-requires c κs = search needs
 
 returns : tie.Need-returns
 returns c =
-    let p6 = c .before .before .before .before .before .before in
+    let p6 = c .before .before .before .before .before .before .before in
     let z = p6 .before .before .before in
     let a = z .args in (
       λ hs s h counts.
@@ -54,7 +57,7 @@ planned-requires-2 c κs = search needs
 
 returns-2 : tie.Need-returns-2
 returns-2 c =
-    let p7 = c .before .before .before .before .before .before .before in
+    let p7 = c .before .before .before .before .before .before .before .before in
     let z = p7 .before .before .before in
     let a = z .args in (
       λ hs s h counts.
@@ -65,25 +68,22 @@ returns-2 c =
       λ busy. rw (c .planned2 .ensures) (ready-stays _ _ _ _ _ (z .pre .1 .0) _ (z .pre .1 .1 .0)),
     )
 
-ready-with-requires : tie.Need-ready-with-requires
-ready-with-requires c κs = ready-few _ _ _ _ _ (c .before .before .before .before .before .before .before .before .before .pre .1 .0)
-
 planned-requires-3 : tie.Need-planned-requires-3
 planned-requires-3 c κs = search needs
 
 returns-3 : tie.Need-returns-3
 returns-3 c =
-    let q = c .before in
-    let p6 = q .before .before .before .before .before .before in
+    let q = c .before .before .before .before .before .before in
+    let p6 = q .before in
     let p7 = p6 .before in
     let z = p7 .before .before .before in
     let a = z .args in (
       λ hs s h counts.
           let left = p7 .event-of .ensures hs s (a .n .0) (ap (λ (o : Registers). o .accumulator) (h .own)) (h .variables) in
-          rw (c .planned3 .ensures, q .before .before .before .make-entry2 .ensures)
+          rw (c .planned3 .ensures, c .before .before .before .make-entry2 .ensures)
           (made-by (programIn (now (a .tables)) hs) s (a .n) (a .monitored) (a .instruction) (p7 .event-of .result) left
-          (sym (q .before .before .before .before .before .is-forbidden .ensures hs) ∙ q .before .before .before .before .if1 .left)
-          (sym (q .before .before .blocks2 .ensures hs s counts) ∙ q .before .if2 .left) (p6 .effect-of .result)
+          (sym (c .before .before .before .before .before .is-forbidden .ensures hs) ∙ c .before .before .before .before .if1 .left)
+          (sym (c .before .before .blocks2 .ensures hs s counts) ∙ c .before .if2 .left) (p6 .effect-of .result)
           (does-at _ _ _ _ _ (p6 .effect-of .ensures) hs s (a .n .0) h) (q .ready-with .result)),
       λ goes. rw (c .planned3 .ensures, q .ready-with .ensures)
           (ready-on _ _ _ _ _ (z .pre .1 .0) _ (λ e. z .pre .1 .1 .1 (z .pre .1 .1 .0 ∙ e))
@@ -96,6 +96,7 @@ decide-spec =
     (tie.spec
     event-of-requires
     effect-of-requires
+    ready-with-requires
     is-forbidden-requires
     redact-requires
     make-entry-requires
@@ -105,6 +106,5 @@ decide-spec =
     blocks-requires
     planned-requires-2
     returns-2
-    ready-with-requires
     planned-requires-3
     returns-3)
