@@ -15,7 +15,7 @@ use Rattle.memory.proofs.Pairing.{paired-one}
 use Rattle.memory.proofs.Readying.{count-shown}
 use Rattle.memory.proofs.Waiting.{length-queues, count-at}
 use Rattle.engine.specs.declared.State.{State}
-use Rattle.engine.specs.Engine.{viewOf, Starts}
+use Rattle.engine.specs.Engine.{view, Starts}
 
 -- the state with these counts, values, variables and ready count, and all else as it is at the start
 abbrev pub first : List ℕ → List ℕ → List ℕ → ℕ → State
@@ -32,14 +32,14 @@ first ws slots xs ready =
     }
 
 pub started :
-    (t ws slots xs : List ℕ) (ready : ℕ) → length slots ≡ 512
+    (t ws slots xs : List ℕ) (nodes ready : ℕ) → length slots ≡ 512
     → Holds ws (map (messageFrom startSender) slots) (tabulate maxNodes (λ n. map (messageFrom startSender) (firstsIn t n)))
     → BringsOnly (λ n. messageFrom startSender (getD (firstsIn t n) 0 0)) (map (messageFrom startSender) (replicate 512 0))
     (map (messageFrom startSender) slots)
-    → xs ≡ tabulate maxVariables (startIn t) → ready ≡ readyCountIn (replicate 32 idle) ws (countIn t NODE)
+    → xs ≡ tabulate maxVariables (startIn t) → nodes ≡ countIn t NODE → ready ≡ readyCountIn (replicate 32 idle) ws nodes
     → Starts t (first ws slots xs ready)
 unfolding initialState programIn
-started t ws slots xs ready long holds brings stored counted =
+started t ws slots xs nodes ready long holds brings stored declared counted =
     let same : paired slots (replicate 512 startSender) ≡ map (messageFrom startSender) slots =
     ap (λ (k : ℕ). paired slots (replicate k startSender)) (sym long) ∙ paired-one slots startSender in
     let filled : length ws ≡ 32 =
@@ -49,9 +49,8 @@ started t ws slots xs ready long holds brings stored counted =
     record {
       bounded = holds .bounded;
       counts = rw same waits;
-      ready = counted ∙ (count-shown (replicate 32 idle) ws
-          (viewOf (replicate 32 idle) (replicate 32 0) (replicate 32 0) ws slots (replicate 512 startSender) xs) (λ n. refl) (rw same waits)
-          (countIn t NODE));
+      ready = counted ∙ ap (readyCountIn (replicate 32 idle) ws) declared
+          ∙ count-shown (replicate 32 idle) ws (view (first ws slots xs ready)) (λ n. refl) (rw same waits) (countIn t NODE);
       slots = rw same brings;
       start = λ hs. rw (same, holds .same, stored);
     }

@@ -1,5 +1,4 @@
 -- `engine::start` meets its contract.
-use mathlib.Core.Path.{ap, _∙_}
 use borrow.Author.Needs.{needs}
 use Rattle.engine.proofs.Starting.{started}
 use Rattle.engine.proofs.start.Statement.{statement}
@@ -20,9 +19,10 @@ fill-variables-requires c κs = search needs
 returns : tie.Need-returns
 returns c =
     let p = c .before .before in
-    let nodes = p .before .before .before .before .count-of .ensures in
-    let q = p .before .before .before .before .before .fill-queues .ensures in
-    started _ _ _ _ _ (q .1 .1) (q .0) (q .1 .0) (c .fill-variables .ensures) (rw nodes at (p .count-ready .ensures))
+    let n = p .before .before .before .before in
+    let q = n .before .fill-queues .ensures in
+    started _ _ _ _ (n .count-of .result) _ (q .1 .1) (q .0) (q .1 .0) (c .fill-variables .ensures) (n .count-of .ensures)
+    (p .count-ready .ensures)
 
 pub start-spec : {M : Type 1} → statement M
 start-spec =

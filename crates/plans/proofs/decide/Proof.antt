@@ -42,7 +42,7 @@ returns c =
           rw (c .planned .ensures, c .before .make-entry .ensures)
           (forbidden-planned (programIn (now (a .tables)) hs) s (a .n) (a .monitored) (a .instruction) (p6 .event-of .result) left
           (a .registers) (h .own) (sym (c .before .before .before .before .is-forbidden .ensures hs)
-          ∙ c .before .before .before .if1 .taken) (c .before .before .redact .result) (c .before .before .redact .ensures (a .n .0)) (a .ready)),
+          ∙ c .before .before .before .if1 .taken) (c .before .before .redact .result) (c .before .before .redact .ensures (a .n .0)) _),
       λ busy. rw (c .planned .ensures) (ready-stays _ _ _ _ _ (z .pre .1 .0) _ (z .pre .1 .1 .0)),
     )
 
@@ -64,7 +64,7 @@ returns-2 c =
           let left = p7 .event-of .ensures hs s (a .n .0) (ap (λ (o : Registers). o .accumulator) (h .own)) (h .variables) in
           rw (c .planned2 .ensures, c .before .before .before .make-entry2 .ensures)
           (full-planned (programIn (now (a .tables)) hs) s (a .n) (a .monitored) (a .instruction) (p7 .event-of .result) left (a .registers)
-          (h .own) (sym (c .before .before .blocks2 .ensures hs s counts) ∙ c .before .if2 .taken) (a .ready)),
+          (h .own) (sym (c .before .before .blocks2 .ensures hs s counts) ∙ c .before .if2 .taken) _),
       λ busy. rw (c .planned2 .ensures) (ready-stays _ _ _ _ _ (z .pre .1 .0) _ (z .pre .1 .1 .0)),
     )
 
@@ -84,9 +84,9 @@ returns-3 c =
           (made-by (programIn (now (a .tables)) hs) s (a .n) (a .monitored) (a .instruction) (p7 .event-of .result) left
           (sym (c .before .before .before .before .before .is-forbidden .ensures hs) ∙ c .before .before .before .before .if1 .left)
           (sym (c .before .before .blocks2 .ensures hs s counts) ∙ c .before .if2 .left) (p6 .effect-of .result)
-          (does-at _ _ _ _ _ (p6 .effect-of .ensures) hs s (a .n .0) h) (q .ready-with .result)),
-      λ goes. rw (c .planned3 .ensures, q .ready-with .ensures)
-          (ready-on _ _ _ _ _ (z .pre .1 .0) _ (λ e. z .pre .1 .1 .1 (z .pre .1 .1 .0 ∙ e))
+          (does-at _ _ _ _ _ (p6 .effect-of .ensures) hs s (a .n .0) h) _),
+      λ goes. rw (c .planned3 .ensures)
+          (q .ready-with .ensures ∙ ready-on _ _ _ _ _ (z .pre .1 .0) _ (λ e. z .pre .1 .1 .1 (z .pre .1 .1 .0 ∙ e))
           (λ e. goes (ap (λ (r : Plan). r .registers .position) (c .planned3 .ensures) ∙ e)) (p6 .effect-of .result .change)),
     )
 

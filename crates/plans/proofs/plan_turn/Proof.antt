@@ -29,7 +29,7 @@ returns c =
     let a = z .args in (
       λ hs s h counts first fetches. rw (c .planned .ensures)
           (unready-planned (programIn (now (a .tables)) hs) s (a .n) (a .monitored) (a .registers) (h .own)
-          (c .before .before .before .if1 .taken) (counts (a .n .0) ∙ c .before .if2 .taken) (a .ready)),
+          (c .before .before .before .if1 .taken) (counts (a .n .0) ∙ c .before .if2 .taken) _),
       λ ends. rw (c .planned .ensures) (ready-stays _ _ _ _ _ (z .pre .1 .1 .0) _ (z .pre .1 .1 .1)),
     )
 
@@ -47,7 +47,7 @@ returns-2 c =
           (begun-planned (programIn (now (a .tables)) hs) s (a .n) (a .monitored) (a .registers) (h .own)
           (c .before .before .before .before .if1 .taken)
           (λ e. c .before .before .if2 .left (sym (counts (a .n .0)) ∙ e)) (messageFrom (a .sender) (a .oldest))
-          (first (omega (arith, counts (a .n .0), c .before .before .if2 .left))) (a .ready)),
+          (first (omega (arith, counts (a .n .0), c .before .before .if2 .left))) _),
       λ ends. rw (c .planned2 .ensures)
           (ready-begun _ _ _ _ _ (z .pre .1 .1 .0) 0 (λ e. c .before .before .if2 .left e) (λ e. omega arith)),
     )
@@ -88,7 +88,7 @@ returns-3 c =
       λ hs s h counts first fetches. rw (c .planned3 .ensures, c .before .before .before .make-entry2 .ensures)
           (finished-planned (programIn (now (a .tables)) hs) s (a .n) (a .monitored) (a .registers) (h .own) busy
           (after-command (hs (a .n .0)) (a .registers .position)
-          (sym (ap fetchedOf (c .before .before .before .before .enum-told .given .1)) ∙ fetches)) (a .ready - 1)),
+          (sym (ap fetchedOf (c .before .before .before .before .enum-told .given .1)) ∙ fetches)) _),
       λ ends. rw (c .planned3 .ensures)
           (ready-less _ _ _ _ _ (z .pre .1 .1 .0) (λ e. busy (z .pre .1 .1 .1 ∙ e)) (c .before .if3 .taken) .1),
     )
@@ -119,7 +119,7 @@ returns-5 c =
       λ hs s h counts first fetches. rw (c .planned4 .ensures, c .before .before .before .make-entry2 .ensures)
           (finished-planned (programIn (now (a .tables)) hs) s (a .n) (a .monitored) (a .registers) (h .own) busy
           (after-command (hs (a .n .0)) (a .registers .position)
-          (sym (ap fetchedOf (c .before .before .before .before .enum-told .given .1)) ∙ fetches)) (a .ready)),
+          (sym (ap fetchedOf (c .before .before .before .before .enum-told .given .1)) ∙ fetches)) _),
       λ ends. rw (c .planned4 .ensures)
           (ready-same _ _ _ _ _ (z .pre .1 .1 .0) (λ e. busy (z .pre .1 .1 .1 ∙ e)) (c .before .if3 .left)),
     )
