@@ -31,25 +31,36 @@ use Rattle.plans.specs.Plans.{Plans, PlansTurn, IdlesAtEnd, PlansReady}
 use Rattle.engine.specs.declared.State.{State}
 use Rattle.engine.specs.Engine.{view, CountsReady, Turns}
 
+-- the lengths of a state's arrays that a turn of it asks for
+pub record Lengths (s : State) : Type 0 where
+  pub positions : length (s .position) ≡ 32
+  pub counts : length (s .waiting) ≡ 32
+  pub places : length (s .queue) ≡ 512
+  pub beside : length (s .sender) ≡ 512
+
 module _ (t : List ℕ) (fetched : Fetched) (s : State) (n : NodeNum) (monitored : Bool) (bounded : BoundedCounts (s .waiting))
-    (counts : length (s .waiting) ≡ 32) (places : length (s .queue) ≡ 512) (beside : length (s .sender) ≡ 512) where
+    (lengths : Lengths s) where
+  -- as many values as senders
+  alike : length (s .queue) ≡ length (s .sender)
+  alike = lengths .places ∙ sym (lengths .beside)
+
   -- as many messages wait in the model's state as the counts say
   waiting-at : (k : ℕ) → waitingAt (view s) k ≡ getD (s .waiting) k 0
   waiting-at k = count-at (s .waiting) (paired (s .queue) (s .sender)) bounded
-      (omega (arith, counts, places, length-paired (s .queue) (s .sender) (places ∙ sym beside))) k
+      (omega (arith, lengths .counts, lengths .places, length-paired (s .queue) (s .sender) alike)) k
 
   -- the message in a node's first slot, if one waits, is its oldest
   oldest-at : (k : ℕ) → 1 ≤ waitingAt (view s) k → oldest (view s) k ≡ messageFrom (getD (s .sender) (k * 16) 0) (getD (s .queue) (k *
       16) 0)
   oldest-at k h = sym (oldest-is (s .waiting) (paired (s .queue) (s .sender)) k (omega (arith, h, waiting-at k)))
-      ∙ getD-paired (s .queue) (s .sender) (places ∙ sym beside) (k * 16)
+      ∙ getD-paired (s .queue) (s .sender) alike (k * 16)
 
   -- the ready count is that of the arrays
-  pub counted : length (s .position) ≡ 32 → Among t (n .0) → CountsReady t s → Counted t (n .0) (s .position) (s .waiting) (s .ready)
-  counted positions among ready = record {
+  pub counted : Among t (n .0) → CountsReady t s → Counted t (n .0) (s .position) (s .waiting) (s .ready)
+  counted among ready = record {
     among = among;
-    positions = positions;
-    counts = counts;
+    positions = lengths .positions;
+    counts = lengths .counts;
     count = ready ∙ sym (count-shown (s .position) (s .waiting) (view s) (λ k. refl) waiting-at (countIn t NODE));
   }
 
@@ -114,7 +125,7 @@ module _ (t : List ℕ) (fetched : Fetched) (s : State) (n : NodeNum) (monitored
           senders =
           rw (signed, moved .0, moved .1) (changed (wiredIn t (n .0)) (n .0) (accumulatorAt (view s) (n .0)) (s .waiting) (s .queue) (s
           .sender)
-          counts places beside bounded inside (p .change) can-change) in
+          (lengths .counts) (lengths .places) (lengths .beside) bounded inside (p .change) can-change) in
           let waits : (k : ℕ) → waitingAt (view (after ws slots senders xs)) k ≡ getD ws k 0 =
           count-at ws (paired slots senders) (changes .holds .bounded) (omega (arith, changes .counts, changes .places)) in
           let here : positionAt (view (after ws slots senders xs)) (n .0) ≡ p .registers .position =
