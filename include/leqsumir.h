@@ -30,7 +30,7 @@ extern "C" {
  *   answer    64 bytes; dispatched, 72
  *   stack     a call takes less than 20,000 bytes of stack; 18,128 were measured, on x86-64, with less than 300 of the caller. The tables
  *             of the decoded job and the state of the run lie there, in no other memory.
- *   code      13,166 bytes with constants, on x86-64, and memcpy and memset of the C library; no variables of its own
+ *   code      13,425 bytes with constants, on x86-64, and memcpy and memset of the C library; no variables of its own
  *
  * A call takes no heap. */
 

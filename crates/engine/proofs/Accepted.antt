@@ -67,7 +67,7 @@ module _ (job t w : List ℕ) (past : List Command) (e : decodeJob job ≡ accep
     unfolding programOf
     nodes-in = sym (stands .counts NODE (omega arith))
 
-    pub node-among : (n : ℕ) → n < P .nodes → Among t n
+    node-among : (n : ℕ) → n < P .nodes → Among t n
     unfolding programOf
     node-among n h =
         let few = limits past (valid .commands) .nodes in
@@ -115,7 +115,7 @@ module _ (job t w : List ℕ) (past : List Command) (e : decodeJob job ≡ accep
               monitored)) q)),
         )
 
-    pub turn-node : (k : ℕ) → k < length (turnsOf past) → turnIn job t k < P .nodes
+    turn-node : (k : ℕ) → k < length (turnsOf past) → turnIn job t k < P .nodes
     unfolding programOf
     turn-node k h = omega (arith, p .turn k h, turns-inside past (valid .commands) k h)
 
@@ -125,6 +125,7 @@ engine-holds job t w past e stands long =
       start = λ s h. h .start (handlersIn job t (loaded w past)) ∙ ap initialState (p job t w past e stands long .program);
       turn = comes-by job t w past e stands long;
       ready = λ s led. kept job t w past e stands long s led .1 ∙ ap (λ (k : ℕ). readyCount k (view s)) (sym (nodes-in job t w past e stands long));
+      placed = λ s led. kept job t w past e stands long s led .0;
       among = node-among job t w past e stands long;
       nodes = turn-node job t w past e stands long;
     }

@@ -18,7 +18,7 @@ use Rattle.tables.specs.Tables.{countIn, wiredIn}
 use Rattle.tables.specs.Programs.{Handlers, programIn}
 use Rattle.entries.specs.Entries.{Comes, ruleOf}
 use Rattle.memory.specs.Queues.{paired, countAt, BoundedCounts}
-use Rattle.memory.specs.Ready.{readyCountIn, Among, Counted}
+use Rattle.memory.specs.Ready.{readyCountIn, Among, ReadyCounted}
 use Rattle.memory.proofs.Readying.{count-shown}
 use Rattle.memory.proofs.Pairing.{length-paired, getD-paired}
 use Rattle.memory.proofs.Waiting.{count-at, oldest-is}
@@ -56,8 +56,8 @@ module _ (t : List ℕ) (fetched : Fetched) (s : State) (n : NodeNum) (monitored
       ∙ getD-paired (s .queue) (s .sender) alike (k * 16)
 
   -- the ready count is that of the arrays
-  pub counted : Among t (n .0) → CountsReady t s → Counted t (n .0) (s .position) (s .waiting) (s .ready)
-  counted among ready = record {
+  pub ready-counted : Among t (n .0) → CountsReady t s → ReadyCounted t (n .0) (s .position) (s .waiting) (s .ready)
+  ready-counted among ready = record {
     among = among;
     positions = lengths .positions;
     counts = lengths .counts;
@@ -107,7 +107,7 @@ module _ (t : List ℕ) (fetched : Fetched) (s : State) (n : NodeNum) (monitored
           → (slots ≡ slotsAfter (wiredIn t (n .0)) (n .0) (accumulatorAt (view s) (n .0)) (s .waiting) (s .queue) (p .change))
           × (ws ≡ countsAfter (wiredIn t (n .0)) (n .0) (s .waiting) (p .change))
           → xs ≡ variablesAfter (accumulatorAt (view s) (n .0)) (s .variable) (p .change)
-          → Counted t (n .0) (s .position) (s .waiting) (s .ready)
+          → ReadyCounted t (n .0) (s .position) (s .waiting) (s .ready)
           → (IdlesAtEnd fetched (positionAt (view s) (n .0)) (p .registers .position) → PlansReady t (n .0) (s .position) (s .waiting) p)
           → Turns t fetched (n .0) monitored s (record { state = after ws slots senders xs; outcome = p .outcome })
       unfolding programIn

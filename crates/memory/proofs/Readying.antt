@@ -1,18 +1,16 @@
 -- How a turn changes the ready count, by the arrays that say which nodes are ready.
 use Prim.Native.Nat.{ℕ, zero, suc, _+_, _-_, _/_, _%_, _^_, _≤_, _<_}
-use mathlib.Core.Path.{_≡_, refl, sym, ap, ap₂, _∙_}
-use mathlib.Core.Bool.{Bool, true, false, cond, not, _&&_, _||_}
+use mathlib.Core.Path.{_≡_, refl, sym, ap, _∙_}
+use mathlib.Core.Bool.{Bool, true, false, cond, not, _&&_}
 use mathlib.Core.List.{List}
 use native.Mathlib.Omega.{arith}
-use native.Mathlib.Numerals.{add-one}
 use lib.Dec.{eqb}
 use lib.ListN.{length, getD, set, length-set}
 use lib.Seq.{getD-set-same, getD-set-other, set-getD}
 use borrow.Author.Tests.{eqb-true, eqb-false, eq-eqb, ne-eqb}
-use Rattle.model.specs.Table.{NODE, maxNodes}
+use Rattle.model.specs.Table.{NODE}
 use Rattle.model.specs.State.{State, idle, positionAt, waitingAt}
 use Rattle.model.specs.Dispatch.{ready as isReady, countBelow, readyCount}
-use Rattle.model.proofs.Logic.{true-false}
 use Rattle.model.proofs.Counting.{bit, count-agree, count-nothing, count-passes, count-fails, count-one, count-more, count-beyond, count-most}
 use Rattle.tables.specs.Bits.{bitOf}
 use Rattle.tables.specs.Tables.{countIn, wiredIn}
@@ -20,7 +18,7 @@ use Rattle.memory.specs.declared.Change.{Change}
 use Rattle.memory.specs.declared.Change.the-variants as c′
 use Rattle.memory.specs.Queues.{counted}
 use Rattle.memory.specs.Changes.{countsAfter}
-use Rattle.memory.specs.Ready.{readyIn, readyCountIn, wokenIn, wokenBy, Among, Counted}
+use Rattle.memory.specs.Ready.{readyIn, readyCountIn, wokenIn, wokenBy, Among, ReadyCounted}
 use Rattle.memory.proofs.Sending.{Ahead, ahead-first, ahead-here, ahead-next, ahead-none, ahead-inside}
 use Rattle.memory.proofs.Sending.{counted-later}
 
@@ -37,23 +35,23 @@ module _ (position waiting : List ℕ) (s : State) (p : (n : ℕ) → positionAt
 pub among-below : {t : List ℕ} {n : ℕ} → Among t n → n < 32
 among-below a = omega (arith, a .inside, a .few)
 
--- a target that is not ready, where the targets are the bits of a number
-abbrev pub asleep : ℕ → List ℕ → List ℕ → ℕ → Bool
-asleep all position waiting k = bitOf all k && not (readyIn position waiting k)
+-- a message wakes node k: it is a target, and not ready; the targets are the bits of a number
+abbrev wakes : ℕ → List ℕ → List ℕ → ℕ → Bool
+wakes all position waiting k = bitOf all k && not (readyIn position waiting k)
 
 -- the loop over the targets of a send, at node k: how many of the targets below are not ready
 pub record Waking (all : ℕ) (position waiting : List ℕ) (k targets count : ℕ) : Type 0 where
   pub ahead : Ahead all k targets
-  pub same : count ≡ countBelow (asleep all position waiting) k
+  pub same : count ≡ countBelow (wakes all position waiting) k
   pub few : count ≤ k
 
 pub waking-none : (all : ℕ) (position waiting : List ℕ) → all < 2 ^ 32 → Waking all position waiting 0 all 0
 waking-none all position waiting small =
-    record { ahead = ahead-first all small; same = sym (count-nothing (asleep all position waiting)); few = omega arith }
+    record { ahead = ahead-first all small; same = sym (count-nothing (wakes all position waiting)); few = omega arith }
 
 module _ {all : ℕ} {position waiting : List ℕ} {k targets count : ℕ} (s : Waking all position waiting k targets count) where
   -- bit k is the lowest
-  lowest : asleep all position waiting k ≡ (eqb (targets % 2) 1 && not (readyIn position waiting k))
+  lowest : wakes all position waiting k ≡ (eqb (targets % 2) 1 && not (readyIn position waiting k))
   lowest = ap (λ (b : Bool). b && not (readyIn position waiting k)) (ahead-here (s .ahead))
 
   pub waking-inside : 0 < targets → k < 32
@@ -64,7 +62,7 @@ module _ {all : ℕ} {position waiting : List ℕ} {k targets count : ℕ} (s : 
       → Waking all position waiting (k + 1) (targets / 2) (count + 1)
   waking-one more e = record {
     ahead = ahead-next (s .ahead) (waking-inside more);
-    same = count-passes (asleep all position waiting) k count (s .same) (lowest ∙ e);
+    same = count-passes (wakes all position waiting) k count (s .same) (lowest ∙ e);
     few = omega (arith, s .few);
   }
 
@@ -72,7 +70,7 @@ module _ {all : ℕ} {position waiting : List ℕ} {k targets count : ℕ} (s : 
       → Waking all position waiting (k + 1) (targets / 2) count
   waking-other more e = record {
     ahead = ahead-next (s .ahead) (waking-inside more);
-    same = count-fails (asleep all position waiting) k count (s .same) (lowest ∙ e);
+    same = count-fails (wakes all position waiting) k count (s .same) (lowest ∙ e);
     few = omega (arith, s .few);
   }
 
@@ -80,8 +78,8 @@ module _ {all : ℕ} {position waiting : List ℕ} {k targets count : ℕ} (s : 
   pub waking-all : (target : ℕ → Bool) → ((i : ℕ) → i < 32 → bitOf all i ≡ target i) → targets ≡ 0 → count ≡ wokenIn target position waiting
   waking-all target agree z =
       s .same
-      ∙ sym (count-beyond (asleep all position waiting) k 32 (s .ahead .inside) (λ j low high. rw (ahead-none (s .ahead) z j low)))
-      ∙ count-agree (asleep all position waiting) (λ j. target j && not (readyIn position waiting j)) 32 (λ j high. rw (agree j high))
+      ∙ sym (count-beyond (wakes all position waiting) k 32 (s .ahead .inside) (λ j low high. rw (ahead-none (s .ahead) z j low)))
+      ∙ count-agree (wakes all position waiting) (λ j. target j && not (readyIn position waiting j)) 32 (λ j high. rw (agree j high))
 
 -- a node that is not idle, or at which a message waits, is ready; one that is idle is exactly if a message waits at it
 ready-busy : (position waiting : List ℕ) (n : ℕ) → ¬ (getD position n 0 ≡ idle) → readyIn position waiting n ≡ true
@@ -98,13 +96,13 @@ ready-idle : (position waiting : List ℕ) (n : ℕ) → getD position n 0 ≡ i
 ready-idle position waiting n h = rw (eq-eqb (getD position n 0) idle h)
 
 -- a node that is ready is not woken; one at which a message more waits is ready
-never-asleep : (b : Bool) → 1 ≡ 1 + bit (b && false)
-never-asleep true = refl
-never-asleep false = refl
+never-woken : (b : Bool) → 1 ≡ 1 + bit (b && false)
+never-woken true = refl
+never-woken false = refl
 
 more-waiting : (a b : Bool) (w w′ : ℕ) → w′ ≡ w + bit b
     → bit (not (a && eqb w′ 0)) ≡ bit (not (a && eqb w 0)) + bit (b && not (not (a && eqb w 0)))
-more-waiting false b w w′ e = never-asleep b
+more-waiting false b w w′ e = never-woken b
 more-waiting true false w w′ e = let same : w′ ≡ w = omega arith in rw same (omega arith)
 more-waiting true true w w′ e = rw (ne-eqb w′ 0 (λ z. omega arith)) (by-count (eqb w 0))
   where
@@ -147,7 +145,7 @@ counted-at target ws (suc k) m h l = by-node (eqb m k) refl (λ b. counted-at ta
     by-node false e ih = other (eqb-false m k e) (ih (omega (arith, eqb-false m k e))) (target k)
 
 -- a turn of node n of a job, by the positions and the counts before it
-module _ (t : List ℕ) (n : ℕ) (position waiting : List ℕ) (ready : ℕ) (c : Counted t n position waiting ready) where
+module _ (t : List ℕ) (n : ℕ) (position waiting : List ℕ) (ready : ℕ) (c : ReadyCounted t n position waiting ready) where
   abbrev nodes : ℕ
   nodes = countIn t NODE
 
@@ -172,16 +170,6 @@ module _ (t : List ℕ) (n : ℕ) (position waiting : List ℕ) (ready : ℕ) (c
   -- nothing is changed
   pub ready-stays : (p : ℕ) → p ≡ getD position n 0 → ready ≡ readyCountIn (moved p) waiting nodes
   ready-stays p e = c .count ∙ ap (λ (l : List ℕ). readyCountIn l waiting nodes) (sym (set-getD position n 0) ∙ ap moved (sym e))
-
-  -- an idle node takes a message: it was ready and is
-  pub ready-begun : (p : ℕ) → ¬ (getD waiting n 0 ≡ 0) → ¬ (p ≡ idle)
-      → ready ≡ readyCountIn (moved p) (set waiting n (getD waiting n 0 - 1)) nodes
-  ready-begun p some busy =
-      c .count
-      ∙ count-agree (readyIn position waiting) (readyIn (moved p) (set waiting n (getD waiting n 0 - 1))) nodes
-      (λ m h. agreeing (readyIn position waiting) (readyIn (moved p) (set waiting n (getD waiting n 0 - 1)))
-      (ready-waits position waiting n some ∙ sym (ready-busy (moved p) (set waiting n (getD waiting n 0 - 1)) n (λ e. busy (sym (moved-here p) ∙ e))))
-      (λ m other. rw (getD-set-other position n m p 0 other, getD-set-other waiting n m (getD waiting n 0 - 1) 0 other)) m)
 
   -- a node that was not idle becomes idle: it is ready exactly if a message waits at it
   finished : ¬ (getD position n 0 ≡ idle) → readyCountIn (moved idle) waiting nodes + 1 ≡ ready + bit (not (eqb (getD waiting n 0) 0))
@@ -209,19 +197,32 @@ module _ (t : List ℕ) (n : ℕ) (position waiting : List ℕ) (ready : ℕ) (c
       let f = finished busy in
       omega arith
 
-  -- a node that was not idle and is not: it was ready and is, and its change wakes nodes
-  module _ (p : ℕ) (busy : ¬ (getD position n 0 ≡ idle)) (goes : ¬ (p ≡ idle)) where
-    -- it is ready, whatever waits at it
+  -- a node that is not idle afterwards is ready, whatever waits at it
+  module _ (p : ℕ) (goes : ¬ (p ≡ idle)) where
     own : (ws : List ℕ) → readyIn (moved p) ws n ≡ true
     own ws = ready-busy (moved p) ws n (λ e. goes (sym (moved-here p) ∙ e))
 
-    -- where nothing changes at other nodes
-    same-others : (ws : List ℕ) → ((m : ℕ) → ¬ (m ≡ n) → getD ws m 0 ≡ getD waiting m 0) → ready ≡ readyCountIn (moved p) ws nodes
-    same-others ws others =
+    -- if it was ready and nothing changes at other nodes, the count stays
+    same-others : readyIn position waiting n ≡ true → (ws : List ℕ) → ((m : ℕ) → ¬ (m ≡ n) → getD ws m 0 ≡ getD waiting m 0)
+        → ready ≡ readyCountIn (moved p) ws nodes
+    same-others was ws others =
         c .count
         ∙ count-agree (readyIn position waiting) (readyIn (moved p) ws) nodes
-        (λ m h. agreeing (readyIn position waiting) (readyIn (moved p) ws) (ready-busy position waiting n busy ∙ sym (own ws))
+        (λ m h. agreeing (readyIn position waiting) (readyIn (moved p) ws) (was ∙ sym (own ws))
         (λ m other. rw (getD-set-other position n m p 0 other, others m other)) m)
+
+    -- the counts of waiting messages without one of node n
+    one-less : (m : ℕ) → ¬ (m ≡ n) → getD (set waiting n (getD waiting n 0 - 1)) m 0 ≡ getD waiting m 0
+    one-less m other = getD-set-other waiting n m (getD waiting n 0 - 1) 0 other
+
+    -- an idle node takes a message: it was ready and is
+    pub ready-begun : ¬ (getD waiting n 0 ≡ 0) → ready ≡ readyCountIn (moved p) (set waiting n (getD waiting n 0 - 1)) nodes
+    ready-begun some = same-others (ready-waits position waiting n some) (set waiting n (getD waiting n 0 - 1)) one-less
+
+  -- a node that was not idle and is not: it was ready and is, and its change wakes nodes
+  module _ (p : ℕ) (busy : ¬ (getD position n 0 ≡ idle)) (goes : ¬ (p ≡ idle)) where
+    was : readyIn position waiting n ≡ true
+    was = ready-busy position waiting n busy
 
     -- a send
     module _ (target : ℕ → Bool) (ends : (k : ℕ) → target k ≡ true → k < nodes) where
@@ -236,7 +237,7 @@ module _ (t : List ℕ) (n : ℕ) (position waiting : List ℕ) (ready : ℕ) (c
           by-node : (b : Bool) → eqb m n ≡ b → bit (readyIn (moved p) after m)
               ≡ bit (readyIn position waiting m) + bit (target m && not (readyIn position waiting m))
           by-node true e =
-              rw (eqb-true m n e, own after, ready-busy position waiting n busy) (never-asleep (target n))
+              rw (eqb-true m n e, own p goes after, was) (never-woken (target n))
           by-node false e =
               rw (getD-set-other position n m p 0 (eqb-false m n e))
               (more-waiting (eqb (getD position m 0) idle) (target m) (getD waiting m 0) (getD after m 0)
@@ -261,11 +262,7 @@ module _ (t : List ℕ) (n : ℕ) (position waiting : List ℕ) (ready : ℕ) (c
     -- by each change
     pub ready-on : (change : Change) → ready + wokenBy (wiredIn t n) position waiting change
         ≡ readyCountIn (moved p) (countsAfter (wiredIn t n) n waiting change) nodes
-    ready-on c′.Nothing = omega (arith, same-others waiting (λ m other. refl))
-    ready-on (c′.Store x) = omega (arith, same-others waiting (λ m other. refl))
-    ready-on c′.Take =
-        omega (
-          arith,
-          same-others (set waiting n (getD waiting n 0 - 1)) (λ m other. getD-set-other waiting n m (getD waiting n 0 - 1) 0 other),
-        )
+    ready-on c′.Nothing = omega (arith, same-others p goes was waiting (λ m other. refl))
+    ready-on (c′.Store x) = omega (arith, same-others p goes was waiting (λ m other. refl))
+    ready-on c′.Take = omega (arith, same-others p goes was (set waiting n (getD waiting n 0 - 1)) (one-less p goes))
     ready-on (c′.Send port) = ready-sent (wiredIn t n port) (c .among .wires port)

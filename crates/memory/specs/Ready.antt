@@ -38,7 +38,7 @@ pub record Among (t : List ℕ) (n : ℕ) : Type 0 where
   pub wires : (port k : ℕ) → wiredIn t n port k ≡ true → k < countIn t NODE
 
 -- before a turn of node n: arrays of 32 nodes, and the ready count, over the nodes of the tables
-pub record Counted (t : List ℕ) (n : ℕ) (position waiting : List ℕ) (ready : ℕ) : Type 0 where
+pub record ReadyCounted (t : List ℕ) (n : ℕ) (position waiting : List ℕ) (ready : ℕ) : Type 0 where
   pub among : Among t n
   pub positions : length position ≡ maxNodes
   pub counts : length waiting ≡ maxNodes

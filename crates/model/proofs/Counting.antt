@@ -1,16 +1,15 @@
 -- How many numbers pass a test; and the ready count, which tells whether anybody is chosen.
 use Prim.Native.Nat.{ℕ, zero, suc, _+_, _≤_, _<_}
-use mathlib.Core.Path.{_≡_, refl, sym, _∙_}
-use mathlib.Core.Bool.{Bool, true, false, cond, _||_, _&&_}
+use mathlib.Core.Path.{_≡_, refl, sym}
+use mathlib.Core.Bool.{Bool, true, false, cond}
 use native.Mathlib.Omega.{arith}
 use native.Mathlib.Numerals.{add-one}
 use lib.Dec.{eqb, ltb}
-use borrow.Author.Tests.{eqb-true, eqb-false, ltb-true, ltb-false}
-use Rattle.model.specs.State.{State}
-use Rattle.model.specs.Dispatch.{ready, countBelow, readyCount, goingRound, firstFrom, Choice, fruitless, choose}
-use Rattle.model.specs.Dispatching.{Chooses, found, nobodyFound, ReadyCountHolds}
+use borrow.Author.Tests.{eqb-true, eqb-false, ltb-true, ltb-false, lt-ltb, le-ltb}
+use Rattle.model.specs.Dispatch.{ready, countBelow, readyCount, goingRound, firstFrom, chosen, nobody, choiceAt, choose}
+use Rattle.model.specs.Dispatching.{ReadyCountHolds}
 use Rattle.model.proofs.Logic.{not-both}
-use Rattle.model.proofs.Choosing.{first-passes, first-earlier, chooses, round-below, reached}
+use Rattle.model.proofs.Choosing.{first-passes, first-earlier, round-below, reached}
 
 -- a test as a number
 abbrev pub bit : Bool → ℕ
@@ -25,7 +24,7 @@ count-suc test k = by-test (test k)
     by-test true = refl
     by-test false = omega arith
 
-pub count-next : (test : ℕ → Bool) (k : ℕ) → countBelow test (k + 1) ≡ countBelow test k + bit (test k)
+count-next : (test : ℕ → Bool) (k : ℕ) → countBelow test (k + 1) ≡ countBelow test k + bit (test k)
 count-next test k = rw (add-one k) (count-suc test k)
 
 pub count-passes : (test : ℕ → Bool) (k count : ℕ) → count ≡ countBelow test k → test k ≡ true → count + 1 ≡ countBelow test (k + 1)
@@ -38,7 +37,7 @@ pub count-nothing : (test : ℕ → Bool) → countBelow test 0 ≡ 0
 unfolding countBelow
 count-nothing test = refl
 
-pub bit-most : (b : Bool) → bit b ≤ 1
+bit-most : (b : Bool) → bit b ≤ 1
 bit-most true = omega arith
 bit-most false = omega arith
 
@@ -48,7 +47,7 @@ count-most test zero = omega (arith, count-nothing test)
 count-most test (suc k) = omega (arith, count-suc test k, bit-most (test k), count-most test k)
 
 -- one that passes counts
-pub count-some : (test : ℕ → Bool) (k n : ℕ) → n < k → test n ≡ true → 0 < countBelow test k
+count-some : (test : ℕ → Bool) (k n : ℕ) → n < k → test n ≡ true → 0 < countBelow test k
 count-some test zero n l r = absurd (omega arith)
 count-some test (suc k) n l r = by-last (eqb n k) refl (count-some test k n)
   where
@@ -151,18 +150,19 @@ module _ (test : ℕ → Bool) (nodes from : ℕ) (low : from ≤ nodes) where
 
 -- nobody is chosen exactly if nobody is counted
 pub ready-count : ReadyCountHolds
-ready-count nodes from s low =
-    record {
-      tells = (counted (choose nodes from s) (chooses nodes from s), uncounted (choose nodes from s) (chooses nodes from s));
-      most = count-most (ready s) nodes;
-    }
+unfolding choose
+ready-count nodes from s low = record { tells = (counted (readyCount nodes s) refl, uncounted); most = count-most (ready s) nodes }
   where
-    counted : (c : Choice) → Chooses nodes from s c → c ≡ fruitless → readyCount nodes s ≡ 0
-    counted _ (found i l r earlier) e = let z : _≡_ {A = ℕ} 0 1 = cc in absurd (omega arith)
-    counted _ (nobodyFound all) e =
-        count-none (ready s) nodes (λ n l. let a = reached nodes from n low l in rw (a .arrives) at (all (a .distance) (a .near)))
+    place : ℕ
+    place = first (ready s) nodes from low
 
-    uncounted : (c : Choice) → Chooses nodes from s c → readyCount nodes s ≡ 0 → c ≡ fruitless
-    uncounted _ (found i l r earlier) e =
-        not-both r (none-counted (ready s) nodes e (goingRound nodes from i) (round-below nodes from i low l))
-    uncounted _ (nobodyFound all) e = refl
+    counted : (k : ℕ) → readyCount nodes s ≡ k → choiceAt nodes from place ≡ nobody 0 → k ≡ 0
+    counted zero e q = refl
+    counted (suc k) e q =
+        let some = lt-ltb place nodes (search-finds (ready s) nodes from low (omega arith)) in
+        let never : chosen (goingRound nodes from place) (place + 1) ≡ nobody 0 = rw some at q in
+        let z : _≡_ {A = ℕ} 0 1 = cc in
+        absurd (omega arith)
+
+    uncounted : readyCount nodes s ≡ 0 → choiceAt nodes from place ≡ nobody 0
+    uncounted none = rw (le-ltb place nodes (search-fails (ready s) nodes from low none))

@@ -1,5 +1,5 @@
 -- The dispatcher (S-2): given a budget of turns, it chooses the node of each turn instead of reading it from the job. And the ready count
--- (S-4), by which it finds that nobody is ready.
+-- (S-4), which is 0 exactly if nobody is chosen.
 use Prim.Native.Nat.{ℕ, zero, suc, _+_, _-_}
 use mathlib.Core.Bool.{Bool, cond, not, _&&_}
 use mathlib.Core.List.{List, [], _∷_}

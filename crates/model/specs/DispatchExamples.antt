@@ -1,16 +1,19 @@
 -- Dispatched jobs worked by hand (S-2), as rows of one list that is claimed once: K1, K2 and K7 without their turns, three nodes, and the
--- refusals.
+-- refusals; and ready counts (S-4).
 -- What is expected is written in bytes, as in Examples.
 use Prim.Native.Nat.{ℕ}
 use mathlib.Core.Path.{_≡_}
 use mathlib.Core.Bool.{Bool, true, false, cond}
 use mathlib.Core.List.{List, [], _∷_, _++_, map}
 use lib.ListN.{take}
+use Rattle.model.specs.Program.{programOf}
 use Rattle.model.specs.Turn.{entry}
-use Rattle.model.specs.Refusal.{refuse, Sizes, sizes}
+use Rattle.model.specs.Refusal.{refuse, Decoded, accepted, rejected, decodeJob, Sizes, sizes}
 use Rattle.model.specs.Result.{Result, refused}
 use Rattle.model.specs.Examples.{enough, times, k1, k1Read, k7, four, traced, nodePart, idleNode, waits, ends, noEntry}
+use Rattle.model.specs.Dispatch.{readyCount, monitoredDispatch}
 use Rattle.model.specs.DispatchResult.{Handed, dispatchMonitored, dispatchUnmonitored}
+use Rattle.model.specs.Dispatching.{statesIn}
 
 -- a row: a budget, a job, the lengths of the buffers, whether it is dispatched monitored ("watched"), and what is expected
 pub record DispatchExample : Type 0 where
@@ -57,6 +60,10 @@ servedNext = traced 0 2 0 0 ++ traced 1 0 0 0
 unfoldable pub servedLast : ℕ → List ℕ
 servedLast sent = traced 1 5 0 sent ++ traced 1 2 0 0
 
+-- three nodes, each in a flow of its own with a message
+unfoldable pub threeReady : List ℕ
+threeReady = times 3 (0x01 ∷ 0x02 ∷ []) ++ (0x50 ∷ 0 ∷ four 7) ++ (0x50 ∷ 1 ∷ four 8) ++ (0x50 ∷ 2 ∷ four 9)
+
 -- the rows
 unfoldable pub dispatchRows : List DispatchExample
 dispatchRows =
@@ -82,7 +89,7 @@ dispatchRows =
     34
     -- three nodes with a message each, which are served by rising number and then from node 0 again; and three of which the last alone is
     -- ready, so that all are examined for each choice
-    ∷ dispatchedRow 4 (times 3 (0x01 ∷ 0x02 ∷ []) ++ (0x50 ∷ 0 ∷ four 7) ++ (0x50 ∷ 1 ∷ four 8) ++ (0x50 ∷ 2 ∷ four 9))
+    ∷ dispatchedRow 4 threeReady
     (ends 0 4 noEntry (traced 0 1 255 7 ++ traced 1 1 255 8 ++ traced 2 1 255 9 ++ traced 0 2 0 0)
     (idleNode ++ nodePart 0 0 8 0 ++ nodePart 0 0 9 0))
     4
@@ -104,6 +111,17 @@ dispatchRows =
     ∷ rowWith true (sizes 34 3136 4096) 5 (k1Front 2) (refused (refuse 10 47)) 0
     ∷ rowWith true (sizes 34 3136 4096) 5 (k1 k1Read (four 2) 0) (refused (refuse 14 47)) 0
     ∷ []
+
+-- the ready counts (S-4) in the states of a job's monitored dispatched run
+abbrev pub countsOver : ℕ → Decoded → List ℕ
+countsOver budget (accepted past) = map (readyCount (programOf past .nodes)) (statesIn (monitoredDispatch (programOf past) budget .run))
+countsOver budget (rejected r) = []
+
+-- K1: node 0, and from its send to its last turn node 1 too; and three nodes, of which node 0 has its second turn after the others' first
+abbrev pub ReadyCountExamplesHold : Type 0
+ReadyCountExamplesHold =
+    (countsOver 12 (decodeJob (k1Front 2)) ≡ 1 ∷ 1 ∷ 1 ∷ 1 ∷ 2 ∷ 2 ∷ 1 ∷ 1 ∷ 1 ∷ 0 ∷ [])
+    × (countsOver 4 (decodeJob threeReady) ≡ 3 ∷ 3 ∷ 3 ∷ 3 ∷ 2 ∷ [])
 
 -- every row holds
 abbrev pub DispatchExamplesHold : Type 0

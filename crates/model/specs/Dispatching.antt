@@ -94,7 +94,8 @@ abbrev pub Fair : ℕ → Run → Type 0
 Fair nodes r =
     (k node : ℕ) → node < nodes → ready (stateAt r k) node ≡ true → k + nodes ≤ length (r .steps) → ServedBetween r node k (k + nodes)
 
--- at most all nodes are examined for one choice, none for a fruitless one (S-4), and there are at most as many choices as budgeted turns
+-- at most all nodes are examined for one choice, and there are at most as many choices as budgeted turns; in all at most all nodes for each
+-- chosen one, as none are examined for a fruitless choice (S-4)
 pub record Examined (nodes budget : ℕ) (choices : List Choice) : Type 0 where
   pub each : (k : ℕ) → k < length choices → examinedFor (getD choices k (nobody 0)) ≤ nodes
   pub number : length choices ≤ budget

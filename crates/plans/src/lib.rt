@@ -4,13 +4,13 @@ ghost use mathlib.Core.Logic.{_⊎_};
 ghost use mathlib.Core.Option.{none};
 ghost use mathlib.Core.Bool.{not, _&&_};
 ghost use Prim.Native.Nat.{_<_};
-ghost use Rattle.model.specs.Permission.{permitted};
 ghost use lib.ListN.{getD};
+ghost use Rattle.model.specs.Permission.{permitted};
 ghost use Rattle.model.specs.State.{messageFrom, idle};
 ghost use Rattle.command.specs.Instructions.{fetchedOf};
 ghost use Rattle.tables.specs.Programs.{Handlers, programIn};
 ghost use Rattle.entries.specs.Entries.{entryFor};
-ghost use Rattle.memory.specs.Ready.{Counted};
+ghost use Rattle.memory.specs.Ready.{ReadyCounted};
 ghost use Rattle.plans.specs.Plans.{plan, entryBy, Blocks, PlansCommand, PlansTurn, IdlesAtEnd, PlansReady};
 use command::instruction::Fetched;
 use command::instruction::Instruction;
@@ -95,7 +95,7 @@ fn decide<'a>(
     ready: u32,
 ) -> Plan
     requires { ⌜ registers .position < 4294967295 ⌝ }
-    requires { ⌜ Counted (now tables) (n .0) (now position) (now waiting) ready ⌝ }
+    requires { ⌜ ReadyCounted (now tables) (n .0) (now position) (now waiting) ready ⌝ }
     requires { ⌜ registers .position ≡ getD (now position) (n .0) 0 ⌝ }
     requires { ⌜ ¬ (registers .position ≡ idle) ⌝ }
     ensures { λ r. ⌜ PlansCommand (now (tables .entry)) n monitored instruction registers (now (waiting .entry))
@@ -137,9 +137,8 @@ pub fn plan_turn<'a>(
     position: &'a [u32; 32],
     ready: u32,
 ) -> Plan
-    requires { ⌜ n .0 < 32 ⌝ }
     requires { ⌜ (fetchedOf fetched ≡ none) ⊎ (registers .position < 4294967295) ⌝ }
-    requires { ⌜ Counted (now tables) (n .0) (now position) (now waiting) ready ⌝ }
+    requires { ⌜ ReadyCounted (now tables) (n .0) (now position) (now waiting) ready ⌝ }
     requires { ⌜ registers .position ≡ getD (now position) (n .0) 0 ⌝ }
     ensures { λ r. ⌜ PlansTurn (now (tables .entry)) fetched n monitored registers (messageFrom sender oldest) (now (waiting .entry))
         (now (variable .entry)) r ⌝ }

@@ -1,7 +1,7 @@
 -- The loop over the turns of an accepted job: what it keeps, and what it comes to.
 use Prim.Native.Nat.{ℕ, suc, _+_, _*_, _-_, _≤_, _<_}
 use mathlib.Core.Path.{_≡_, refl, sym, ap, subst, _∙_}
-use mathlib.Core.Bool.{Bool, true, false}
+use mathlib.Core.Bool.{Bool}
 use mathlib.Core.List.{List, [], _∷_, _++_}
 use mathlib.Core.Option.{none}
 use native.Mathlib.Omega.{arith}
@@ -15,13 +15,11 @@ use Rattle.model.specs.Run.{Run, Step, entriesOf}
 use Rattle.model.specs.Dispatch.{Choice as Meaning, readyCount, chosen, nobody, choose, Dispatched, examinedIn}
 use Rattle.model.specs.Output.{answerIn, entryBytes, traceBytes, traceIn, snapshotBytes}
 use Rattle.model.specs.Result.{written}
-use Rattle.model.specs.Valid.{ValidJob, Placed}
+use Rattle.model.specs.Valid.{ValidJob}
 use Rattle.model.proofs.Bounds.{length-trace}
-use Rattle.model.proofs.Positions.{initial-placed, turn-placed, monitored-placed, program-jumps}
 use Rattle.model.proofs.Runs.{trace-snoc, entries-snoc}
 use Rattle.model.proofs.Growth.{length-turns}
 use Rattle.model.proofs.Valid.{job-valid, limits}
-use Rattle.model.proofs.Ways.{Keeps}
 use Rattle.tables.specs.Tables.{countIn}
 use Rattle.memory.specs.Queues.{BoundedCounts}
 use Rattle.memory.specs.Ready.{readyCountIn, Among}
@@ -77,7 +75,6 @@ pub record Underway (schedule : Schedule) (monitored : Bool) (job t w : List ℕ
   pub bounded : BoundedCounts (s .waiting)
   pub counts : CountsWaiting s
   pub led : Led job t w (programOf past .nodes) s
-  pub placed : Placed (programOf past) (view s)
   pub senders : NarrowSenders (view s)
 
 -- the run is over: how it ended, the examined total, the trace, and the last state
@@ -169,7 +166,6 @@ module _ (schedule : Schedule) (monitored : Bool) (job t w : List ℕ) (ready : 
         bounded = h .bounded;
         counts = h .counts;
         led = started s h;
-        placed = rw e (initial-placed P);
         senders = subst NarrowSenders (sym e) (initial-narrow P);
       }
 
@@ -191,7 +187,7 @@ module _ (schedule : Schedule) (monitored : Bool) (job t w : List ℕ) (ready : 
         state = rw is same;
         bounded = bounded;
         positions = λ n. subst (λ (y : Meant). positionAt y n < 256) (sym same)
-            (placed-narrow past (valid .commands) (view s) (u .placed) n);
+            (placed-narrow past (valid .commands) (view s) (meets .placed s (u .led)) n);
       }
 
   -- turn k of the loop
@@ -277,13 +273,6 @@ module _ (schedule : Schedule) (monitored : Bool) (job t w : List ℕ) (ready : 
           made-narrow = rw (← completes) at (rule-narrow past (valid .commands) (view s) (u .senders) n (omega (arith, node-inside))
               monitored)
 
-          keeps : Keeps (Placed P) (rule (view s) n)
-          keeps = by-mode monitored
-            where
-              by-mode : (m : Bool) → Keeps (Placed P) (ruleOf m P (view s) n)
-              by-mode true = monitored-placed P (program-jumps past valid) (view s) n (u .placed)
-              by-mode false = turn-placed P (program-jumps past valid) (view s) n (u .placed)
-
           -- it made its entry
           pub underway-next :
               (shown : Numbered) → shown ≡ numbersOf x
@@ -314,7 +303,6 @@ module _ (schedule : Schedule) (monitored : Bool) (job t w : List ℕ) (ready : 
                 bounded = turns .bounded;
                 counts = turns .counts;
                 led = led-turned s (u .led) fetched n monitored turned (bounds .0) at-position turns;
-                placed = rw (← completes) at keeps;
                 senders = rw (← completes) at (rule-senders past (valid .commands) (view s) (u .senders) n
                     (omega (arith, node-inside)) monitored);
               }

@@ -32,8 +32,8 @@ use output::numbers::numbers_of;
 use output::snapshot::put_snapshot;
 use output::trace::put_entry;
 
-// Whose turn k is: the node of the job's TURN k, for which nobody is examined, or the dispatcher's choice, going round from a number on, by
-// the ready count too.
+// Whose turn k is: the node of the job's TURN k, for which nobody is examined, or the dispatcher's choice, going round from a number on; the
+// ready count tells whether there is one.
 fn choice_of<'a>(
     job: &[u8],
     tables: &[u32],

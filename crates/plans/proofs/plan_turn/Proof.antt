@@ -1,5 +1,4 @@
 -- `plans::plan_turn` meets its contract.
-use Prim.Native.Nat.{_-_}
 use mathlib.Core.Path.{sym, ap, _∙_}
 use mathlib.Core.Logic.{⊎-elim}
 use native.Mathlib.Omega.{arith}
@@ -30,7 +29,7 @@ returns c =
       λ hs s h counts first fetches. rw (c .planned .ensures)
           (unready-planned (programIn (now (a .tables)) hs) s (a .n) (a .monitored) (a .registers) (h .own)
           (c .before .before .before .if1 .taken) (counts (a .n .0) ∙ c .before .if2 .taken) _),
-      λ ends. rw (c .planned .ensures) (ready-stays _ _ _ _ _ (z .pre .1 .1 .0) _ (z .pre .1 .1 .1)),
+      λ ends. rw (c .planned .ensures) (ready-stays _ _ _ _ _ (z .pre .1 .0) _ (z .pre .1 .1)),
     )
 
 make-entry-requires : tie.Need-make-entry-requires
@@ -49,7 +48,7 @@ returns-2 c =
           (λ e. c .before .before .if2 .left (sym (counts (a .n .0)) ∙ e)) (messageFrom (a .sender) (a .oldest))
           (first (omega (arith, counts (a .n .0), c .before .before .if2 .left))) _),
       λ ends. rw (c .planned2 .ensures)
-          (ready-begun _ _ _ _ _ (z .pre .1 .1 .0) 0 (λ e. c .before .before .if2 .left e) (λ e. omega arith)),
+          (ready-begun _ _ _ _ _ (z .pre .1 .0) 0 (λ e. omega arith) (c .before .before .if2 .left)),
     )
 
 enum-known-fetched : tie.Need-enum-known-fetched
@@ -58,8 +57,8 @@ enum-known-fetched c = search needs
 decide-requires : tie.Need-decide-requires
 decide-requires c κs =
     let z = c .before .before .before .before .before .before .before .before in (
-      countable (z .args .fetched) _ (z .args .registers .position) (z .pre .1 .0) (c .before .fetched .given .1),
-      (z .pre .1 .1 .0, (z .pre .1 .1 .1, c .before .before .before .if1 .left)),
+      countable (z .args .fetched) _ (z .args .registers .position) (z .pre .0) (c .before .fetched .given .1),
+      (z .pre .1 .0, (z .pre .1 .1, c .before .before .before .if1 .left)),
     )
 
 enum-told : tie.Need-enum-told
@@ -74,7 +73,7 @@ element-copy-out-if3 c = search needs
 sub-planned : tie.Need-sub-planned
 sub-planned c =
     let z = c .before .before .before .before .before .before .before .before .before .before in
-    ready-less _ _ _ _ _ (z .pre .1 .1 .0) (λ e. c .before .before .before .before .before .if1 .left (z .pre .1 .1 .1 ∙ e)) (c .if3 .taken) .0
+    ready-less _ _ _ _ _ (z .pre .1 .0) (λ e. c .before .before .before .before .before .if1 .left (z .pre .1 .1 ∙ e)) (c .if3 .taken) .0
 
 planned-requires-3 : tie.Need-planned-requires-3
 planned-requires-3 c κs = search needs
@@ -90,7 +89,7 @@ returns-3 c =
           (after-command (hs (a .n .0)) (a .registers .position)
           (sym (ap fetchedOf (c .before .before .before .before .enum-told .given .1)) ∙ fetches)) _),
       λ ends. rw (c .planned3 .ensures)
-          (ready-less _ _ _ _ _ (z .pre .1 .1 .0) (λ e. busy (z .pre .1 .1 .1 ∙ e)) (c .before .if3 .taken) .1),
+          (ready-less _ _ _ _ _ (z .pre .1 .0) (λ e. busy (z .pre .1 .1 ∙ e)) (c .before .if3 .taken) .1),
     )
 
 planned-requires-4 : tie.Need-planned-requires-4
@@ -121,7 +120,7 @@ returns-5 c =
           (after-command (hs (a .n .0)) (a .registers .position)
           (sym (ap fetchedOf (c .before .before .before .before .enum-told .given .1)) ∙ fetches)) _),
       λ ends. rw (c .planned4 .ensures)
-          (ready-same _ _ _ _ _ (z .pre .1 .1 .0) (λ e. busy (z .pre .1 .1 .1 ∙ e)) (c .before .if3 .left)),
+          (ready-same _ _ _ _ _ (z .pre .1 .0) (λ e. busy (z .pre .1 .1 ∙ e)) (c .before .if3 .left)),
     )
 
 pub plan-turn-spec : {M : Type 1} → statement M

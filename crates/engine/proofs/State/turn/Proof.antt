@@ -7,9 +7,9 @@ use borrow.Author.Needs.{needs, length-unmapped}
 use Rattle.tables.specs.Tables.{wiredIn}
 use Rattle.memory.specs.Queues.{countAt}
 use Rattle.memory.specs.Changes.{Possible}
-use Rattle.memory.specs.Ready.{Counted}
+use Rattle.memory.specs.Ready.{ReadyCounted}
 use Rattle.memory.proofs.Readying.{among-below}
-use Rattle.engine.proofs.Carried.{Lengths, counted, can-change, carried-out}
+use Rattle.engine.proofs.Carried.{Lengths, ready-counted, can-change, carried-out}
 use Rattle.engine.proofs.State.turn.Statement.{statement}
 use Rattle.engine.proofs.State.turn.Tie as tie
 
@@ -65,15 +65,15 @@ inside : (z : tie.Start) → z .args .n .0 < 32
 inside z = among-below (z .pre .1 .0)
 
 -- the ready count before the turn
-before : (z : tie.Start) → Counted (now (z .args .tables)) (z .args .n .0) (z .args .t1 .position) (z .args .t1 .waiting) (z .args .t1 .ready)
+before : (z : tie.Start) → ReadyCounted (now (z .args .tables)) (z .args .n .0) (z .args .t1 .position) (z .args .t1 .waiting) (z .args .t1 .ready)
 before z =
     let a = z .args in
-    counted (now (a .tables)) (a .fetched) (a .t1) (a .n) (a .monitored) (z .pre .0) (lengths z) (z .pre .1 .0) (z .pre .1 .1 .1)
+    ready-counted (now (a .tables)) (a .fetched) (a .t1) (a .n) (a .monitored) (z .pre .0) (lengths z) (z .pre .1 .0) (z .pre .1 .1 .1)
 
 plan-turn-requires : tie.Need-plan-turn-requires
 plan-turn-requires c κs =
     let z = c .before .before .before .before .before .before .before .before .before .before .before .before in
-    (inside z, (z .pre .1 .1 .0, (before z, refl)))
+    (z .pre .1 .1 .0, (before z, refl))
 
 -- the planned change can be carried out
 can : (p : tie.After-plan-turn) → Possible (wiredIn (now (p .before .before .before .before .before .before .before .before .before .before .before .before .before .args .tables)) (p .before .before .before .before .before .before .before .before .before .before .before .before .before .args .n .0)) (p .before .before .before .before .before .before .before .before .before .before .before .before .before .args .n .0)
@@ -99,23 +99,27 @@ change-queues-requires c κs =
 change-variable-requires : tie.Need-change-variable-requires
 change-variable-requires c κs = search needs
 
+-- the node is below 32 where its registers are written
+below : (c : tie.After-change-variable) → c .before .before .before .before .before .before .before .before .before .before .before .before .before .before .before .before .before .before .before .before .before .before .before .args .n .0 < 32
+below c = inside (c .before .before .before .before .before .before .before .before .before .before .before .before .before .before .before .before .before .before .before .before .before .before .before)
+
 mul-self : tie.Need-mul-self
-mul-self c = omega (arith, inside (c .before .before .before .before .before .before .before .before .before .before .before .before .before .before .before .before .before .before .before .before .before .before .before))
+mul-self c = let h = below c in omega arith
 
 element-write-self : tie.Need-element-write-self
-element-write-self c = omega (arith, inside (c .before .before .before .before .before .before .before .before .before .before .before .before .before .before .before .before .before .before .before .before .before .before .before))
+element-write-self c = let h = below c in omega arith
 
 mul-self-2 : tie.Need-mul-self-2
-mul-self-2 c = omega (arith, inside (c .before .before .before .before .before .before .before .before .before .before .before .before .before .before .before .before .before .before .before .before .before .before .before))
+mul-self-2 c = let h = below c in omega arith
 
 element-write-self-2 : tie.Need-element-write-self-2
-element-write-self-2 c = omega (arith, inside (c .before .before .before .before .before .before .before .before .before .before .before .before .before .before .before .before .before .before .before .before .before .before .before))
+element-write-self-2 c = let h = below c in omega arith
 
 mul-self-3 : tie.Need-mul-self-3
-mul-self-3 c = omega (arith, inside (c .before .before .before .before .before .before .before .before .before .before .before .before .before .before .before .before .before .before .before .before .before .before .before))
+mul-self-3 c = let h = below c in omega arith
 
 element-write-self-3 : tie.Need-element-write-self-3
-element-write-self-3 c = omega (arith, inside (c .before .before .before .before .before .before .before .before .before .before .before .before .before .before .before .before .before .before .before .before .before .before .before))
+element-write-self-3 c = let h = below c in omega arith
 
 returns : tie.Need-returns
 returns c =

@@ -2,7 +2,6 @@
 use Prim.Native.Nat.{_<_}
 use mathlib.Core.Logic.{⊎-elim}
 use native.Mathlib.Omega.{arith}
-use denote.Ref.{now}
 use borrow.Author.Needs.{needs}
 use Rattle.memory.proofs.Readying.{Waking, waking-none, waking-inside, waking-one, waking-other, waking-all}
 use Rattle.memory.proofs.ready.woken.Statement.{statement}
