@@ -117,7 +117,7 @@ abbrev pub countsOver : ℕ → Decoded → List ℕ
 countsOver budget (accepted past) = map (readyCount (programOf past .nodes)) (statesIn (monitoredDispatch (programOf past) budget .run))
 countsOver budget (rejected r) = []
 
--- K1: node 0, and from its send to its last turn node 1 too; and three nodes, of which node 0 has its second turn after the others' first
+-- K1: node 0; after its send node 1 too; after its last turn node 1 alone; at last nobody. And three nodes, of which node 0 finishes first
 abbrev pub ReadyCountExamplesHold : Type 0
 ReadyCountExamplesHold =
     (countsOver 12 (decodeJob (k1Front 2)) ≡ 1 ∷ 1 ∷ 1 ∷ 1 ∷ 2 ∷ 2 ∷ 1 ∷ 1 ∷ 1 ∷ 0 ∷ [])

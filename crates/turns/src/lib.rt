@@ -53,13 +53,8 @@ fn choice_of<'a>(
     match schedule {
         Schedule::Written => Choice::Chosen(turn_at(job, tables, k), 0),
         Schedule::Dispatched(_) => {
-            choose(
-                position,
-                waiting,
-                ready,
-                count_of(tables, bytes::NODE),
-                from,
-            )
+            let nodes = count_of(tables, bytes::NODE);
+            choose(position, waiting, ready, nodes, from)
         }
     }
 }
