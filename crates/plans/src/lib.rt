@@ -10,6 +10,7 @@ ghost use Rattle.model.specs.State.{messageFrom, idle};
 ghost use Rattle.command.specs.Instructions.{fetchedOf};
 ghost use Rattle.tables.specs.Programs.{Handlers, programIn};
 ghost use Rattle.entries.specs.Entries.{entryFor};
+ghost use Rattle.memory.specs.Changes.{registers};
 ghost use Rattle.memory.specs.Ready.{ReadyCounted};
 ghost use Rattle.plans.specs.Plans.{plan, entryBy, Blocks, PlansCommand, PlansTurn, IdlesAtEnd, PlansReady};
 use command::instruction::Fetched;
@@ -68,6 +69,17 @@ fn planned(registers: Registers, change: Change, outcome: Outcome, ready: u32) -
         change: change,
         outcome: outcome,
         ready: ready,
+    }
+}
+
+// Registers with a position, accumulator 0 and a message.
+fn registers_at(position: u32, message: u32) -> Registers
+    ensures { λ r. ⌜ r ≡ registers position 0 message ⌝ }
+{
+    Registers {
+        position: position,
+        accumulator: 0,
+        message: message,
     }
 }
 
@@ -152,11 +164,7 @@ pub fn plan_turn<'a>(
             return planned(registers, Change::Nothing, unready, ready);
         }
         let entry = make_entry(n, Event::Begin(sender, oldest));
-        let begun = Registers {
-            position: 0,
-            accumulator: 0,
-            message: oldest,
-        };
+        let begun = registers_at(0, oldest);
         return planned(begun, Change::Take, Outcome::Made(entry), ready);
     }
     match fetched {
@@ -175,11 +183,7 @@ pub fn plan_turn<'a>(
         }
         Fetched::End => {
             let entry = make_entry(n, Event::Finish);
-            let idle = Registers {
-                position: IDLE,
-                accumulator: 0,
-                message: 0,
-            };
+            let idle = registers_at(IDLE, 0);
             if waiting[i] == 0 {
                 return planned(idle, Change::Nothing, Outcome::Made(entry), ready - 1);
             }

@@ -35,20 +35,24 @@ returns c =
 make-entry-requires : tie.Need-make-entry-requires
 make-entry-requires c κs = search needs
 
+registers-at-requires : tie.Need-registers-at-requires
+registers-at-requires c κs = search needs
+
 planned-requires-2 : tie.Need-planned-requires-2
 planned-requires-2 c κs = search needs
 
 returns-2 : tie.Need-returns-2
 returns-2 c =
-    let z = c .before .before .before .before .before .before .before .before .before in
+    let q = c .before in
+    let z = q .before .before .before .before .before .before .before .before .before in
     let a = z .args in (
-      λ hs s h counts first fetches. rw (c .planned2 .ensures, c .before .make-entry .ensures)
+      λ hs s h counts first fetches. rw (c .planned2 .ensures, q .registers-at .ensures, q .before .make-entry .ensures)
           (begun-planned (programIn (now (a .tables)) hs) s (a .n) (a .monitored) (a .registers) (h .own)
-          (c .before .before .before .before .if1 .taken)
-          (λ e. c .before .before .if2 .left (sym (counts (a .n .0)) ∙ e)) (messageFrom (a .sender) (a .oldest))
-          (first (omega (arith, counts (a .n .0), c .before .before .if2 .left))) _),
-      λ ends. rw (c .planned2 .ensures)
-          (ready-begun _ _ _ _ _ (z .pre .1 .0) 0 (λ e. omega arith) (c .before .before .if2 .left)),
+          (q .before .before .before .before .if1 .taken)
+          (λ e. q .before .before .if2 .left (sym (counts (a .n .0)) ∙ e)) (messageFrom (a .sender) (a .oldest))
+          (first (omega (arith, counts (a .n .0), q .before .before .if2 .left))) _),
+      λ ends. rw (c .planned2 .ensures, q .registers-at .ensures)
+          (ready-begun _ _ _ _ _ (z .pre .1 .0) 0 (λ e. omega arith) (q .before .before .if2 .left)),
     )
 
 enum-known-fetched : tie.Need-enum-known-fetched
@@ -67,13 +71,16 @@ enum-told c = search needs
 make-entry-requires-2 : tie.Need-make-entry-requires-2
 make-entry-requires-2 c κs = search needs
 
+registers-at-requires-2 : tie.Need-registers-at-requires-2
+registers-at-requires-2 c κs = search needs
+
 element-copy-out-if3 : tie.Need-element-copy-out-if3
 element-copy-out-if3 c = search needs
 
 sub-planned : tie.Need-sub-planned
 sub-planned c =
-    let z = c .before .before .before .before .before .before .before .before .before .before in
-    ready-less _ _ _ _ _ (z .pre .1 .0) (λ e. c .before .before .before .before .before .if1 .left (z .pre .1 .1 ∙ e)) (c .if3 .taken) .0
+    let z = c .before .before .before .before .before .before .before .before .before .before .before in
+    ready-less _ _ _ _ _ (z .pre .1 .0) (λ e. c .before .before .before .before .before .before .if1 .left (z .pre .1 .1 ∙ e)) (c .if3 .taken) .0
 
 planned-requires-3 : tie.Need-planned-requires-3
 planned-requires-3 c κs = search needs
@@ -81,14 +88,14 @@ planned-requires-3 c κs = search needs
 returns-3 : tie.Need-returns-3
 unfolding programIn
 returns-3 c =
-    let z = c .before .before .before .before .before .before .before .before .before .before .before in
+    let z = c .before .before .before .before .before .before .before .before .before .before .before .before in
     let a = z .args in
-    let busy = c .before .before .before .before .before .before .if1 .left in (
-      λ hs s h counts first fetches. rw (c .planned3 .ensures, c .before .before .before .make-entry2 .ensures)
+    let busy = c .before .before .before .before .before .before .before .if1 .left in (
+      λ hs s h counts first fetches. rw (c .planned3 .ensures, c .before .before .before .registers-at2 .ensures, c .before .before .before .before .make-entry2 .ensures)
           (finished-planned (programIn (now (a .tables)) hs) s (a .n) (a .monitored) (a .registers) (h .own) busy
           (after-command (hs (a .n .0)) (a .registers .position)
-          (sym (ap fetchedOf (c .before .before .before .before .enum-told .given .1)) ∙ fetches)) _),
-      λ ends. rw (c .planned3 .ensures)
+          (sym (ap fetchedOf (c .before .before .before .before .before .enum-told .given .1)) ∙ fetches)) _),
+      λ ends. rw (c .planned3 .ensures, c .before .before .before .registers-at2 .ensures)
           (ready-less _ _ _ _ _ (z .pre .1 .0) (λ e. busy (z .pre .1 .1 ∙ e)) (c .before .if3 .taken) .1),
     )
 
@@ -112,14 +119,14 @@ returns-4 c =
 returns-5 : tie.Need-returns-5
 unfolding programIn
 returns-5 c =
-    let z = c .before .before .before .before .before .before .before .before .before .before .before in
+    let z = c .before .before .before .before .before .before .before .before .before .before .before .before in
     let a = z .args in
-    let busy = c .before .before .before .before .before .before .if1 .left in (
-      λ hs s h counts first fetches. rw (c .planned4 .ensures, c .before .before .before .make-entry2 .ensures)
+    let busy = c .before .before .before .before .before .before .before .if1 .left in (
+      λ hs s h counts first fetches. rw (c .planned4 .ensures, c .before .before .before .registers-at2 .ensures, c .before .before .before .before .make-entry2 .ensures)
           (finished-planned (programIn (now (a .tables)) hs) s (a .n) (a .monitored) (a .registers) (h .own) busy
           (after-command (hs (a .n .0)) (a .registers .position)
-          (sym (ap fetchedOf (c .before .before .before .before .enum-told .given .1)) ∙ fetches)) _),
-      λ ends. rw (c .planned4 .ensures)
+          (sym (ap fetchedOf (c .before .before .before .before .before .enum-told .given .1)) ∙ fetches)) _),
+      λ ends. rw (c .planned4 .ensures, c .before .before .before .registers-at2 .ensures)
           (ready-same _ _ _ _ _ (z .pre .1 .0) (λ e. busy (z .pre .1 .1 ∙ e)) (c .before .if3 .left)),
     )
 
@@ -132,12 +139,14 @@ plan-turn-spec =
     planned-requires
     returns
     make-entry-requires
+    registers-at-requires
     planned-requires-2
     returns-2
     enum-known-fetched
     decide-requires
     enum-told
     make-entry-requires-2
+    registers-at-requires-2
     element-copy-out-if3
     sub-planned
     planned-requires-3
