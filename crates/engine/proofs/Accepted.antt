@@ -35,7 +35,7 @@ use Rattle.memory.specs.Ready.{Among}
 use Rattle.engine.specs.declared.State.{State}
 use Rattle.engine.specs.declared.Turned.{Turned}
 use Rattle.engine.specs.Engine.{view, CountsReady, Turns}
-use Rattle.engine.specs.Accepted.{Led, started, turned, EngineHolds}
+use Rattle.engine.specs.Accepted.{Led, atStart, afterTurn, EngineHolds}
 
 -- what a completed turn keeps, a stopped one keeps too
 kept-after : (Q : Meant → Type 0) (s : Meant) → Q s → (t : Rule) → Keeps Q t → Q (stateAfter s t)
@@ -100,9 +100,9 @@ module _ (job t w : List ℕ) (past : List Command) (e : decodeJob job ≡ accep
 
     -- a state that the engine leads to: its positions are inside their handlers, and the ready count is that of the state
     kept : (s : State) → Led job t work (P .nodes) s → Placed P (view s) × CountsReady t s
-    kept s (started _ h) =
+    kept s (atStart _ h) =
         (subst (Placed P) (sym (h .start (handlersIn job t work) ∙ ap initialState (p .program))) (initial-placed P), h .ready)
-    kept _ (turned s led fetched n monitored x inside f h) =
+    kept _ (afterTurn s led fetched n monitored x inside f h) =
         let before = kept s led in
         let jumps = program-jumps past valid in
         let leaves = comes-by s fetched n monitored x f h .leaves in (

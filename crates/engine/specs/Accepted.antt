@@ -25,8 +25,8 @@ use Rattle.engine.specs.Engine.{view, Starts, Turns}
 -- the states that the engine leads to: what `start` gives, and what `turn` gives for one of so many nodes, by what stands in its handler at
 -- its position, completed or stopped, monitored ("watched") or not ("bare")
 pub data Led (job t w : List ℕ) (nodes : ℕ) : State → Type 0 where
-  started : (s : State) → Starts t s → Led job t w nodes s
-  turned :
+  atStart : (s : State) → Starts t s → Led job t w nodes s
+  afterTurn :
       (s : State) → Led job t w nodes s → (fetched : Fetched) (n : ℕ) (monitored : Bool) (x : Turned) → n < nodes
       → fetchedOf fetched ≡ commandIn (handlersIn job t w n) (positionAt (view s) n) → Turns t fetched n monitored s x
       → Led job t w nodes (x .state)

@@ -30,13 +30,13 @@ abbrev pub ChoicesHold : Type 0
 ChoicesHold = (nodes from : ℕ) (s : State) → Chooses nodes from s (choose nodes from s)
 
 -- the ready count tells whether anybody is chosen (S-4): nobody is exactly if it is 0; and it is at most the number of nodes
-pub record Counts (nodes from : ℕ) (s : State) : Type 0 where
+pub record CountTells (nodes from : ℕ) (s : State) : Type 0 where
   pub tells : (choose nodes from s ≡ nobody 0) ↔ (readyCount nodes s ≡ 0)
   pub most : readyCount nodes s ≤ nodes
 
 -- in every state, going round from every number that a choice goes round from
 abbrev pub ReadyCountHolds : Type 0
-ReadyCountHolds = (nodes from : ℕ) (s : State) → from ≤ nodes → Counts nodes from s
+ReadyCountHolds = (nodes from : ℕ) (s : State) → from ≤ nodes → CountTells nodes from s
 
 -- a dispatched run as the run of written turns has it: its turns ran out where nobody was ready
 abbrev pub writtenOut : Run → Run

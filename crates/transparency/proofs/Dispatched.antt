@@ -106,7 +106,7 @@ module _ (P : Program) (d : Dispatched) (c : DispatchCall) (g : Hands (handed P 
       mul-le-mul-left (P .nodes) (chosen-few (d .choices)),
       mul-le-mul-left (P .nodes) (goes .examines .number),
     );
-    fruitless = λ x e four.
+    turnsOnly = λ x e four.
         let told = sym (g .gives .told) ∙ e in
         let all = goes .nobodyStopped (ap stopIn told ∙ four) ∙ ap turnsIn told in
         omega (arith, rw all at (goes .examines .total));

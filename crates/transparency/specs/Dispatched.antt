@@ -101,7 +101,7 @@ pub record DispatchTells (Stops : ℕ → Type 0) (P : Program) (budget : ℕ) (
   -- at most all nodes are examined for each choice, of which there is at most one a turn of the budget
   pub few : c .examined ≤ P .nodes * budget
   -- none are for the fruitless choice of a run that ends by stop 4 (S-4), so that only its turns count
-  pub fruitless : (x : Answer) → c .call .told ≡ answer x → x .stop ≡ 4 → c .examined ≤ P .nodes * x .turns
+  pub turnsOnly : (x : Answer) → c .call .told ≡ answer x → x .stop ≡ 4 → c .examined ≤ P .nodes * x .turns
   -- nobody waits longer than a round, as the trace's bytes show: entry j begins at byte 7 * j, with its node
   pub fair : (x : Answer) → c .call .told ≡ answer x
       → (k node : ℕ) → node < P .nodes → ready (stateAt (d .run) k) node ≡ true → k + P .nodes ≤ x .turns

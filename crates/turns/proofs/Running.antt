@@ -42,7 +42,7 @@ use Rattle.entries.specs.Entries.{numbersOf, stopNumber, attemptedBy, turnedBy,
 use Rattle.engine.specs.declared.State.{State}
 use Rattle.engine.specs.declared.Turned.{Turned}
 use Rattle.engine.specs.Engine.{view, CountsWaiting, CountsReady, Starts, Turns}
-use Rattle.engine.specs.Accepted.{Led, started, turned as led-turned, EngineMeets}
+use Rattle.engine.specs.Accepted.{Led, atStart, afterTurn, EngineMeets}
 use Rattle.engine.proofs.Accepted.{engine-holds}
 use Rattle.writing.specs.Writing.{Writes}
 use Rattle.writing.proofs.Placing.{writes-on, writes-nothing, placed-front}
@@ -165,7 +165,7 @@ module _ (schedule : Schedule) (monitored : Bool) (job t w : List ℕ) (ready : 
         size = refl;
         bounded = h .bounded;
         counts = h .counts;
-        led = started s h;
+        led = atStart s h;
         senders = subst NarrowSenders (sym e) (initial-narrow P);
       }
 
@@ -302,7 +302,7 @@ module _ (schedule : Schedule) (monitored : Bool) (job t w : List ℕ) (ready : 
                 size = same ∙ u .size;
                 bounded = turns .bounded;
                 counts = turns .counts;
-                led = led-turned s (u .led) fetched n monitored turned (bounds .0) at-position turns;
+                led = afterTurn s (u .led) fetched n monitored turned (bounds .0) at-position turns;
                 senders = rw (← completes) at (rule-senders past (valid .commands) (view s) (u .senders) n
                     (omega (arith, node-inside)) monitored);
               }
