@@ -16,7 +16,7 @@ abbrev pub bit : Bool → ℕ
 bit b = cond b 1 0
 
 -- one number more
-count-suc : (test : ℕ → Bool) (k : ℕ) → countBelow test (suc k) ≡ countBelow test k + bit (test k)
+pub count-suc : (test : ℕ → Bool) (k : ℕ) → countBelow test (suc k) ≡ countBelow test k + bit (test k)
 unfolding countBelow
 count-suc test k = by-test (test k)
   where

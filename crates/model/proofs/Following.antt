@@ -1,15 +1,16 @@
 -- Every run follows its rule for one turn: the proof of `Demand2` for every program and all turns.
 use Prim.Native.Nat.{ℕ, zero, suc, _<_, zero-le, suc-le-suc}
-use mathlib.Core.Path.{_≡_, refl, sym, ap, _∙_}
+use mathlib.Core.Path.{_≡_, refl, sym, ap, subst, _∙_}
 use mathlib.Core.Logic.{_⊎_, inl, inr}
 use mathlib.Core.List.{List, [], _∷_}
 use native.Mathlib.Omega.{arith}
+use native.Mathlib.Decide.{decLt}
 use native.Mathlib.Nat.{not-suc-le-zero, le-of-suc-le-suc}
-use lib.ListN.{length, getD}
+use lib.ListN.{length, getD, length-map, List·getD-eq-default}
 use Rattle.model.specs.State.{State, initialState}
-use Rattle.model.specs.Turn.{Entry, Turned, completed, stopped, turn}
+use Rattle.model.specs.Turn.{Entry, entry, Turned, completed, stopped, turn}
 use Rattle.model.specs.Permission.{monitoredTurn}
-use Rattle.model.specs.Run.{Run, after, proceed, runFrom, entryAt, stateAt, monitoredRun, unmonitoredRun}
+use Rattle.model.specs.Run.{Step, Run, after, proceed, runFrom, entriesOf, statesOf, entryAt, stateAt, monitoredRun, unmonitoredRun}
 use Rattle.model.specs.Following.{RanOut, Halted, Follows, Demand2Holds}
 use Rattle.model.proofs.Stops.{StopsBy, turn-stops, monitored-stops}
 
@@ -61,3 +62,25 @@ demand2 P turns =
       monitoredFollows = follows (monitoredTurn P) (monitored-stops (λ k. ¬ (k ≡ 0)) (λ h. omega arith) (λ h. omega arith)
           (λ h. omega arith) P) turns (initialState P);
     }
+
+-- after the completed turns: no entry, and the last state
+module _ (r : Run) (k : ℕ) (beyond : ¬ (k < length (r .steps))) where
+  pub no-entry : entryAt r k ≡ entry 0 0 0 0
+  no-entry = List·getD-eq-default (entriesOf (r .steps)) (entry 0 0 0 0) (omega (arith, length-map (r .steps) (λ (t : Step). t .made)))
+
+  pub last-state : stateAt r k ≡ r .final
+  last-state = List·getD-eq-default (statesOf (r .steps)) (r .final) (omega (arith, length-map (r .steps) (λ (t : Step). t .before)))
+
+-- what holds of the first state, goes on with each completed turn, and stays after them, holds at any time
+module _ {rule : State → ℕ → Turned} {turns : List ℕ} {start : State} {r : Run} (goes : Follows rule turns start r) where
+  pub at-each :
+      (Q : ℕ → State → Type 0) → Q 0 start → ((k : ℕ) (s : State) → ¬ (k < length (r .steps)) → Q k s → Q (suc k) s)
+      → ((k : ℕ) → k < length (r .steps) → Q k (stateAt r k) → Q (suc k) (stateAt r (suc k)))
+      → (k : ℕ) → Q k (stateAt r k)
+  at-each Q first stays next zero = subst (Q 0) (sym (goes .begins)) first
+  at-each Q first stays next (suc k) = by-place (decLt k (length (r .steps))) (at-each Q first stays next k)
+    where
+      by-place : Dec (k < length (r .steps)) → Q k (stateAt r k) → Q (suc k) (stateAt r (suc k))
+      by-place (yes h) q = next k h q
+      by-place (no h) q =
+          stays k (stateAt r (suc k)) h (subst (Q k) (last-state r k h ∙ sym (last-state r (suc k) (λ i. h (omega arith)))) q)

@@ -1,24 +1,24 @@
 -- Where messages come from (S-11).
-use Prim.Native.Nat.{ℕ, zero, suc, _≤_, _<_}
+use Prim.Native.Nat.{ℕ, suc, _≤_, _<_}
 use mathlib.Core.Path.{_≡_, refl, sym, ap, subst, _∙_}
 use mathlib.Core.Bool.{true}
 use mathlib.Core.List.{List}
 use mathlib.Core.Logic.{_⊎_, inl, inr, ⊎-elim}
 use native.Mathlib.Omega.{arith}
 use native.Mathlib.Decide.{decLt}
-use lib.ListN.{length, getD, length-map, List·getD-eq-default}
+use lib.ListN.{length, getD}
 use Rattle.model.specs.Declared.{turnsOf}
 use Rattle.model.specs.Program.{Program, programOf}
 use Rattle.model.specs.State.{Message, messageFrom, State, positionAt, accumulatorAt, waitingAt}
 use Rattle.model.specs.State.{EachWaiting, initialState}
 use Rattle.model.specs.Turn.{Entry, entry, Turned, oldest, instructionAt, turn}
 use Rattle.model.specs.Permission.{monitoredTurn}
-use Rattle.model.specs.Run.{Step, Run, statesOf, entriesOf, entryAt, stateAt, monitoredRun, unmonitoredRun}
+use Rattle.model.specs.Run.{Run, entryAt, stateAt, monitoredRun, unmonitoredRun}
 use Rattle.model.specs.Following.{RanOut, Halted, Follows}
 use Rattle.model.specs.Senders.{SentBy, ComesFrom, takenBy, Accounted, OriginsHold, HasSender, Attributed, SendersHold}
 use Rattle.model.proofs.Ways.{Makes, left-by, turn-by, monitored-by}
 use Rattle.model.proofs.Messages.{Moves, each-first, turn-moves, monitored-moves}
-use Rattle.model.proofs.Following.{demand2}
+use Rattle.model.proofs.Following.{demand2, no-entry, at-each}
 use Rattle.model.proofs.Naming.{turns-inside}
 use Rattle.model.proofs.Valid.{reads-valid}
 
@@ -44,30 +44,12 @@ module _
     → Moves Q (rule s n))
     (turns : List ℕ) (r : Run) (follows : Follows rule turns (initialState P) r)
   where
-    -- at the start, after each completed turn, and then no more: so at any time
-    at-each :
-        (Q : ℕ → State → Type 0) → Q 0 (initialState P) → ((k : ℕ) (s : State) → Q k s → Q (suc k) s)
-        → ((k : ℕ) → k < length (r .steps) → Q k (stateAt r k) → Q (suc k) (stateAt r (suc k)))
-        → (k : ℕ) → Q k (stateAt r k)
-    at-each Q first stays next zero = subst (Q 0) (sym (follows .begins)) first
-    at-each Q first stays next (suc k) = by-place (decLt k (length (r .steps))) (at-each Q first stays next k)
-      where
-        size : length (statesOf (r .steps)) ≡ length (r .steps)
-        size = length-map (r .steps) (λ (t : Step). t .before)
-
-        by-place : Dec (k < length (r .steps)) → Q k (stateAt r k) → Q (suc k) (stateAt r (suc k))
-        by-place (yes h) q = next k h q
-        by-place (no h) q =
-            let here : stateAt r k ≡ r .final = List·getD-eq-default (statesOf (r .steps)) (r .final) (omega (arith, size)) in
-            let there : stateAt r (suc k) ≡ r .final = List·getD-eq-default (statesOf (r .steps)) (r .final) (omega (arith, size)) in
-            stays k (stateAt r (suc k)) (subst (Q k) (here ∙ sym there) q)
-
     later : (k : ℕ) (n : ℕ) (m : Message) → ComesFrom P r k n m → ComesFrom P r (suc k) n m
     later k n m = ⊎-elim inl (λ b. inr (record { turn = b .turn; earlier = omega (arith, b .earlier); sent = b .sent }))
 
     all-waiting : (k : ℕ) → EachWaiting (ComesFrom P r k) (stateAt r k .queue)
     all-waiting =
-        at-each (λ k s. EachWaiting (ComesFrom P r k) (s .queue)) start (λ k s q n i l. later k n _ (q n i l)) next
+        at-each follows (λ k s. EachWaiting (ComesFrom P r k) (s .queue)) start (λ k s h q n i l. later k n _ (q n i l)) next
       where
         start : EachWaiting (ComesFrom P r 0) (initialState P .queue)
         start = each-first (ComesFrom P r 0) P (λ n i h. inl (record { place = i; inside = h; same = refl }))
@@ -88,14 +70,10 @@ module _
     completed-one : (k : ℕ) → entryAt r k .kind ≡ 1 → k < length (r .steps)
     completed-one k e = by-place (decLt k (length (r .steps)))
       where
-        size : length (entriesOf (r .steps)) ≡ length (r .steps)
-        size = length-map (r .steps) (λ (t : Step). t .made)
-
         by-place : Dec (k < length (r .steps)) → k < length (r .steps)
         by-place (yes h) = h
         by-place (no h) =
-            let none : entryAt r k ≡ entry 0 0 0 0 = List·getD-eq-default (entriesOf (r .steps)) (entry 0 0 0 0) (omega (arith, size)) in
-            let kind : _≡_ {A = ℕ} 0 1 = sym (ap (λ (x : Entry). x .kind) none) ∙ e in
+            let kind : _≡_ {A = ℕ} 0 1 = sym (ap (λ (x : Entry). x .kind) (no-entry r k h)) ∙ e in
             absurd (omega arith)
 
     module _ (takes : (s : State) (n : ℕ) → Makes (Takes s) (rule s n)) where
@@ -131,7 +109,9 @@ module _
               (λ port t w. inr (record { isNode = inside k (omega (arith, few)); port = port; wired = w })))
 
           known : (k : ℕ) → EachWaiting (HasSender P) (stateAt r k .queue)
-          known = at-each (λ k s. EachWaiting (HasSender P) (s .queue)) (each-first (HasSender P) P (λ n i h. inl refl)) (λ k s q. q) next
+          known =
+              at-each follows (λ k s. EachWaiting (HasSender P) (s .queue)) (each-first (HasSender P) P (λ n i h. inl refl))
+              (λ k s h q. q) next
 
 pub origins-hold : OriginsHold
 origins-hold P turns = (

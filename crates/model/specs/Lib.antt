@@ -32,6 +32,8 @@ pub mod Parts
 pub mod Replies
 pub mod Senders
 pub mod Spans
+pub mod Tally
+pub mod TallyExamples
 pub mod WorkSize
 -- what holds of accepted jobs and of states, for proofs about code
 pub mod Valid
