@@ -5,7 +5,7 @@ use mathlib.Core.List.{List, map}
 use native.Mathlib.Omega.{arith}
 use lib.ListN.{length, getD}
 use lib.Seq.{ext-getD}
-use Rattle.model.specs.Table.{FLOW, NODE, VAR, FUN, TURN}
+use Rattle.model.specs.Table.{TURN}
 use Rattle.model.specs.Command.{Command}
 use Rattle.model.specs.Declared.{instruction, countOf, handlerOf}
 use Rattle.model.specs.Program.{programOf}
@@ -13,7 +13,6 @@ use Rattle.model.specs.State.{tabulate}
 use Rattle.model.specs.Turn.{instructionAt}
 use Rattle.model.proofs.Lists.{length-tabulate, getD-tabulate}
 use Rattle.model.proofs.Growth.{length-handler, length-turns}
-use Rattle.model.proofs.Program.{agree}
 use Rattle.model.proofs.Valid.{job-accepted, reads-valid}
 use Rattle.model.proofs.Walking.{PassedEight}
 use Rattle.command.specs.Instructions.{instructionFrom}
@@ -23,6 +22,7 @@ use Rattle.handlers.specs.Loading.{placesOf, placeIn, slotIn, handlersIn, loade
 use Rattle.handlers.proofs.Slots.{length-loaded, length-places, place-loaded, beyond-loaded}
 use Rattle.handlers.proofs.Fetched.{places-read, fetched-loaded}
 use Rattle.tables.specs.Programs.{programIn}
+use Rattle.tables.proofs.Standing.{program-stands}
 use Rattle.job.specs.Prepared.{PreparedHolds}
 use Rattle.job.proofs.LastTurns.{turn-at}
 
@@ -40,26 +40,7 @@ module _ (job t w : List ℕ) (past : List Command) (s : Stands t past) (size : 
       getD-tabulate (lengthIn t n) i (slotIn job (loaded w past) n) (instruction 0 0) l ∙ fetched-loaded w size short (passed .reads) n i (omega arith))
 
   pub same-program : programIn t (handlersIn job t (loaded w past)) ≡ programOf past
-  unfolding programIn programOf
-  same-program =
-      agree (programIn t (handlersIn job t (loaded w past))) (programOf past)
-      (record {
-        flows = s .counts FLOW (omega arith);
-        nodes = s .counts NODE (omega arith);
-        variables = s .counts VAR (omega arith);
-        functions = s .counts FUN (omega arith);
-        flow = s .flow;
-        scope = s .scope;
-        owner = s .owner;
-        startValue = s .startValue;
-        answer = λ f argument. rw (s .replies f argument, s .funAnswer f);
-        wired = s .wires;
-        mayCall = λ n f argument. rw (s .anys n f, s .calls n f argument);
-        mayRead = s .reads;
-        mayWrite = s .writes;
-        handler = same-handler;
-        firstMessages = s .firsts;
-      })
+  same-program = program-stands t past s (handlersIn job t (loaded w past)) same-handler
 
   same-fetched : (n i : ℕ) → i < length (programOf past .handler n) → slotIn job (loaded w past) n i ≡ instructionAt (programOf past) n i
   unfolding programOf

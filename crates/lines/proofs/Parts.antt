@@ -4,10 +4,9 @@ use mathlib.Core.Path.{_≡_, refl, ap}
 use mathlib.Core.List.{List, _++_}
 use native.Mathlib.Omega.{arith}
 use lib.ListN.{length}
-use Rattle.text.specs.Text.{joined}
-use Rattle.text.proofs.Putting.{Put, all-put, front-room, back-room, two-put, room-first, room-second, room-third, three-put}
+use Rattle.writing.specs.Writing.{joined, Writes}
+use Rattle.writing.proofs.Putting.{Put, all-put, front-room, back-room, two-put, room-first, room-second, room-third, three-put}
 use Rattle.model.specs.Output.{Answer}
-use Rattle.writing.specs.Writing.{Writes}
 use Rattle.output.specs.Finding.{nextPart, partAt}
 use Rattle.output.proofs.Finding.{part-next}
 use Rattle.lines.specs.Lines.{entryLine, endLine, partLine, variableLine, nodeLines, snapshotLines, runLines}

@@ -4,10 +4,11 @@ use mathlib.Core.Path.{_≡_, sym, ap, _∙_}
 use mathlib.Core.List.{List, [], _∷_, _++_, append-assoc}
 use native.Mathlib.Omega.{arith}
 use lib.ListN.{length}
-use Rattle.text.specs.Text.{decimal, fields, line, joined}
-use Rattle.text.proofs.Putting.{fields-append, fields-joined, front-room, back-room, two-put, room-first, room-second, room-third, three-put}
+use Rattle.text.specs.Text.{decimal, fields, line}
+use Rattle.writing.specs.Writing.{joined, Writes}
+use Rattle.writing.proofs.Putting.{front-room, back-room, two-put, room-first, room-second, room-third, three-put}
+use Rattle.text.proofs.Putting.{fields-append, fields-joined}
 use Rattle.model.specs.Command.{numberAt}
-use Rattle.writing.specs.Writing.{Writes}
 use Rattle.output.specs.Finding.{waitingIn, partAt}
 use Rattle.lines.specs.Lines.{nodeWord, varWord, entryLine, messageIn, messagesAt, nodeLine, partLine, variableLine}
 

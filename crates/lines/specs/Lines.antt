@@ -1,10 +1,11 @@
 -- The lines that a run prints ("Jobs worked by hand"), by the bytes that it left.
 use Prim.Native.Nat.{ℕ, _+_, _*_}
 use mathlib.Core.List.{List, [], _∷_, _++_}
-use Rattle.text.specs.Text.{decimal, line, joined}
+use Rattle.text.specs.Text.{decimal, line}
+use Rattle.writing.specs.Writing.{joined}
 use Rattle.model.specs.Command.{numberAt}
 use Rattle.model.specs.Output.{Answer}
-use Rattle.output.specs.Finding.{waitingIn, partAt}
+use Rattle.output.specs.Finding.{entryFrom, waitingIn, partAt}
 
 -- the words `end`, `node`, `var`, `refused` and `examined`
 abbrev pub endWord : List ℕ
@@ -22,11 +23,11 @@ refusedWord = 114 ∷ 101 ∷ 102 ∷ 117 ∷ 115 ∷ 101 ∷ 100 ∷ []
 abbrev pub examinedWord : List ℕ
 examinedWord = 101 ∷ 120 ∷ 97 ∷ 109 ∷ 105 ∷ 110 ∷ 101 ∷ 100 ∷ []
 
--- entry k of the trace, 7 bytes an entry: node, kind, number, value
+-- entry k of the trace: node, kind, number, value
 unfoldable pub entryLine : List ℕ → ℕ → List ℕ
 entryLine trace k =
-    line (decimal (numberAt trace (7 * k) 1))
-    (numberAt trace (7 * k + 1) 1 ∷ numberAt trace (7 * k + 2) 1 ∷ numberAt trace (7 * k + 3) 4 ∷ [])
+    let e = entryFrom trace k in
+    line (decimal (e .node)) (e .kind ∷ e .number ∷ e .value ∷ [])
 
 -- `end`, stop, turns, attempted entry
 unfoldable pub endLine : Answer → List ℕ

@@ -2,8 +2,8 @@
 ghost use mathlib.Core.Path.{_≡_};
 ghost use Prim.Native.Nat.{_+_, _*_, _≤_};
 ghost use lib.ListN.{length};
-ghost use Rattle.writing.specs.Writing.{Writes};
-ghost use Rattle.text.specs.Text.{fields, joined};
+ghost use Rattle.writing.specs.Writing.{Writes, joined};
+ghost use Rattle.text.specs.Text.{fields};
 ghost use Rattle.output.specs.Finding.{nextPart, partAt};
 ghost use Rattle.lines.specs.Lines.{messagesAt, partLine, variableLine, snapshotLines};
 use command::read::operand;

@@ -1,8 +1,7 @@
 // The lines of the entries of a trace.
 ghost use Prim.Native.Nat.{_+_, _*_, _≤_};
 ghost use lib.ListN.{length};
-ghost use Rattle.writing.specs.Writing.{Writes};
-ghost use Rattle.text.specs.Text.{joined};
+ghost use Rattle.writing.specs.Writing.{Writes, joined};
 ghost use Rattle.lines.specs.Lines.{entryLine};
 use command::read::operand;
 use text::put_decimal;

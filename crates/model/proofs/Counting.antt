@@ -24,7 +24,7 @@ count-suc test k = by-test (test k)
     by-test true = refl
     by-test false = omega arith
 
-count-next : (test : ℕ → Bool) (k : ℕ) → countBelow test (k + 1) ≡ countBelow test k + bit (test k)
+pub count-next : (test : ℕ → Bool) (k : ℕ) → countBelow test (k + 1) ≡ countBelow test k + bit (test k)
 count-next test k = rw (add-one k) (count-suc test k)
 
 pub count-passes : (test : ℕ → Bool) (k count : ℕ) → count ≡ countBelow test k → test k ≡ true → count + 1 ≡ countBelow test (k + 1)

@@ -1,11 +1,12 @@
 -- Where the parts of a snapshot begin, by its bytes.
-use Prim.Native.Nat.{ℕ, zero, suc, _+_, _-_, _*_}
+use Prim.Native.Nat.{ℕ, zero, suc, _+_, _-_, _*_, _<_}
 use mathlib.Core.Path.{_≡_, refl, ap, _∙_}
 use mathlib.Core.List.{List, _++_, append-assoc}
 use native.Mathlib.Numerals.{add-one}
 use native.Mathlib.Omega.{arith}
 use lib.ListN.{getD}
 use lib.Seq.{getD-append-add}
+use Rattle.model.specs.Program.{Program}
 use Rattle.model.specs.State.{State, waitingAt}
 use Rattle.model.specs.Output.{nodeBytes, nodesBytes, partStart, variablesBytes, snapshotBytes}
 use Rattle.model.proofs.Bounds.{length-node}
@@ -47,3 +48,13 @@ parts-found P s rest n h =
     ap (λ (l : List ℕ). partAt l n) (append-assoc (nodesBytes s (P .nodes)) (variablesBytes s (P .variables)) rest)
     ∙ with-more s (λ l. partAt l n) (partStart s n) n (parts-of s n) (P .nodes - n) (P .nodes) (variablesBytes s (P .variables) ++ rest)
     (omega arith)
+
+-- the byte that tells how many messages wait at node n
+pub waiting-found : (P : Program) (s : State) (rest : List ℕ) (n : ℕ) → n < P .nodes
+    → waitingIn (snapshotBytes P s ++ rest) (partAt (snapshotBytes P s ++ rest) n) ≡ waitingAt s n
+unfolding partAt
+waiting-found P s rest n h =
+    let all = snapshotBytes P s ++ rest in
+    let here = parts-found P s rest n (omega arith) in
+    let next : nextPart all (partAt all n) ≡ partStart s (suc n) = parts-found P s rest (suc n) (omega arith) in
+    omega (arith, here, next, start-next s n, length-node s n)

@@ -1,11 +1,17 @@
--- A snapshot ("end picture") read part by part (S-3).
+-- A trace read entry by entry, and a snapshot ("end picture") read part by part (S-3).
 use Prim.Native.Nat.{ℕ, zero, suc, _+_, _*_, _≤_}
 use mathlib.Core.Path.{_≡_}
 use mathlib.Core.List.{List, _++_}
 use Rattle.model.specs.Program.{Program}
 use Rattle.model.specs.State.{State}
+use Rattle.model.specs.Turn.{Entry, entry}
 use Rattle.model.specs.Command.{numberAt}
 use Rattle.model.specs.Output.{partStart, snapshotBytes}
+
+-- entry k of a trace, 7 bytes an entry: node, kind, number, value
+abbrev pub entryFrom : List ℕ → ℕ → Entry
+entryFrom trace k =
+    entry (numberAt trace (7 * k) 1) (numberAt trace (7 * k + 1) 1) (numberAt trace (7 * k + 2) 1) (numberAt trace (7 * k + 3) 4)
 
 -- how many messages wait at the node whose part begins at a place of the snapshot
 abbrev pub waitingIn : List ℕ → ℕ → ℕ

@@ -3,31 +3,17 @@ use Prim.Native.Nat.{ℕ, zero, suc, _+_, _*_, _≤_, _<_}
 use mathlib.Core.Path.{_≡_, refl, ap, ap₂, _∙_}
 use mathlib.Core.List.{List, [], _∷_, _++_}
 use native.Mathlib.Omega.{arith}
-use lib.ListN.{length, getD, List·getD-append}
-use Rattle.text.specs.Text.{joined}
+use lib.ListN.{length}
+use Rattle.writing.specs.Writing.{joined}
+use Rattle.writing.proofs.Putting.{same-first}
 use Rattle.output.specs.Finding.{waitingIn, nextPart, partAt}
+use Rattle.output.proofs.Rereading.{number-front}
 use Rattle.lines.specs.Lines.{entryLine, messageIn, messagesAt, nodeLine, partLine, variableLine, nodeLines}
 use Rattle.lines.specs.Lines.{snapshotLines, runLines}
 use Rattle.lines.proofs.Parts.{part-inside}
-use Rattle.model.specs.Command.{numberAt}
 use Rattle.model.specs.Output.{Answer}
 
--- texts that are the same one by one
-pub same-first : (f g : ℕ → List ℕ) (n : ℕ) → ((k : ℕ) → k < n → f k ≡ g k) → joined f n ≡ joined g n
-unfolding joined
-same-first f g zero same = refl
-same-first f g (suc n) same =
-    ap (λ (l : List ℕ). l ++ f n) (same-first f g n (λ k h. same k (omega arith)))
-    ∙ ap (λ (l : List ℕ). joined g n ++ l) (same n (omega arith))
-
 module _ (xs ys : List ℕ) where
-  pub number-front : (at w : ℕ) → at + w ≤ length xs → numberAt (xs ++ ys) at w ≡ numberAt xs at w
-  unfolding numberAt
-  number-front at zero h = refl
-  number-front at (suc w) h =
-      ap (λ (b : ℕ). b + 256 * numberAt (xs ++ ys) (at + 1) w) (List·getD-append xs ys 0 at (omega arith))
-      ∙ ap (λ (n : ℕ). getD xs at 0 + 256 * n) (number-front (at + 1) w (omega arith))
-
   -- the trace
   entry-front : (k : ℕ) → 7 * k + 7 ≤ length xs → entryLine (xs ++ ys) k ≡ entryLine xs k
   unfolding entryLine

@@ -6,10 +6,11 @@ use native.Mathlib.Nat.{mul-suc}
 use native.Mathlib.Omega.{arith}
 use lib.ListN.{length, getD, length-append, length-map, List·getD-eq-default}
 use lib.Seq.{getD-append-seam, getD-append-add}
-use Rattle.text.specs.Text.{joined}
-use Rattle.text.proofs.Putting.{first-shift}
+use Rattle.writing.specs.Writing.{joined}
+use Rattle.writing.proofs.Putting.{first-shift, same-first}
 use Rattle.output.specs.Finding.{waitingIn}
 use Rattle.output.proofs.Finding.{parts-of}
+use Rattle.output.proofs.Rereading.{number-front, number-past, element, entry-part, entry-byte}
 use Rattle.lines.specs.Lines.{entryLine, messageIn, messagesAt, nodeLine, variableLine, nodeLines, snapshotLines, runLines}
 use Rattle.lines.proofs.Texts.{entry-same, variable-same}
 use Rattle.model.specs.Command.{Command, numberAt}
@@ -36,15 +37,6 @@ use Rattle.model.proofs.Words.{unmonitored-words, monitored-words, bytes-spell}
 use Rattle.printing.specs.Printing.{resultLines}
 use Rattle.printing.specs.Meaning.{lineOfEntry, messageNumbers, lineOfNode, lineOfVariable}
 use Rattle.printing.specs.Meaning.{linesOfEntries, linesOfState, linesOfRun, linesOfJob, LinesHold}
-use Rattle.printing.proofs.Fronts.{same-first, number-front}
-
--- a number past the first bytes
-number-past : (xs ys : List ℕ) (at w : ℕ) → numberAt (xs ++ ys) (length xs + at) w ≡ numberAt ys at w
-unfolding numberAt
-number-past xs ys at zero = refl
-number-past xs ys at (suc w) =
-    let p : length xs + at + 1 ≡ length xs + (at + 1) = omega arith in
-    rw (getD-append-add xs ys at 0, p, number-past xs ys (at + 1) w)
 
 -- the 4 bytes of a number, first of what stands past the first bytes
 word-past : (xs ys : List ℕ) (at v : ℕ) → at ≡ length xs → v < 2 ^ 32 → numberAt (xs ++ (bytes4 v ++ ys)) at 4 ≡ v
@@ -53,49 +45,20 @@ word-past xs ys at v e h =
     ap (λ (p : ℕ). numberAt (xs ++ (bytes4 v ++ ys)) p 4) here
     ∙ number-past xs (bytes4 v ++ ys) 0 4 ∙ number-front (bytes4 v) ys 0 4 (omega arith) ∙ bytes-spell v h
 
--- a number inside element k of elements of one size, one after the other
-module _
-    {A : Type 0} (d : A) (size : ℕ) (one : A → List ℕ) (sized : (a : A) → length (one a) ≡ size)
-    (all : List A → List ℕ) (next : (a : A) (l : List A) → all (a ∷ l) ≡ one a ++ all l)
-  where
-    element :
-        (l : List A) (k : ℕ) → k < length l → (at w : ℕ) → at + w ≤ size
-        → numberAt (all l) (size * k + at) w ≡ numberAt (one (getD l k d)) at w
-    element [] k h at w i = absurd (omega arith)
-    element (a ∷ l) zero h at w i =
-        let here : size * 0 + at ≡ at = omega arith in
-        rw (next a l, here) (number-front (one a) (all l) at w (omega (arith, sized a)))
-    element (a ∷ l) (suc k) h at w i =
-        let there : size * suc k + at ≡ length (one a) + (size * k + at) = omega (arith, sized a, mul-suc size k) in
-        rw (next a l, there) (number-past (one a) (all l) (size * k + at) w ∙ element l k (omega arith) at w i)
-
 -- an entry
-trace-cons : (e : Entry) (es : List Entry) → traceBytes (e ∷ es) ≡ entryBytes e ++ traceBytes es
-unfolding traceBytes
-trace-cons e es = refl
-
 module _ (es : List Entry) (k : ℕ) (h : k < length es) where
-  abbrev zeros : Entry
-  zeros = entry 0 0 0 0
-
   abbrev e : Entry
-  e = getD es k zeros
-
-  part : (at w : ℕ) → at + w ≤ 7 → numberAt (traceBytes es) (7 * k + at) w ≡ numberAt (entryBytes e) at w
-  part = element zeros 7 entryBytes (λ x. refl) traceBytes trace-cons es k h
-
-  byte : (at : ℕ) → at < 7 → numberAt (traceBytes es) (7 * k + at) 1 ≡ getD (entryBytes e) at 0
-  byte at i = part at 1 (omega arith) ∙ number-one (entryBytes e) at
+  e = getD es k (entry 0 0 0 0)
 
   entry-read : e .value < 2 ^ 32 → entryLine (traceBytes es) k ≡ lineOfEntry e
   unfolding lineOfEntry
   entry-read small =
       let first : 7 * k ≡ 7 * k + 0 = omega arith in
       entry-same (traceBytes es) k (e .node) (e .kind) (e .number) (e .value)
-      (sym (ap (λ (p : ℕ). numberAt (traceBytes es) p 1) first ∙ byte 0 (omega arith)))
-      (sym (byte 1 (omega arith)))
-      (sym (byte 2 (omega arith)))
-      (sym (part 3 4 (omega arith) ∙ word-past (e .node ∷ e .kind ∷ e .number ∷ []) [] 3 (e .value) refl small))
+      (sym (ap (λ (p : ℕ). numberAt (traceBytes es) p 1) first ∙ entry-byte es k h 0 (omega arith)))
+      (sym (entry-byte es k h 1 (omega arith)))
+      (sym (entry-byte es k h 2 (omega arith)))
+      (sym (entry-part es k h 3 4 (omega arith) ∙ word-past (e .node ∷ e .kind ∷ e .number ∷ []) [] 3 (e .value) refl small))
 
 -- a node
 messages-cons : (m : Message) (ms : List Message) → messagesBytes (m ∷ ms) ≡ bytes4 (m .value) ++ (m .sender ∷ []) ++ messagesBytes ms

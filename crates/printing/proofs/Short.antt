@@ -5,7 +5,8 @@ use mathlib.Core.List.{List, [], _∷_, _++_}
 use native.Mathlib.Nat.{mul-suc}
 use native.Mathlib.Omega.{arith}
 use lib.ListN.{length, length-append}
-use Rattle.text.specs.Text.{decimal, field, fields, line, joined}
+use Rattle.text.specs.Text.{decimal, field, fields, line}
+use Rattle.writing.specs.Writing.{joined}
 use Rattle.output.specs.Finding.{waitingIn, partAt}
 use Rattle.lines.specs.Lines.{endWord, nodeWord, varWord, refusedWord, entryLine, endLine, messagesAt, nodeLine, partLine}
 use Rattle.lines.specs.Lines.{variableLine, nodeLines, snapshotLines, runLines, refusedLine, examinedWord, examinedLine}

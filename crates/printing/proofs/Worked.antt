@@ -1,6 +1,7 @@
 -- The definitions agree with K1, by computation.
 use mathlib.Core.Path.{refl}
-use Rattle.text.specs.Text.{digitsWithin, decimal, field, fields, joined}
+use Rattle.text.specs.Text.{digitsWithin, decimal, field, fields}
+use Rattle.writing.specs.Writing.{joined}
 use Rattle.output.specs.Finding.{partAt}
 use Rattle.lines.specs.Lines.{entryLine, endLine, messagesAt, nodeLine, variableLine, snapshotLines, runLines}
 use Rattle.model.specs.Table.{operandsIn, operandsOf, isAmong, largestIn, largestOf}

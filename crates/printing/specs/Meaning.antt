@@ -3,7 +3,8 @@ use Prim.Native.Nat.{ℕ}
 use mathlib.Core.Path.{_≡_}
 use mathlib.Core.List.{List, [], _∷_, _++_}
 use lib.ListN.{length}
-use Rattle.text.specs.Text.{decimal, line, joined}
+use Rattle.text.specs.Text.{decimal, line}
+use Rattle.writing.specs.Writing.{joined}
 use Rattle.lines.specs.Lines.{nodeWord, varWord, endLine, refusedLine, examinedLine}
 use Rattle.model.specs.Declared.{turnsOf}
 use Rattle.model.specs.Program.{Program, programOf}

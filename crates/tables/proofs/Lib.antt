@@ -4,3 +4,4 @@ pub mod Blank
 pub mod Chains
 pub mod Sections
 pub mod Cases
+pub mod Standing

@@ -5,7 +5,7 @@ use native.Mathlib.Omega.{arith}
 use lib.ListN.{length}
 use Rattle.writing.specs.Writing.{Writes}
 use Rattle.text.specs.Text.{fields, line}
-use Rattle.text.proofs.Putting.{room-first, room-second, room-third, three-put}
+use Rattle.writing.proofs.Putting.{room-first, room-second, room-third, three-put}
 
 -- a line
 module _ (first numbers before : List ℕ) (at : ℕ) (fits : at + length (line first numbers) ≤ length before) where

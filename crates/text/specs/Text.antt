@@ -25,8 +25,3 @@ fields (n ∷ ns) = field n ++ fields ns
 -- a line: its first field, the numbers after it, a line feed
 abbrev pub line : List ℕ → List ℕ → List ℕ
 line first numbers = first ++ (fields numbers ++ (10 ∷ []))
-
--- the first k of these texts, one after the other
-unfoldable pub joined : (ℕ → List ℕ) → ℕ → List ℕ
-joined text zero = []
-joined text (suc k) = joined text k ++ text k

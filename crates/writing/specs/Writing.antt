@@ -1,5 +1,5 @@
 -- What writing to a buffer leaves.
-use Prim.Native.Nat.{ℕ, _+_}
+use Prim.Native.Nat.{ℕ, zero, suc, _+_}
 use mathlib.Core.Path.{_≡_}
 use mathlib.Core.List.{List, [], _∷_, _++_}
 use lib.ListN.{length, take, drop}
@@ -9,6 +9,11 @@ use Rattle.model.specs.Output.{bytes4}
 unfoldable pub numbersBytes : List ℕ → List ℕ
 numbersBytes [] = []
 numbersBytes (v ∷ vs) = bytes4 v ++ numbersBytes vs
+
+-- the first k of these parts, one after the other
+unfoldable pub joined : (ℕ → List ℕ) → ℕ → List ℕ
+joined part zero = []
+joined part (suc k) = joined part k ++ part k
 
 -- a buffer with these bytes from a place on; those before and after stay unchanged
 unfoldable pub placed : List ℕ → ℕ → List ℕ → List ℕ

@@ -4,7 +4,7 @@ use mathlib.Core.List.{[], _∷_}
 use native.Mathlib.Omega.{arith}
 use lib.ListN.{length, getD}
 use borrow.Author.Needs.{needs}
-use Rattle.text.proofs.Putting.{Put, none-put, room, one-put, all-put, bytes-each}
+use Rattle.writing.proofs.Putting.{Put, none-put, room, one-put, all-put, bytes-each}
 use Rattle.text.proofs.put.Statement.{statement}
 use Rattle.text.proofs.put.Tie as tie
 

@@ -4,7 +4,8 @@ use native.Mathlib.Omega.{arith}
 use lib.ListN.{length, getD}
 use borrow.Author.Needs.{needs}
 use Rattle.text.specs.Text.{field}
-use Rattle.text.proofs.Putting.{Put, none-put, room, one-put, all-put, fields-each}
+use Rattle.writing.proofs.Putting.{Put, none-put, room, one-put, all-put}
+use Rattle.text.proofs.Putting.{fields-each}
 use Rattle.text.proofs.put_fields.Statement.{statement}
 use Rattle.text.proofs.put_fields.Tie as tie
 

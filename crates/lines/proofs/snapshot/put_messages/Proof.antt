@@ -4,7 +4,7 @@ use mathlib.Core.Path.{refl}
 use mathlib.Core.Logic.{inl, inr}
 use native.Mathlib.Omega.{arith}
 use borrow.Author.Needs.{needs}
-use Rattle.text.proofs.Putting.{Put, none-put, room, one-put, all-put}
+use Rattle.writing.proofs.Putting.{Put, none-put, room, one-put, all-put}
 use Rattle.lines.proofs.Texts.{messageFields, messages-each}
 use Rattle.lines.proofs.snapshot.put_messages.Statement.{statement}
 use Rattle.lines.proofs.snapshot.put_messages.Tie as tie

@@ -4,7 +4,7 @@ use mathlib.Core.Path.{_≡_, refl}
 use native.Mathlib.Omega.{arith}
 use denote.Ref.{now}
 use borrow.Author.Needs.{needs}
-use Rattle.text.proofs.Putting.{Put, none-put, room, one-put}
+use Rattle.writing.proofs.Putting.{Put, none-put, room, one-put}
 use Rattle.output.specs.Finding.{partAt}
 use Rattle.lines.specs.Lines.{partLine}
 use Rattle.lines.proofs.Parts.{part-inside, nodes-room, here, variables-inside, variables-room, snapshot-put}

@@ -4,7 +4,7 @@ use mathlib.Core.Path.{refl}
 use mathlib.Core.Logic.{inl}
 use native.Mathlib.Omega.{arith}
 use borrow.Author.Needs.{needs}
-use Rattle.text.proofs.Putting.{Put, none-put, room, one-put, all-put}
+use Rattle.writing.proofs.Putting.{Put, none-put, room, one-put, all-put}
 use Rattle.lines.specs.Lines.{variableLine}
 use Rattle.lines.proofs.Texts.{variable-same}
 use Rattle.lines.proofs.snapshot.put_variable_lines.Statement.{statement}

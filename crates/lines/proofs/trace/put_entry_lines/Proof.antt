@@ -2,7 +2,7 @@
 use Prim.Native.Nat.{_-_, _≤_}
 use native.Mathlib.Omega.{arith}
 use borrow.Author.Needs.{needs}
-use Rattle.text.proofs.Putting.{Put, none-put, room, one-put, all-put}
+use Rattle.writing.proofs.Putting.{Put, none-put, room, one-put, all-put}
 use Rattle.lines.specs.Lines.{entryLine}
 use Rattle.lines.proofs.trace.put_entry_lines.Statement.{statement}
 use Rattle.lines.proofs.trace.put_entry_lines.Tie as tie

@@ -1,0 +1,4 @@
+pub mod Adding
+pub mod Held
+pub mod Judged
+pub mod Filed
