@@ -1,8 +1,10 @@
-/* Running a job, monitored or not, with its written turns or dispatched: the C functions of the static library librun.a.
+/* Running a job, monitored or not, with its written turns or dispatched, and counting the messages of a run: the C functions of the
+ * static library librun.a.
  *
- * Document 01, with requests S-1, S-2, S-4, S-5, S-7, S-9 and S-11 of document 02, says what a job is, what a run does and when a job is
- * refused. "Monitored" is 01's "watched", "unmonitored" its "bare", "snapshot" its "end picture". All four functions are proved to do
- * what the definitions of 01, S-1, S-2, S-4, S-5, S-7, S-9 and S-11 say, for any bytes, lengths and budgets. */
+ * Document 01, with requests S-1, S-2, S-4, S-5, S-7, S-9, S-11 and S-12 of document 02, says what a job is, what a run does, when a job
+ * is refused and what the tally counts. "Monitored" is 01's "watched", "unmonitored" its "bare", "snapshot" its "end picture". All five
+ * functions are proved to do what the definitions of 01, S-1, S-2, S-4, S-5, S-7, S-9, S-11 and S-12 say, for any bytes, lengths, budgets
+ * and numbers of turns. */
 #ifndef LEQSUMIR_H
 #define LEQSUMIR_H
 
@@ -27,7 +29,8 @@ extern "C" {
  *   trace     7 bytes for each TURN of the job or, dispatched, for each turn of the budget, at most 28,672
  *   snapshot  3,136 bytes
  *   work      4,096 bytes
- *   answer    64 bytes; dispatched, 72
+ *   answer    64 bytes; dispatched, 72; of the tally, 24
+ *   counts    1,024 bytes, of the tally alone
  *   stack     a call takes less than 20,000 bytes of stack; 18,128 were measured, on x86-64, with less than 300 of the caller. The tables
  *             of the decoded job and the state of the run lie there, in no other memory.
  *   code      13,425 bytes with constants, on x86-64, and memcpy and memset of the C library; no variables of its own
@@ -49,6 +52,22 @@ enum {
     LEQSUMIR_ANSWER = 8,         /* how many numbers there are with written turns */
     LEQSUMIR_EXAMINED = 8,       /* of a dispatched run: the examined total, the sum over all choices; 0 for a refusal */
     LEQSUMIR_DISPATCH_ANSWER = 9 /* how many numbers there are of a dispatched job */
+};
+
+/* The numbers of the tally's answer: refusal and place, as above, and */
+enum {
+    LEQSUMIR_NODES = 2,       /* how many nodes the job has; 0 for a refusal */
+    LEQSUMIR_TALLY_ANSWER = 3 /* how many numbers there are */
+};
+
+/* The counts of node n are from LEQSUMIR_NODE_COUNTS * n on. */
+enum {
+    LEQSUMIR_STARTED = 0,     /* its START commands */
+    LEQSUMIR_RECEIVED = 1,    /* the entries of kind 6 whose node and port are wired to it */
+    LEQSUMIR_TAKEN = 2,       /* its entries of kind 1 */
+    LEQSUMIR_WAITING = 3,     /* the waiting count in the snapshot */
+    LEQSUMIR_NODE_COUNTS = 4, /* how many counts a node has */
+    LEQSUMIR_COUNTS = 128     /* enough for every job: those of 32 nodes */
 };
 
 /* Why a run stopped. */
@@ -102,6 +121,31 @@ void leqsumir_dispatch_monitored(const uint8_t *job, size_t job_len, uint64_t bu
 /* The same without the lists. */
 void leqsumir_dispatch_unmonitored(const uint8_t *job, size_t job_len, uint64_t budget, uint8_t *trace, size_t trace_len,
                                    uint8_t *snapshot, size_t snapshot_len, uint8_t *work, size_t work_len, uint64_t answer[9]);
+
+/* Counts the messages of each node, from what a run handed over.
+ *
+ *   job, job_len            the job of the run
+ *   turns                   how many entries of the trace count: LEQSUMIR_TURNS of the run's answer. Of a trace that was kept without the
+ *                           bytes behind its entries any number will do that is not below theirs
+ *   trace, trace_len        the trace of the run
+ *   snapshot, snapshot_len  its snapshot
+ *   counts                  gets four numbers for each node of the job: started, received, taken, waiting
+ *   answer                  gets three numbers: refusal and place, and the number of nodes; for a refusal the last is 0, else the first
+ *                           two
+ *
+ * After every run, monitored or not, written or dispatched, whatever its stop, with what it left: started + received = taken + waiting,
+ * for each node. A START counts whether it is taken or not, an entry of kind 6 once for each target of its port, and a SEND that was
+ * stopped nowhere.
+ *
+ * Any bytes, lengths and numbers are allowed. The job is refused by 1 to 9, 15 or 19 if every run refuses it so; buffers and TURN commands
+ * play no part, so 10 to 14 do not occur. A refusal changes none of the counts, and those beyond the job's nodes stay unchanged. A trace
+ * that holds less than `turns` entries is counted as far as it holds entries in full. An entry whose node the job does not have, or whose
+ * port no wire has, counts nowhere. A byte that the snapshot does not have reads as 0.
+ *
+ * Job, trace and snapshot are only read, and no work buffer is needed. Of the caller: as above; the three that are read may overlap each
+ * other, counts and answer overlap nothing. */
+void leqsumir_tally(const uint8_t *job, size_t job_len, uint64_t turns, const uint8_t *trace, size_t trace_len,
+                    const uint8_t *snapshot, size_t snapshot_len, uint64_t counts[128], uint64_t answer[3]);
 
 #ifdef __cplusplus
 }

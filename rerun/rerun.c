@@ -1,5 +1,5 @@
-/* Reruns a job file through the proved static library, monitored and unmonitored, and says where the two part. With a budget both runs
- * are dispatched.
+/* Reruns a job file through the proved static library, monitored and unmonitored, counts the messages of each node and says where the two
+ * part. With a budget both runs are dispatched.
  * At the repository's root:
  *     rt staticlib run
  *     gcc -O2 -Wall -Wextra -Iinclude -o target/rerun rerun/rerun.c target/staticlib/librun.a
@@ -42,6 +42,20 @@ static void print_answer(const char *name, const uint64_t *answer, int is_dispat
     if (is_dispatched)
         printf(", examined %" PRIu64, answer[LEQSUMIR_EXAMINED]);
     printf("\n");
+}
+
+/* A line for each node: started, received, taken, waiting. Nothing of a refused job. */
+static void print_tally(const char *name, const uint8_t *job, size_t length, const struct rerun *of) {
+    uint64_t counts[LEQSUMIR_COUNTS], answer[LEQSUMIR_TALLY_ANSWER];
+    if (of->answer[LEQSUMIR_REFUSAL] != 0)
+        return;
+    leqsumir_tally(job, length, of->answer[LEQSUMIR_TURNS], of->trace, sizeof of->trace, of->snapshot, sizeof of->snapshot, counts,
+                   answer);
+    for (uint64_t node = 0; node < answer[LEQSUMIR_NODES]; node++) {
+        const uint64_t *own = counts + LEQSUMIR_NODE_COUNTS * node;
+        printf("%s: tally %" PRIu64 " %" PRIu64 " %" PRIu64 " %" PRIu64 " %" PRIu64 "\n", name, node, own[LEQSUMIR_STARTED],
+               own[LEQSUMIR_RECEIVED], own[LEQSUMIR_TAKEN], own[LEQSUMIR_WAITING]);
+    }
 }
 
 static const uint8_t *entry_at(const struct rerun *of, uint64_t turn) {
@@ -98,6 +112,8 @@ int main(int count, char **words) {
     }
     print_answer("monitored", monitored.answer, is_dispatched);
     print_answer("unmonitored", unmonitored.answer, is_dispatched);
+    print_tally("monitored", job, length, &monitored);
+    print_tally("unmonitored", job, length, &unmonitored);
     print_parting(&monitored, &unmonitored);
     return 0;
 }

@@ -11,7 +11,7 @@ use crate::runs::{self, Bench, Case, Engine};
 /// What the buffers hold before.
 const BYTE: u8 = 0xA5;
 
-/// Compares answers and whole buffers of every job in both modes, then the answers to the cases with those
+/// Compares answers, whole buffers and tallies of every job in both modes, then the answers to the cases with those
 /// that are meant; the error says what is wrong.
 pub fn compare() -> Result<(), String> {
     for group in groups::all().map_err(|error| format!("the examples: {error}"))? {
@@ -58,8 +58,12 @@ fn agree(mode: Mode, Task { job, budget }: &Task) -> Result<(), String> {
     if answers[0] != answers[1] || answers[0][0] != 0 {
         return Err(format!("the answers are {answers:?}"));
     }
+    let tallies = [proved.tally(answers[0][3]), reference.tally(answers[0][3])];
+    if tallies[0] != tallies[1] || tallies[0][0] != 0 {
+        return Err(format!("the answers of the tally are {tallies:?}"));
+    }
     if proved.buffers != reference.buffers {
-        return Err("the buffers differ".to_string());
+        return Err("the buffers or the counts differ".to_string());
     }
     Ok(())
 }

@@ -1,4 +1,4 @@
-//! Whole runs of some jobs, by the proved run and by the second implementation.
+//! Whole runs of some jobs, and their tallies, by the proved library and by the second implementation.
 
 pub mod arguments;
 pub mod buffers;
@@ -16,4 +16,5 @@ pub mod runs;
 pub mod script;
 pub mod snapshots;
 pub mod stack;
+pub mod tallies;
 pub mod window;

@@ -1,4 +1,4 @@
-//! Runs a job, takes the time, compares both implementations, or tells what the script is, how many calls the
+//! Runs a job, counts its messages, takes the time, compares both implementations, or tells what the script is, how many calls the
 //! jobs with long lists or replies make, how many nodes the dispatched ones examine, how many instructions of a trace
 //! write a snapshot and how much stack the runs take.
 
@@ -13,11 +13,13 @@ use flow_bench::replies::FORMS;
 use flow_bench::runs::{Bench, Case, Engine};
 use flow_bench::script::Script;
 use flow_bench::snapshots::{self, Queues};
+use flow_bench::tallies::Tallied;
 use flow_bench::{arguments, lists, stack, window};
 use flow_reference::Mode;
 
 const USAGE: &str = "usage: bench ENGINE MODE CASE RUNS | bench time ENGINE MODE CASE RUNS |
     bench compare | bench mix | bench calls | bench examined CASE | bench stack |
+    bench tally ENGINE entries|no-entries|nodes|node RUNS |
     bench snapshot ENGINE NODES empty|full | bench window MARK SNAPSHOT BYTES TRACE";
 
 /// The completed turns of all runs.
@@ -61,6 +63,15 @@ fn print_examined(word: &str) -> Option<()> {
     Some(())
 }
 
+/// The nodes of all tallies, as many as are asked for.
+fn print_tallies(words: &[&str]) -> Option<()> {
+    let [engine, case, count] = words else { return None };
+    let (engine, tallied) = (Engine::named(engine)?, Tallied::named(case)?);
+    let count = count.parse().ok().filter(|&count| count > 0)?;
+    println!("{}", tallied.after_run(engine).tallies(tallied.turns, count));
+    Some(())
+}
+
 /// Runs a job of the snapshots: the addresses of mark and snapshot, in hexadecimal, and the snapshot's bytes.
 fn print_snapshot(words: &[&str]) -> Option<()> {
     let [engine, nodes, word] = words else { return None };
@@ -92,9 +103,14 @@ fn print_window(words: &[&str]) -> Option<ExitCode> {
 
 /// Bytes of stack that a run by an engine takes: the most of all jobs, and of each group.
 fn stack_of(engine: Engine, groups: &[Group]) -> String {
-    let bytes: Vec<usize> = groups.iter().map(|group| stack::most(engine, group)).collect();
+    let bytes: Vec<usize> = groups.iter().map(|group| stack::most(engine, group, stack::run)).collect();
     let each = groups.iter().zip(&bytes).map(|(group, bytes)| format!("{} {bytes}", group.name));
     format!("{} ({})", bytes.iter().max().unwrap_or(&0), each.collect::<Vec<_>>().join(", "))
+}
+
+/// Bytes of stack that a tally takes, the most of all jobs.
+fn stack_of_tally(engine: Engine, groups: &[Group]) -> usize {
+    groups.iter().map(|group| stack::most(engine, group, stack::tally)).max().unwrap_or_default()
 }
 
 fn print_stack() -> ExitCode {
@@ -105,15 +121,18 @@ fn print_stack() -> ExitCode {
             return ExitCode::FAILURE;
         }
     };
-    let [proved, reference] = [Engine::Proved, Engine::Reference].map(|engine| stack_of(engine, &groups));
+    let engines = [Engine::Proved, Engine::Reference];
+    let [proved, reference] = engines.map(|engine| stack_of(engine, &groups));
     println!("bytes of stack: proved {proved}, reference {reference}");
+    let [proved, reference] = engines.map(|engine| stack_of_tally(engine, &groups));
+    println!("bytes of stack of a tally: proved {proved}, reference {reference}");
     ExitCode::SUCCESS
 }
 
 fn print_comparison() -> ExitCode {
     match compare() {
         Ok(()) => {
-            println!("both have the same answers and buffers for every job, monitored and bare");
+            println!("both have the same answers, buffers and tallies for every job, monitored and bare");
             ExitCode::SUCCESS
         }
         Err(difference) => {
@@ -132,6 +151,7 @@ fn execute(words: &[&str]) -> Option<ExitCode> {
         ["examined", word] => print_examined(word)?,
         ["stack"] => return Some(print_stack()),
         ["time", words @ ..] => print_time(words)?,
+        ["tally", words @ ..] => print_tallies(words)?,
         ["snapshot", words @ ..] => print_snapshot(words)?,
         ["window", words @ ..] => return print_window(words),
         _ => print_turns(words)?,

@@ -154,6 +154,27 @@ impl Bench {
         }
     }
 
+    /// Counts the messages of each node from what the last run left, so many entries of it; the answer. Always a call.
+    #[inline(never)]
+    pub fn tally(&mut self, turns: u64) -> [u64; 3] {
+        self.tally_here(turns)
+    }
+
+    /// The same, never a call.
+    #[inline(always)]
+    fn tally_here(&mut self, turns: u64) -> [u64; 3] {
+        let job = black_box(&self.job);
+        match self.engine {
+            Engine::Proved => proved::tally(job, turns, &mut self.buffers),
+            Engine::Reference => reference::tally(job, turns, &mut self.buffers),
+        }
+    }
+
+    /// Counts `count` times; the nodes of all tallies.
+    pub fn tallies(&mut self, turns: u64, count: u32) -> u64 {
+        on_new_page(|| (0..count).map(|_| self.tally_here(turns)[2]).sum())
+    }
+
     /// Runs `count` times; the completed turns of all runs.
     pub fn runs(&mut self, count: u32) -> u64 {
         on_new_page(|| (0..count).map(|_| self.run_here()[3]).sum())

@@ -1,8 +1,8 @@
-//! All jobs are there, and no run of one takes more stack than is promised.
+//! All jobs are there, and no run of one, and no tally, takes more stack than is promised.
 
 use flow_bench::groups::{self, Group};
 use flow_bench::runs::Engine;
-use flow_bench::stack::most;
+use flow_bench::stack::{most, run, tally};
 use flow_reference::decode;
 
 fn all() -> [Group; 3] {
@@ -23,7 +23,8 @@ fn groups_and_jobs() {
 #[test]
 fn stack() {
     for group in all() {
-        let bytes = most(Engine::Proved, &group);
+        let bytes = most(Engine::Proved, &group, run);
         assert!((10_880 + 3_232..20_000).contains(&bytes), "{}: {bytes}", group.name);
+        assert!(most(Engine::Proved, &group, tally) < 20_000);
     }
 }

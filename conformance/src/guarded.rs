@@ -31,6 +31,11 @@ impl Guarded {
         &mut self.bytes[GUARD..GUARD + self.length]
     }
 
+    /// The slice, to be read.
+    pub fn bytes(&self) -> &[u8] {
+        &self.bytes[GUARD..GUARD + self.length]
+    }
+
     /// Where the bytes, guards included, are not the expected ones.
     pub fn difference(&self, expected: &Guarded) -> Option<Difference> {
         if self.bytes == expected.bytes {

@@ -1,6 +1,9 @@
-//! The proved run, through the functions of its static library.
+//! The proved run and tally, through the functions of their static library.
 
 use flow_reference::Mode;
+use leqsumir::COUNTS;
+
+use crate::tallies::Input;
 
 /// Runs a job, dispatched if there is a budget; the nine numbers of the answer, of which the last is 0 with written turns.
 pub fn run(job: &[u8], budget: Option<u64>, mode: Mode, [trace, snapshot, work]: [&mut [u8]; 3]) -> [u64; 9] {
@@ -12,6 +15,11 @@ pub fn run(job: &[u8], budget: Option<u64>, mode: Mode, [trace, snapshot, work]:
             leqsumir::dispatch_unmonitored(job, budget, trace, snapshot, work)
         }
     }
+}
+
+/// Counts the messages of each node.
+pub fn tally(input: &Input, counts: &mut [u64; COUNTS]) -> [u64; 3] {
+    leqsumir::tally(input.job, input.turns, input.trace, input.snapshot, counts)
 }
 
 /// Eight numbers and a 0.

@@ -6,7 +6,8 @@ mod guarded;
 mod late;
 mod library;
 mod reference;
-mod tally;
+mod tallies;
+mod totals;
 
 use std::process::ExitCode;
 
@@ -15,7 +16,7 @@ use flow_reference::generate::Kind;
 use flow_reference::{hex, Mode};
 
 use crate::compare::{arguments, compare};
-use crate::tally::Tally;
+use crate::totals::Totals;
 
 const USAGE: &str = "usage: conformance random COUNT SEED | conformance run MODE TRACE SNAPSHOT WORK SEED JOB
     | conformance dispatch BUDGET MODE TRACE SNAPSHOT WORK SEED JOB
@@ -26,32 +27,32 @@ const SHOWN: u64 = 10;
 
 /// The counts of runs with written turns, and of dispatched ones.
 #[derive(Default)]
-struct Tallies {
-    written: Tally,
-    dispatched: Tally,
+struct Both {
+    written: Totals,
+    dispatched: Totals,
 }
 
 /// Compares one run.
-fn check(run: &Run, tallies: &mut Tallies) {
-    let (answer, lines) = compare(run);
-    let tally = if run.budget.is_some() { &mut tallies.dispatched } else { &mut tallies.written };
-    tally.note(&answer, !lines.is_empty());
-    if !lines.is_empty() && tally.differences <= SHOWN {
+fn check(run: &Run, both: &mut Both) {
+    let compared = compare(run);
+    let totals = if run.budget.is_some() { &mut both.dispatched } else { &mut both.written };
+    totals.note(&compared);
+    if !compared.lines.is_empty() && totals.differences <= SHOWN {
         let program = std::env::args().next().unwrap_or_default();
         println!("{program} {}", arguments(run));
-        lines.iter().for_each(|line| println!("    {line}"));
+        compared.lines.iter().for_each(|line| println!("    {line}"));
     }
 }
 
 /// `count` valid jobs and a tenth as many damaged ones, in both modes, with their written turns and dispatched.
-fn random(count: u64, seed: u64) -> Tallies {
-    let mut tallies = Tallies::default();
+fn random(count: u64, seed: u64) -> Both {
+    let mut both = Both::default();
     for (kind, count) in [(Kind::Valid, count), (Kind::Damaged, count / 10)] {
         for index in 0..count {
-            draw::runs(seed, index, kind).iter().for_each(|run| check(run, &mut tallies));
+            draw::runs(seed, index, kind).iter().for_each(|run| check(run, &mut both));
         }
     }
-    tallies
+    both
 }
 
 /// Reads the words of one run, dispatched if there is a budget.
@@ -68,14 +69,14 @@ fn one(budget: Option<u64>, words: &[&str]) -> Option<Run> {
 }
 
 /// Compares one run alone.
-fn check_one(run: &Run) -> Tallies {
-    let mut tallies = Tallies::default();
-    check(run, &mut tallies);
-    tallies
+fn check_one(run: &Run) -> Both {
+    let mut both = Both::default();
+    check(run, &mut both);
+    both
 }
 
 /// Does what the words ask for; none if they ask for nothing.
-fn execute(words: &[&str]) -> Option<Tallies> {
+fn execute(words: &[&str]) -> Option<Both> {
     match words {
         ["random", count, seed] => Some(random(count.parse().ok()?, seed.parse().ok()?)),
         ["run", words @ ..] => Some(check_one(&one(None, words)?)),
@@ -87,7 +88,7 @@ fn execute(words: &[&str]) -> Option<Tallies> {
 fn main() -> ExitCode {
     let words: Vec<String> = std::env::args().skip(1).collect();
     let words: Vec<&str> = words.iter().map(String::as_str).collect();
-    let Some(Tallies { written, dispatched }) = execute(&words) else {
+    let Some(Both { written, dispatched }) = execute(&words) else {
         eprintln!("{USAGE}");
         return ExitCode::from(2);
     };

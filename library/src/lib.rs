@@ -1,9 +1,9 @@
-//! Running a job, monitored or not, with its written turns or dispatched, from Rust: the functions of the proved static
-//! library librun.a.
+//! Running a job, monitored or not, with its written turns or dispatched, and counting the messages of a run, from Rust:
+//! the functions of the proved static library librun.a.
 //!
-//! Document 01, with requests S-1, S-2, S-4, S-5, S-7, S-9 and S-11 of document 02, says what a job is, what a run does
-//! and when a job is refused; `include/leqsumir.h` says what the functions promise. The lengths below are enough for
-//! every job.
+//! Document 01, with requests S-1, S-2, S-4, S-5, S-7, S-9, S-11 and S-12 of document 02, says what a job is, what a run
+//! does, when a job is refused and what the tally counts; `include/leqsumir.h` says what the functions promise. The
+//! lengths below are enough for every job.
 
 /// The longest job that is accepted.
 pub const JOB_BYTES: usize = 16_384;
@@ -20,6 +20,12 @@ pub const SNAPSHOT_BYTES: usize = 3_136;
 
 /// Asked of every job: two bytes for each of 64 handler commands of 32 nodes.
 pub const WORK_BYTES: usize = 4_096;
+
+/// The counts of a node in a tally: started, received, taken, waiting.
+pub const NODE_COUNTS: usize = 4;
+
+/// Those of 32 nodes.
+pub const COUNTS: usize = 128;
 
 /// Job, trace, snapshot and work, each as pointer and length, and the eight numbers of the answer.
 type Run = unsafe extern "C" fn(*const u8, usize, *mut u8, usize, *mut u8, usize, *mut u8, usize, *mut u64);
@@ -75,6 +81,17 @@ extern "C" {
         work_len: usize,
         answer: *mut u64,
     );
+    fn leqsumir_tally(
+        job: *const u8,
+        job_len: usize,
+        turns: u64,
+        trace: *const u8,
+        trace_len: usize,
+        snapshot: *const u8,
+        snapshot_len: usize,
+        counts: *mut u64,
+        answer: *mut u64,
+    );
 }
 
 /// Runs a job and stops before the first turn whose entry its lists do not permit.
@@ -120,6 +137,34 @@ pub fn dispatch_unmonitored(
     work: &mut [u8],
 ) -> [u64; 9] {
     call_dispatch(leqsumir_dispatch_unmonitored, job, budget, trace, snapshot, work)
+}
+
+/// Counts the messages of each node, from what a run of the job handed over: its completed turns, its trace and its
+/// snapshot.
+///
+/// Node `n` gets its counts from `NODE_COUNTS * n` on: started, received, taken, waiting. After a run, started and received
+/// together are taken and waiting together. The slices may have any length and hold anything; the entries that count are the
+/// first `turns`, as far as the trace holds them in full. The answer: refusal (0, 1 to 9, 15 or 19) and its place, and the
+/// number of nodes, 0 for a refusal. A refusal changes none of the counts; those beyond the job's nodes stay unchanged.
+#[inline]
+pub fn tally(job: &[u8], turns: u64, trace: &[u8], snapshot: &[u8], counts: &mut [u64; COUNTS]) -> [u64; 3] {
+    let mut answer = [u64::MAX; 3];
+    // SAFETY: the function keeps no pointer. Every slice is passed with its length, those that are read are not written,
+    // there are 128 counts, and the answer has three numbers.
+    unsafe {
+        leqsumir_tally(
+            job.as_ptr(),
+            job.len(),
+            turns,
+            trace.as_ptr(),
+            trace.len(),
+            snapshot.as_ptr(),
+            snapshot.len(),
+            counts.as_mut_ptr(),
+            answer.as_mut_ptr(),
+        );
+    }
+    answer
 }
 
 /// Inlined as its callers are: they then cost no more than the C function.

@@ -20,7 +20,7 @@ pub fn turn(program: &Program, state: &mut State, node: u8, mode: Mode) -> Resul
 }
 
 /// The node numbers in a bit set, lowest first.
-fn members(mut set: u32) -> impl Iterator<Item = u8> {
+pub(crate) fn members(mut set: u32) -> impl Iterator<Item = u8> {
     std::iter::from_fn(move || {
         if set == 0 {
             return None;

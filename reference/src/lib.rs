@@ -1,8 +1,8 @@
-//! Second implementation of the flow runner, written from the papers alone: 01, and S-1, S-2, S-4, S-5, S-7, S-9 and
-//! S-11 of 02.
+//! Second implementation of the flow runner, written from the papers alone: 01, and S-1, S-2, S-4, S-5, S-7, S-9,
+//! S-11 and S-12 of 02.
 //!
 //! `run` takes a job and three buffers, `dispatch` a budget of turns as well; `Runner` steps through a decoded job turn
-//! by turn.
+//! by turn; `tally` counts the messages of each node from what a run handed over.
 
 mod builder;
 mod checks;
@@ -21,6 +21,7 @@ pub mod program;
 pub mod run;
 pub mod state;
 pub mod table;
+pub mod tally;
 mod unused;
 
 pub use decode::decode;
@@ -29,3 +30,4 @@ pub use outcome::{Answer, Entry, Mode, Outcome, Refusal};
 pub use program::Program;
 pub use run::{run, Runner, Step};
 pub use state::State;
+pub use tally::{tally, Tally};

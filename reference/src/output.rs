@@ -59,14 +59,26 @@ pub fn write_snapshot(program: &Program, state: &State, buffer: &mut [u8]) -> us
     writer.length
 }
 
+/// The waiting counts of the parts that lie one behind the other in a snapshot, without end: a count that it is too short
+/// for is 0.
+pub fn waiting_counts(bytes: &[u8]) -> impl Iterator<Item = u8> + '_ {
+    let mut part = 0;
+    std::iter::from_fn(move || {
+        let waiting = bytes.get(part + 9).copied().unwrap_or(0);
+        part += part_length(waiting);
+        Some(waiting)
+    })
+}
+
+/// The bytes of a node's part with so many waiting messages.
+fn part_length(waiting: u8) -> usize {
+    10 + 5 * usize::from(waiting)
+}
+
 /// The real length of a written snapshot.
 pub fn snapshot_length(program: &Program, bytes: &[u8]) -> usize {
-    let mut length = 0;
-    for _ in &program.nodes {
-        let waiting = usize::from(bytes[length + 9]);
-        length += 10 + 5 * waiting;
-    }
-    length + 4 * program.variables.len()
+    let parts = waiting_counts(bytes).take(program.nodes.len()).map(part_length);
+    parts.sum::<usize>() + 4 * program.variables.len()
 }
 
 /// The snapshot in a vector of its own.

@@ -6,9 +6,10 @@ use std::fmt::Write;
 use crate::decode::decode;
 use crate::dispatch::run_or_dispatch;
 use crate::outcome::{Answer, Entry, Mode, Outcome, Refusal};
-use crate::output::{entry_from_bytes, ENTRY_BYTES, SNAPSHOT_BYTES, WORK_BYTES};
+use crate::output::{entry_from_bytes, waiting_counts, ENTRY_BYTES, SNAPSHOT_BYTES, WORK_BYTES};
 use crate::program::Program;
 use crate::table::MAX_TURNS;
+use crate::tally::{tallies, Tally};
 
 /// Runs a job with its written turns and gives the text to print.
 pub fn print(job: &[u8], mode: Mode) -> String {
@@ -36,12 +37,12 @@ pub fn text(job: &[u8], outcome: &Outcome, trace: &[u8], snapshot: &[u8]) -> Str
         Outcome::Ran(answer) => answer,
     };
     let mut text = String::new();
-    for bytes in trace.chunks_exact(ENTRY_BYTES).take(answer.turns) {
-        push_entry(&mut text, &entry_from_bytes(bytes));
-    }
+    let entries = || trace.chunks_exact(ENTRY_BYTES).take(answer.turns).map(entry_from_bytes);
+    entries().for_each(|entry| push_entry(&mut text, &entry));
     push_answer(&mut text, answer);
     let program = decode(job).expect("the job was accepted");
     push_snapshot(&mut text, &program, snapshot);
+    push_tallies(&mut text, &tallies(&program, entries(), waiting_counts(snapshot)));
     if let Some(examined) = answer.examined {
         let _ = writeln!(text, "examined {examined}");
     }
@@ -56,6 +57,13 @@ fn push_entry(text: &mut String, entry: &Entry) {
 fn push_answer(text: &mut String, answer: &Answer) {
     let _ = write!(text, "end {} {} ", answer.stop, answer.turns);
     push_entry(text, &answer.attempted);
+}
+
+fn push_tallies(text: &mut String, tallies: &[Tally]) {
+    for (node, tally) in tallies.iter().enumerate() {
+        let [started, received, taken, waiting] = tally.numbers();
+        let _ = writeln!(text, "tally {node} {started} {received} {taken} {waiting}");
+    }
 }
 
 /// Reads bytes one after another.

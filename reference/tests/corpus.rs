@@ -44,9 +44,9 @@ fn commands(holds: impl Fn(&Row) -> bool) -> BTreeSet<u8> {
 #[test]
 fn sizes() {
     let runs = all_runs();
-    assert_eq!(runs.len(), 8_367);
+    assert_eq!(runs.len(), 8_399);
     assert!(records(&runs).len() < 1_750_000);
-    assert!(all_texts().len() < 2_000_000);
+    assert!(all_texts().len() < 2_050_000);
     assert!(runs.iter().all(|run| run.job.len() <= 16_400));
     let [trace, snapshot, work] = [0, 1, 2].map(|buffer| runs.iter().map(|run| run.lengths[buffer]).max());
     assert!(trace <= Some(28_800) && snapshot <= Some(3_200) && work <= Some(16_500));
@@ -103,7 +103,7 @@ fn worked_jobs() {
     let runs = runs_of("worked");
     let k1 =
         "0 1 255 2\n0 0 0 0\n0 3 0 5\n0 6 0 7\n0 2 0 0\n1 1 0 7\n1 0 0 0\n1 5 0 7\n1 2 0 0\nend 0 9 0 0 0 0\n\
-              node 0 255 0 0 0\nnode 1 255 0 0 0\nvar 0 5\nkept\n";
+              node 0 255 0 0 0\nnode 1 255 0 0 0\nvar 0 5\ntally 0 1 0 1 0\ntally 1 0 1 1 0\nkept\n";
     assert_eq!((&runs[0].job, runs[0].mode), (&common::k1(), Mode::Monitored));
     assert_eq!(runs[0].text(), k1);
     let is_end = |line: &&str| line.starts_with("end") || line.starts_with("refused");

@@ -8,7 +8,7 @@ use common::made::{all, outcome, runs_of, Made};
 use flow_reference::corpus::Run;
 use flow_reference::{decode, Mode};
 
-/// The families of dispatched runs, which stand behind all others.
+/// The families of dispatched runs.
 const FAMILIES: [&str; 9] = [
     "dispatched",
     "choices",
@@ -25,12 +25,17 @@ fn dispatched() -> Vec<&'static Made> {
     all().iter().filter(|made| made.run.budget.is_some()).collect()
 }
 
-/// Behind the 7,813 runs of written turns there are dispatched ones alone.
+/// 7,813 runs of written turns, then the families of dispatched ones, then the tallies, of which 12 are dispatched.
 #[test]
-fn behind_all_others() {
-    assert!(all()[..7_813].iter().all(|made| made.run.budget.is_none()));
-    assert!(all()[7_813..].iter().all(|made| made.run.budget.is_some()));
-    assert_eq!(FAMILIES.map(|family| runs_of(family).len()).iter().sum::<usize>(), dispatched().len());
+fn behind_written_turns() {
+    let is_dispatched = |made: &Made| made.run.budget.is_some();
+    assert!(!all()[..7_813].iter().any(is_dispatched));
+    let (families, rest) = all()[7_813..].split_at(554);
+    assert!(families.iter().all(is_dispatched));
+    assert_eq!(FAMILIES.map(|family| runs_of(family).len()).iter().sum::<usize>(), families.len());
+    assert_eq!(rest.len(), runs_of("tallies").len());
+    assert_eq!(rest.iter().position(is_dispatched), Some(20));
+    assert!(rest[20..].iter().all(is_dispatched) && rest[20..].len() == 12);
 }
 
 /// The line `examined` stands behind all others that a run prints, and in no text of a refusal or of written turns.

@@ -253,7 +253,7 @@ fn full_queues_of_one_and_several_targets() {
 }
 
 /// Families of pairs, and how many pairs each has at least.
-const PAIRED: [(&str, usize); 26] = [
+const PAIRED: [(&str, usize); 27] = [
     ("worked", 15),
     ("accesses", 200),
     ("full queues", 80),
@@ -280,6 +280,7 @@ const PAIRED: [(&str, usize); 26] = [
     ("dispatched buffers", 20),
     ("dispatched pairs", 32),
     ("ready counts", 24),
+    ("tallies", 16),
 ];
 
 #[test]

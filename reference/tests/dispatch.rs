@@ -32,11 +32,15 @@ fn printed(budget: usize, rest: &str) -> String {
 #[test]
 fn k1_with_several_budgets() {
     assert_eq!(k1_dispatched(), k1()[..47]);
-    let idle = "node 0 255 0 0 0\nnode 1 255 0 0 0\nvar 0 5\n";
+    let tallies = "tally 0 1 0 1 0\ntally 1 0 1 1 0\n";
+    let idle = format!("node 0 255 0 0 0\nnode 1 255 0 0 0\nvar 0 5\n{tallies}");
+    let begun =
+        "end 0 1 0 0 0 0\nnode 0 0 0 2 0\nnode 1 255 0 0 0\nvar 0 5\ntally 0 1 0 1 0\ntally 1 0 0 0 0\n";
+    let eight = format!("end 0 8 0 0 0 0\nnode 0 255 0 0 0\nnode 1 2 9 7 0\nvar 0 5\n{tallies}");
     for mode in MODES {
         let print = |budget| print_dispatched(&k1_dispatched(), budget, mode);
-        assert_eq!(print(1), printed(1, "end 0 1 0 0 0 0\nnode 0 0 0 2 0\nnode 1 255 0 0 0\nvar 0 5\n"));
-        assert_eq!(print(8), printed(8, "end 0 8 0 0 0 0\nnode 0 255 0 0 0\nnode 1 2 9 7 0\nvar 0 5\n"));
+        assert_eq!(print(1), printed(1, begun));
+        assert_eq!(print(8), printed(8, &eight));
         assert_eq!(print(9), printed(9, &format!("end 0 9 0 0 0 0\n{idle}")), "made, nobody ready: stop 0");
         assert_eq!(print(10), printed(10, &format!("end 4 9 0 0 0 0\n{idle}")), "one turn left: stop 4");
         assert_eq!([print(12), print(4_096)], [print(10), print(10)]);

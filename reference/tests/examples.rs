@@ -156,10 +156,12 @@ fn each_message_names_its_sender() {
     let taken: Vec<&String> = entries.iter().filter(|entry| entry[2..].starts_with("1 ")).collect();
     assert_eq!(taken, ["0 1 255 90", "2 1 0 90", "1 1 0 90", "2 1 2 90", "2 1 1 91"]);
     assert_eq!(end, "end 1 23 2 5 0 91");
-    assert!(text("senders.watched").ends_with("\nnode 2 2 91 91 3 90 2 90 0 91 2\n"));
+    let tallies = "tally 0 1 0 1 0\ntally 1 0 1 1 0\n";
+    let [last, bare_last] = ["node 2 2 91 91 3 90 2 90 0 91 2\n", "node 2 0 0 90 2 90 0 91 2\n"];
+    assert!(text("senders.watched").ends_with(&format!("\n{last}{tallies}tally 2 0 6 3 3\n")));
     assert_eq!(printed("senders.bare").0[..23], entries);
-    assert!(text("senders.bare")
-        .ends_with("end 0 26 0 0 0 0\nnode 0 255 0 0 0\nnode 1 255 0 0 0\nnode 2 0 0 90 2 90 0 91 2\n"));
+    let idle = "end 0 26 0 0 0 0\nnode 0 255 0 0 0\nnode 1 255 0 0 0\n";
+    assert!(text("senders.bare").ends_with(&format!("{idle}{bare_last}{tallies}tally 2 0 6 4 2\n")));
 }
 
 /// A dispatched job is its flow's without turns, and the written one has the bare run's choices behind it.
@@ -191,10 +193,10 @@ fn written_choices_print_the_same() {
     assert_eq!(stops, BTreeSet::from(["end 0", "end 1", "end 4"].map(str::to_string)));
 }
 
-/// Whether words are an entry, or a line `end`, `node`, `var`, `refused` or `examined`, with its numbers.
+/// Whether words are an entry, or a line `end`, `node`, `var`, `tally`, `refused` or `examined`, with its numbers.
 fn is_printed_line(words: &[&str]) -> bool {
     let numbers = match words {
-        ["end" | "node" | "var" | "refused", numbers @ ..] if numbers.len() > 1 => numbers,
+        ["end" | "node" | "var" | "tally" | "refused", numbers @ ..] if numbers.len() > 1 => numbers,
         ["examined", _] => &words[1..],
         [_, _, _, _] => words,
         _ => return false,

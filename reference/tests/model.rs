@@ -19,6 +19,16 @@ struct Node {
     message: u32,
     /// Values and their senders.
     queue: VecDeque<(u32, u8)>,
+    /// Messages put into the queue by START, by SEND, and taken out of it.
+    tally: [usize; 3],
+}
+
+impl Node {
+    /// A message from START, whose sender is 255, or from a node.
+    fn put(&mut self, value: u32, sender: u8) {
+        self.tally[usize::from(sender != 255)] += 1;
+        self.queue.push_back((value, sender));
+    }
 }
 
 #[derive(Default)]
@@ -51,7 +61,7 @@ fn load(job: &[u8]) -> Model {
             [0x20, node, port, target] => model.wires.push([node, port, target]),
             [0x30..=0x34, ..] => {}
             [0x40, node] => open = usize::from(node),
-            [0x50, node, ..] => model.nodes[usize::from(node)].queue.push_back((number(command), 255)),
+            [0x50, node, ..] => model.nodes[usize::from(node)].put(number(command), 255),
             [0x60, node] => model.turns.push(node),
             _ => model.nodes[open].body.push(command.to_vec()),
         }
@@ -110,7 +120,7 @@ impl Model {
             0x48 => own.position = Some(operand),
             0x49 => {
                 for target in self.targets(node, operand as u8) {
-                    self.nodes[target].queue.push_back((accumulator, node));
+                    self.nodes[target].put(accumulator, node);
                 }
             }
             0x4A => self.nodes[usize::from(node)].accumulator = self.answer(operand, accumulator),
@@ -123,6 +133,7 @@ impl Model {
         let own = &mut self.nodes[usize::from(node)];
         let Some(position) = own.position else {
             let (message, sender) = own.queue.pop_front().ok_or((2, (0, 0, 0)))?;
+            own.tally[2] += 1;
             (own.position, own.accumulator, own.message) = (Some(0), 0, message);
             return Ok((1, sender, message));
         };
@@ -193,7 +204,7 @@ impl Model {
         (lines, examined)
     }
 
-    /// The lines of the nodes and variables.
+    /// The lines of the nodes, the variables and the tallies.
     fn rest(&self) -> Vec<String> {
         let mut lines = Vec::new();
         for (number, node) in self.nodes.iter().enumerate() {
@@ -206,6 +217,10 @@ impl Model {
         lines.extend(
             self.variables.iter().enumerate().map(|(number, (_, value))| format!("var {number} {value}")),
         );
+        for (number, node) in self.nodes.iter().enumerate() {
+            let [started, received, taken] = node.tally;
+            lines.push(format!("tally {number} {started} {received} {taken} {}", node.queue.len()));
+        }
         lines
     }
 

@@ -54,7 +54,7 @@ fn flowref_refuses() {
 fn flowref_dispatches() {
     let job = &k1()[..47];
     let [monitored, bare] = [Mode::Monitored, Mode::Unmonitored].map(|mode| print_dispatched(job, 10, mode));
-    assert!(monitored.ends_with("\nvar 0 5\nexamined 14\n"));
+    assert!(monitored.ends_with("\nvar 0 5\ntally 0 1 0 1 0\ntally 1 0 1 1 0\nexamined 14\n"));
     prints(&["dispatch", "10"], job, &monitored);
     prints(&["dispatch", "000000010"], job, &monitored);
     prints(&["dispatch", "10", "bare"], job, &bare);

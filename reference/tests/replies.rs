@@ -2,8 +2,7 @@
 
 mod common;
 
-use common::{bytes, refusal, MODES};
-use flow_reference::print::print;
+use common::{bytes, print_untallied, refusal, MODES};
 use flow_reference::table::write;
 use flow_reference::Mode;
 
@@ -36,7 +35,7 @@ fn answer(replies: &[&[u8]], argument: u32) -> u32 {
     let tail = [&bytes("30 00 01 40 00 42 4A 01")[..], &start, &[0x60, 0].repeat(3)].concat();
     let job = behind_base(&[&replies.concat(), &tail]);
     let [one, two] = MODES.map(|mode| {
-        let text = print(&job, mode);
+        let text = print_untallied(&job, mode);
         let entries = format!("0 1 255 {argument}\n0 0 0 0\n0 5 1 {argument}\nend 0 3 0 0 0 0\nnode 0 2 ");
         let rest = text.strip_prefix(&entries).unwrap_or_else(|| panic!("{text}"));
         rest.split(' ').next().and_then(|word| word.parse().ok()).expect("an accumulator")
@@ -92,7 +91,7 @@ fn lists_judge_the_argument() {
     let tail = bytes("40 00 42 4A 01 4A 01 50 00 07 00 00 00 60 00 60 00 60 00 60 00");
     let printed = |arguments: &[u32], mode| {
         let args: Vec<u8> = arguments.iter().flat_map(|&value| write(0x31, &[0, 1, value])).collect();
-        print(&behind_base(&[&reply(1, 7, 5), &reply(1, 5, 0), &args, &tail]), mode)
+        print_untallied(&behind_base(&[&reply(1, 7, 5), &reply(1, 5, 0), &args, &tail]), mode)
     };
     let made = "0 1 255 7\n0 0 0 0\n0 5 1 7\n0 5 1 5\nend 0 4 0 0 0 0\nnode 0 3 0 7 0\nnode 1 255 0 0 0\n";
     let second = "0 1 255 7\n0 0 0 0\n0 5 1 7\nend 1 3 0 5 1 5\nnode 0 2 5 7 0\nnode 1 255 0 0 0\n";

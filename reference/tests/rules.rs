@@ -2,8 +2,7 @@
 
 mod common;
 
-use common::job;
-use flow_reference::print::print;
+use common::{job, print_untallied};
 use flow_reference::Mode::{self, Monitored, Unmonitored};
 
 /// The lines from `end` on.
@@ -12,7 +11,7 @@ fn ending(text: &str) -> &str {
 }
 
 fn check(pieces: &[(&str, usize)], mode: Mode, expected: &str) {
-    assert_eq!(print(&job(pieces), mode), expected);
+    assert_eq!(print_untallied(&job(pieces), mode), expected);
 }
 
 #[test]
@@ -24,7 +23,7 @@ fn oldest_message_first_and_around_the_ring() {
         ("60 01 60 01 60 01 60 01", 1),
         ("60 00 60 00 60 00 60 00 60 00 60 00", 1),
     ];
-    let text = print(&job(&pieces), Monitored);
+    let text = print_untallied(&job(&pieces), Monitored);
     assert!(text.contains("\n1 1 0 1\n1 2 0 0\n1 1 0 2\n1 2 0 0\n"));
     let expected = "end 0 59 0 0 0 0\nnode 0 0 18 0 0\n\
                     node 1 255 0 0 16 3 0 4 0 5 0 6 0 7 0 8 0 9 0 10 0 11 0 12 0 13 0 14 0 15 0 16 0 17 0 18 0\n";
@@ -36,7 +35,7 @@ fn many_messages_through_one_queue() {
     // Nine messages wait while another 40 go through.
     let head = "01 02 02 20 00 00 01 40 00 45 01 00 00 00 49 00 48 00 50 00 00 00 00 00";
     let pieces = [(head, 1), ("60 00", 1 + 9 * 3), ("60 01 60 01 60 00 60 00 60 00", 40)];
-    let text = print(&job(&pieces), Monitored);
+    let text = print_untallied(&job(&pieces), Monitored);
     let taken: Vec<&str> = text.lines().filter(|line| line.starts_with("1 1 0 ")).collect();
     let expected: Vec<String> = (1..=40).map(|value| format!("1 1 0 {value}")).collect();
     assert_eq!(taken, expected);
@@ -57,8 +56,8 @@ fn one_full_target_keeps_all_targets_from_the_message() {
             waiting(1),
             waiting(2)
         );
-        assert_eq!(ending(&print(&job(&pieces), Unmonitored)), expected);
-        assert_eq!(ending(&print(&job(&pieces), Monitored)), expected);
+        assert_eq!(ending(&print_untallied(&job(&pieces), Unmonitored)), expected);
+        assert_eq!(ending(&print_untallied(&job(&pieces), Monitored)), expected);
     }
 }
 
@@ -132,7 +131,7 @@ fn jumps() {
     // 0 JUMPZ 2, 1 SKIP, 2 ADD 1, 3 JUMPZ 0, 4 JUMP 6, 5 SKIP.
     let head = "01 02 40 00 47 02 4B 45 01 00 00 00 47 00 48 06 4B 50 00 01 00 00 00";
     let at = |turns, line: &str| {
-        assert_eq!(ending(&print(&job(&[(head, 1), ("60 00", turns)]), Monitored)), line);
+        assert_eq!(ending(&print_untallied(&job(&[(head, 1), ("60 00", turns)]), Monitored)), line);
     };
     at(2, "end 0 2 0 0 0 0\nnode 0 2 0 1 0\n");
     at(3, "end 0 3 0 0 0 0\nnode 0 3 1 1 0\n");

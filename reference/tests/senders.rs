@@ -4,10 +4,9 @@ mod common;
 
 use std::collections::BTreeSet;
 
-use common::{bytes, job, k1, run_dirty, MODES};
+use common::{bytes, job, k1, print_untallied, run_dirty, MODES};
 use flow_reference::generate::{case, Kind};
 use flow_reference::output::entry_from_bytes;
-use flow_reference::print::print;
 use flow_reference::state::Message;
 use flow_reference::Mode::{Monitored, Unmonitored};
 use flow_reference::{decode, Entry, Outcome, Program, Refusal, Runner, State, Step};
@@ -38,7 +37,7 @@ fn two_senders_printed() {
                     1 1 0 5\n1 0 0 0\n1 6 0 5\n1 2 0 0\n3 1 2 5\n3 2 0 0\n3 1 1 5\nend 0 15 0 0 0 0\n\
                     node 0 255 0 0 0\nnode 1 255 0 0 0\nnode 2 255 0 0 0\nnode 3 0 0 5 0\n";
     for mode in MODES {
-        assert_eq!(print(&job(&[TWO_THEN_ONE, &[("60 03", 3)]].concat()), mode), expected);
+        assert_eq!(print_untallied(&job(&[TWO_THEN_ONE, &[("60 03", 3)]].concat()), mode), expected);
     }
 }
 
@@ -46,12 +45,12 @@ fn two_senders_printed() {
 #[test]
 fn two_senders_taken_in_order() {
     for (pieces, order) in [(ONE_THEN_TWO, [1, 2]), (TWO_THEN_ONE, [2, 1])] {
-        let text = print(&job(&[pieces, &[("60 03", 3)]].concat()), Monitored);
+        let text = print_untallied(&job(&[pieces, &[("60 03", 3)]].concat()), Monitored);
         assert_eq!(senders(&text, 3), order);
-        let waiting = print(&job(pieces), Monitored);
+        let waiting = print_untallied(&job(pieces), Monitored);
         let [first, second] = order;
         assert!(waiting.ends_with(&format!("node 3 255 0 0 2 5 {first} 5 {second}\n")));
-        let one_taken = print(&job(&[pieces, &[("60 03", 1)]].concat()), Monitored);
+        let one_taken = print_untallied(&job(&[pieces, &[("60 03", 1)]].concat()), Monitored);
         assert!(one_taken.ends_with(&format!("node 3 0 0 5 1 5 {second}\n")));
     }
 }
@@ -61,14 +60,14 @@ fn a_node_that_sends_to_itself() {
     let head = "01 02 20 00 00 00 40 00 42 45 01 00 00 00 49 00 50 00 05 00 00 00";
     let expected = "0 1 255 5\n0 0 0 0\n0 0 0 0\n0 6 0 6\n0 2 0 0\n0 1 0 6\n0 0 0 0\n0 0 0 0\n0 6 0 7\n\
                     end 0 9 0 0 0 0\nnode 0 3 7 6 1 7 0\n";
-    assert_eq!(print(&job(&[(head, 1), ("60 00", 9)]), Monitored), expected);
+    assert_eq!(print_untallied(&job(&[(head, 1), ("60 00", 9)]), Monitored), expected);
 }
 
 /// Node 1 gets two messages of node 0 and then its own.
 #[test]
 fn own_messages_behind_those_of_another() {
     let head = "01 02 02  20 00 00 01  20 01 00 01  40 00 49 00 49 00  40 01 42 49 00  50 00 05 00 00 00";
-    let text = print(&job(&[(head, 1), ("60 00", 3), ("60 01", 16)]), Monitored);
+    let text = print_untallied(&job(&[(head, 1), ("60 00", 3), ("60 01", 16)]), Monitored);
     assert_eq!(senders(&text, 1), [0, 0, 1, 1]);
 }
 
@@ -78,7 +77,7 @@ const BESIDE_START: &str = "01 02 02 01 02  20 00 00 00  20 00 00 01  40 00 42 4
 
 #[test]
 fn start_and_sent_messages_in_one_snapshot() {
-    let text = print(&bytes(BESIDE_START), Monitored);
+    let text = print_untallied(&bytes(BESIDE_START), Monitored);
     let expected = "end 0 3 0 0 0 0\nnode 0 2 5 5 1 5 0\nnode 1 255 0 0 1 5 0\nnode 2 255 0 0 1 5 255\n";
     assert_eq!(ending(&text), expected);
     let ran = run_dirty(&bytes(BESIDE_START), Monitored, [21, 3_136, 4_096], 0xA5);
@@ -95,7 +94,7 @@ fn start_and_sent_messages_in_one_snapshot() {
 #[test]
 fn one_send_to_several_targets() {
     let head = "01 02 02 02  20 01 03 02  20 01 03 01  20 01 03 00  40 01 42 49 03  50 01 09 00 00 00";
-    let text = print(&job(&[(head, 1), ("60 01", 3), ("60 00", 1)]), Monitored);
+    let text = print_untallied(&job(&[(head, 1), ("60 01", 3), ("60 00", 1)]), Monitored);
     assert_eq!(ending(&text), "end 0 4 0 0 0 0\nnode 0 0 0 9 0\nnode 1 2 9 9 1 9 1\nnode 2 255 0 0 1 9 1\n");
     assert_eq!(senders(&text, 0), [1]);
 }
@@ -112,7 +111,7 @@ fn a_full_queue_of_two_senders() {
         let expected =
             format!("end 3 35 {attempted}\nnode 0 1 0 7 0\nnode 1 0 0 0 0\nnode 2 255 0 0 16{waiting}\n");
         for mode in MODES {
-            assert_eq!(ending(&print(&job(&pieces), mode)), expected);
+            assert_eq!(ending(&print_untallied(&job(&pieces), mode)), expected);
         }
     }
 }
@@ -126,7 +125,7 @@ fn senders_move_along() {
         job.extend([0x60, 2].repeat(if sent < 16 { 0 } else { 2 }));
         job.extend([0x60, sender].repeat(2));
     }
-    let text = print(&job, Monitored);
+    let text = print_untallied(&job, Monitored);
     assert_eq!(senders(&text, 2), order[..24]);
     let waiting: String = order[24..].iter().map(|sender| format!(" 0 {sender}")).collect();
     assert!(text.ends_with(&format!("\nnode 2 255 0 0 16{waiting}\n")));
@@ -137,14 +136,14 @@ fn the_last_node_as_sender() {
     let wires = "20 1F 00 1F 20 1F 00 1E";
     let pieces =
         [("01", 1), ("02", 32), (wires, 1), ("40 1F 49 00 50 1F 05 00 00 00", 1), ("60 1F", 4), ("60 1E", 1)];
-    let text = print(&job(&pieces), Monitored);
+    let text = print_untallied(&job(&pieces), Monitored);
     let expected = "31 1 255 5\n31 6 0 0\n31 2 0 0\n31 1 31 0\n30 1 31 0\nend 0 5 0 0 0 0\n";
     assert!(text.starts_with(expected));
 }
 
 #[test]
 fn the_message_being_handled_has_no_sender() {
-    let text = print(&job(&[(TWO_SENDERS, 1), ("60 00", 2)]), Monitored);
+    let text = print_untallied(&job(&[(TWO_SENDERS, 1), ("60 00", 2)]), Monitored);
     assert!(ending(&text).starts_with("end 0 2 0 0 0 0\nnode 0 1 5 5 0\n"));
 }
 
@@ -173,14 +172,14 @@ fn monitored_beside_bare() {
         31 03 00 01 00 00 00  40 00 49 00  40 01 41 01 00 00 00 49 00  40 02 41 02 00 00 00 49 00
         40 03 42 4A 00  50 00 05 00 00 00";
     let pieces = [(head, 1), ("60 00", 3), ("60 02", 4), ("60 01", 4), ("60 03", 8)];
-    let [monitored, bare] = MODES.map(|mode| print(&job(&pieces), mode));
+    let [monitored, bare] = MODES.map(|mode| print_untallied(&job(&pieces), mode));
     assert_eq!(senders(&monitored, 3), [2]);
     assert_eq!(senders(&bare, 3), [2, 1]);
     assert!(bare.starts_with(&monitored[..monitored.find("end").unwrap()]));
     let nodes = "node 0 255 0 0 0\nnode 1 255 0 0 0\nnode 2 255 0 0 0\nnode 3 1 2 2 1 1 1\n";
     assert_eq!(ending(&monitored), format!("end 1 13 3 5 0 2\n{nodes}"));
     let before = [&pieces[..4], &[("60 03", 2)]].concat();
-    assert_eq!(ending(&print(&job(&before), Unmonitored)), format!("end 0 13 0 0 0 0\n{nodes}"));
+    assert_eq!(ending(&print_untallied(&job(&before), Unmonitored)), format!("end 0 13 0 0 0 0\n{nodes}"));
 }
 
 /// The queues of all nodes, as the entries tell it.

@@ -2,8 +2,7 @@
 
 mod common;
 
-use common::{bytes, refusal, run_dirty, MODES};
-use flow_reference::print::print;
+use common::{bytes, print_untallied, refusal, run_dirty, MODES};
 use flow_reference::table::{write, ARG, SPAN};
 use flow_reference::Mode::{Monitored, Unmonitored};
 use flow_reference::{Outcome, Refusal};
@@ -45,8 +44,8 @@ fn permits(permissions: &[&[u8]], argument: u32) -> bool {
     let stopped = format!(
         "0 1 255 {argument}\n0 0 0 0\nend 1 2 0 5 1 {argument}\nnode 0 1 {argument} {argument} 0\nnode 1 255 0 0 0\n"
     );
-    assert_eq!(print(&job, Unmonitored), made);
-    let text = print(&job, Monitored);
+    assert_eq!(print_untallied(&job, Unmonitored), made);
+    let text = print_untallied(&job, Monitored);
     assert!(text == made || text == stopped, "{text}");
     text == made
 }

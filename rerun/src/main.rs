@@ -1,15 +1,17 @@
-//! Reruns a job file through the proved static library, monitored and unmonitored, and says where the two part. With a
-//! budget both runs are dispatched.
+//! Reruns a job file through the proved static library, monitored and unmonitored, counts the messages of each node and
+//! says where the two part. With a budget both runs are dispatched.
 
 use std::ffi::OsString;
 use std::process::ExitCode;
 
-use leqsumir::{ENTRY_BYTES, SNAPSHOT_BYTES, TRACE_BYTES, WORK_BYTES};
+use leqsumir::{COUNTS, ENTRY_BYTES, NODE_COUNTS, SNAPSHOT_BYTES, TRACE_BYTES, WORK_BYTES};
 
-/// What a run hands over: the numbers of the answer, eight with written turns and nine dispatched, and the entries made.
+/// What a run hands over: the numbers of the answer, eight with written turns and nine dispatched, the entries made, and of
+/// each node the counts started, received, taken and waiting. Of a refused job there are no entries and no counts.
 struct Rerun {
     answer: Vec<u64>,
     entries: Vec<[u8; ENTRY_BYTES]>,
+    tallies: Vec<[u64; NODE_COUNTS]>,
 }
 
 fn rerun(job: &[u8], budget: Option<u64>, is_monitored: bool) -> Rerun {
@@ -23,7 +25,16 @@ fn rerun(job: &[u8], budget: Option<u64>, is_monitored: bool) -> Rerun {
     };
     let entries = trace.chunks_exact(ENTRY_BYTES).take(answer[3] as usize);
     let entries = entries.map(|bytes| bytes.try_into().expect("7 bytes")).collect();
-    Rerun { answer, entries }
+    let tallies = if answer[0] == 0 { tallies(job, answer[3], &trace, &snapshot) } else { Vec::new() };
+    Rerun { answer, entries, tallies }
+}
+
+/// The counts of each node of a job that ran.
+fn tallies(job: &[u8], turns: u64, trace: &[u8], snapshot: &[u8]) -> Vec<[u64; NODE_COUNTS]> {
+    let mut counts = [0; COUNTS];
+    let [_, _, nodes] = leqsumir::tally(job, turns, trace, snapshot, &mut counts);
+    let own = counts.chunks_exact(NODE_COUNTS).take(nodes as usize);
+    own.map(|counts| counts.try_into().expect("four counts")).collect()
 }
 
 /// An entry as the printing program prints it: node, kind, number, value.
@@ -42,6 +53,12 @@ fn print_answer(name: &str, answer: &[u64]) {
         }
         [refusal, place, ..] => println!("{name}: refused {refusal} {place}"),
         _ => unreachable!("at least eight numbers"),
+    }
+}
+
+fn print_tallies(name: &str, tallies: &[[u64; NODE_COUNTS]]) {
+    for (node, [started, received, taken, waiting]) in tallies.iter().enumerate() {
+        println!("{name}: tally {node} {started} {received} {taken} {waiting}");
     }
 }
 
@@ -84,6 +101,8 @@ fn main() -> ExitCode {
     let [monitored, unmonitored] = [true, false].map(|is_monitored| rerun(&job, budget, is_monitored));
     print_answer("monitored", &monitored.answer);
     print_answer("unmonitored", &unmonitored.answer);
+    print_tallies("monitored", &monitored.tallies);
+    print_tallies("unmonitored", &unmonitored.tallies);
     print_parting(&monitored, &unmonitored);
     ExitCode::SUCCESS
 }

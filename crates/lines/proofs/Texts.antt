@@ -1,6 +1,6 @@
 -- The lines by the numbers that the code reads for them: room for each part, and the whole line.
 use Prim.Native.Nat.{ℕ, _+_, _*_, _≤_, _<_}
-use mathlib.Core.Path.{_≡_, sym, ap, _∙_}
+use mathlib.Core.Path.{_≡_, refl, sym, ap, _∙_}
 use mathlib.Core.List.{List, [], _∷_, _++_, append-assoc}
 use native.Mathlib.Omega.{arith}
 use lib.ListN.{length}
@@ -10,7 +10,7 @@ use Rattle.writing.proofs.Putting.{front-room, back-room, two-put, room-first, 
 use Rattle.text.proofs.Putting.{fields-append, fields-joined}
 use Rattle.model.specs.Command.{numberAt}
 use Rattle.output.specs.Finding.{waitingIn, partAt}
-use Rattle.lines.specs.Lines.{nodeWord, varWord, entryLine, messageIn, messagesAt, nodeLine, partLine, variableLine}
+use Rattle.lines.specs.Lines.{nodeWord, varWord, tallyWord, tallyLine, entryLine, messageIn, messagesAt, nodeLine, partLine, variableLine}
 
 -- an entry
 pub entry-same :
@@ -87,3 +87,8 @@ pub variable-same :
     → variableLine snapshot place x ≡ line varWord (x ∷ value ∷ [])
 unfolding variableLine
 variable-same snapshot place x value e = rw e
+
+-- a tally
+pub tally-same : (n : ℕ) (counts : List ℕ) → tallyLine n counts ≡ line tallyWord (n ∷ counts)
+unfolding tallyLine
+tally-same n counts = refl

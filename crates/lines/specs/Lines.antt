@@ -1,13 +1,14 @@
 -- The lines that a run prints ("Jobs worked by hand"), by the bytes that it left.
 use Prim.Native.Nat.{ℕ, _+_, _*_}
 use mathlib.Core.List.{List, [], _∷_, _++_}
+use lib.ListN.{getD}
 use Rattle.text.specs.Text.{decimal, line}
 use Rattle.writing.specs.Writing.{joined}
 use Rattle.model.specs.Command.{numberAt}
 use Rattle.model.specs.Output.{Answer}
 use Rattle.output.specs.Finding.{entryFrom, waitingIn, partAt}
 
--- the words `end`, `node`, `var`, `refused` and `examined`
+-- the words `end`, `node`, `var`, `tally`, `refused` and `examined`
 abbrev pub endWord : List ℕ
 endWord = 101 ∷ 110 ∷ 100 ∷ []
 
@@ -16,6 +17,9 @@ nodeWord = 110 ∷ 111 ∷ 100 ∷ 101 ∷ []
 
 abbrev pub varWord : List ℕ
 varWord = 118 ∷ 97 ∷ 114 ∷ []
+
+abbrev pub tallyWord : List ℕ
+tallyWord = 116 ∷ 97 ∷ 108 ∷ 108 ∷ 121 ∷ []
 
 abbrev pub refusedWord : List ℕ
 refusedWord = 114 ∷ 101 ∷ 102 ∷ 117 ∷ 115 ∷ 101 ∷ 100 ∷ []
@@ -71,6 +75,18 @@ snapshotLines snapshot nodes variables =
 unfoldable pub runLines : Answer → List ℕ → List ℕ → ℕ → ℕ → List ℕ
 runLines x trace snapshot nodes variables =
     joined (entryLine trace) (x .turns) ++ (endLine x ++ snapshotLines snapshot nodes variables)
+
+-- the tally of node n, by its four counts (S-12): `tally`, number, started, received, taken, waiting
+unfoldable pub tallyLine : ℕ → List ℕ → List ℕ
+tallyLine n counts = line tallyWord (n ∷ counts)
+
+-- the counts of node n in an array, four a node
+abbrev pub fourAt : List ℕ → ℕ → List ℕ
+fourAt counts n = getD counts (4 * n) 0 ∷ getD counts (4 * n + 1) 0 ∷ getD counts (4 * n + 2) 0 ∷ getD counts (4 * n + 3) 0 ∷ []
+
+-- the tallies of the first nodes in an array
+abbrev pub tallyLinesIn : List ℕ → ℕ → List ℕ
+tallyLinesIn counts nodes = joined (λ n. tallyLine n (fourAt counts n)) nodes
 
 -- a refusal: `refused`, number, place
 unfoldable pub refusedLine : ℕ → ℕ → List ℕ

@@ -1,5 +1,6 @@
 // The lines that a run prints, put into a text.
 mod snapshot;
+pub mod tallies;
 mod trace;
 
 ghost use Prim.Native.Nat.{_+_, _*_, _≤_};

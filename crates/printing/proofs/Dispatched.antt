@@ -23,7 +23,7 @@ use Rattle.model.proofs.Dispatching.{dispatch-holds}
 use Rattle.job.specs.declared.schedule.Schedule.the-variants as s
 use Rattle.printing.specs.Printing.{linesBy}
 use Rattle.printing.specs.Meaning.{linesOfDispatch, DispatchLinesHold}
-use Rattle.printing.proofs.Meaning.{Readable, run-read, Small, readable, turn-small, monitored-small}
+use Rattle.printing.proofs.Meaning.{Readable, ended-read, Small, readable, turn-small, monitored-small}
 
 -- a dispatched run has the states and entries of the run with its choices written out
 dispatched-readable :
@@ -50,7 +50,7 @@ module _
             let P = programOf past in
             let a : DispatchAccepts budget job b past = rw e at (walked budget job b) in
             rw (under-accepted budget job b past e .0)
-            (ap (λ (l : List ℕ). l ++ examinedLine (examinedIn (dispatch P .choices))) (run-read P (dispatch P .run) (fits past a)))
+            (ap (λ (l : List ℕ). l ++ examinedLine (examinedIn (dispatch P .choices))) (ended-read P (dispatch P .run) (fits past a)))
         by-decoded (rejected r) e = append-nil (refusedLine (r .number) (r .place))
 
 pub dispatch-lines-hold : DispatchLinesHold

@@ -19,10 +19,10 @@ module _ (xs ys : List ℕ) where
   unfolding entryLine
   entry-front k h =
       rw (
-        number-front (7 * k) 1 (omega arith),
-        number-front (7 * k + 1) 1 (omega arith),
-        number-front (7 * k + 2) 1 (omega arith),
-        number-front (7 * k + 3) 4 (omega arith),
+        number-front xs ys (7 * k) 1 (omega arith),
+        number-front xs ys (7 * k + 1) 1 (omega arith),
+        number-front xs ys (7 * k + 2) 1 (omega arith),
+        number-front xs ys (7 * k + 3) 4 (omega arith),
       )
 
   pub entries-front : (n : ℕ) → 7 * n ≤ length xs → joined (entryLine (xs ++ ys)) n ≡ joined (entryLine xs) n
@@ -34,29 +34,29 @@ module _ (xs ys : List ℕ) where
   part-front zero h = refl
   part-front (suc n) h =
       let same = part-front n (omega arith) in
-      rw (same, number-front (partAt xs n + 9) 1 (omega arith))
+      rw (same, number-front xs ys (partAt xs n + 9) 1 (omega arith))
 
   messages-front : (place count : ℕ) → place + 5 * count ≤ length xs → messagesAt (xs ++ ys) place count ≡ messagesAt xs place count
   unfolding messagesAt
   messages-front place count h =
       same-first (messageIn (xs ++ ys) place) (messageIn xs place) count
       (λ k i.
-      ap₂ (λ (v n : ℕ). v ∷ n ∷ []) (number-front (place + 5 * k) 4 (omega arith)) (number-front (place + 5 * k + 4) 1 (omega arith)))
+      ap₂ (λ (v n : ℕ). v ∷ n ∷ []) (number-front xs ys (place + 5 * k) 4 (omega arith)) (number-front xs ys (place + 5 * k + 4) 1 (omega arith)))
 
   node-front : (place n : ℕ) → nextPart xs place ≤ length xs → nodeLine (xs ++ ys) place n ≡ nodeLine xs place n
   unfolding nodeLine
   node-front place n h =
       rw (
-        number-front place 1 (omega arith),
-        number-front (place + 1) 4 (omega arith),
-        number-front (place + 5) 4 (omega arith),
-        number-front (place + 9) 1 (omega arith),
+        number-front xs ys place 1 (omega arith),
+        number-front xs ys (place + 1) 4 (omega arith),
+        number-front xs ys (place + 5) 4 (omega arith),
+        number-front xs ys (place + 9) 1 (omega arith),
         messages-front (place + 10) (waitingIn xs place) (omega arith),
       )
 
   variable-front : (place x : ℕ) → place + 4 * x + 4 ≤ length xs → variableLine (xs ++ ys) place x ≡ variableLine xs place x
   unfolding variableLine
-  variable-front place x h = rw (number-front (place + 4 * x) 4 (omega arith))
+  variable-front place x h = rw (number-front xs ys (place + 4 * x) 4 (omega arith))
 
   module _ (nodes variables : ℕ) (fits : partAt xs nodes + 4 * variables ≤ length xs) where
     parts-front : (n : ℕ) → n < nodes → partLine (xs ++ ys) n ≡ partLine xs n

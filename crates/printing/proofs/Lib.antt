@@ -1,5 +1,6 @@
 pub mod Fronts
 pub mod Short
+pub mod Tallying
 pub mod Outcomes
 pub mod Worked
 pub mod Meaning

@@ -11,7 +11,9 @@ use Rattle.writing.proofs.Putting.{first-shift, same-first}
 use Rattle.output.specs.Finding.{waitingIn}
 use Rattle.output.proofs.Finding.{parts-of}
 use Rattle.output.proofs.Rereading.{number-front, number-past, element, entry-part, entry-byte}
-use Rattle.lines.specs.Lines.{entryLine, messageIn, messagesAt, nodeLine, variableLine, nodeLines, snapshotLines, runLines}
+use Rattle.tally.specs.Tallies.{countsIn}
+use Rattle.tally.proofs.Filed.{filed-alone-holds}
+use Rattle.lines.specs.Lines.{entryLine, messageIn, messagesAt, nodeLine, variableLine, nodeLines, snapshotLines, runLines, tallyLine}
 use Rattle.lines.proofs.Texts.{entry-same, variable-same}
 use Rattle.model.specs.Command.{Command, numberAt}
 use Rattle.model.specs.Declared.{Instruction, turnsOf}
@@ -26,6 +28,7 @@ use Rattle.model.specs.Refusal.{Decoded, accepted, rejected, decodeJob, Sizes, 
 use Rattle.model.specs.Result.{report, resultOf, monitored, unmonitored}
 use Rattle.model.specs.Conclusion.{Refuses, Accepts}
 use Rattle.model.specs.Following.{Follows}
+use Rattle.model.specs.Tally.{countsOf}
 use Rattle.model.specs.Valid.{Fits}
 use Rattle.model.proofs.Reading.{number-one}
 use Rattle.model.proofs.Bounds.{length-messages, length-variables}
@@ -34,9 +37,9 @@ use Rattle.model.proofs.Results.{and-then-accepted}
 use Rattle.model.proofs.Walking.{Decides, decode-for-walked}
 use Rattle.model.proofs.Ways.{Makes, left-by, turn-by, monitored-by}
 use Rattle.model.proofs.Words.{unmonitored-words, monitored-words, bytes-spell}
-use Rattle.printing.specs.Printing.{resultLines}
+use Rattle.printing.specs.Printing.{tallyLines, resultLines}
 use Rattle.printing.specs.Meaning.{lineOfEntry, messageNumbers, lineOfNode, lineOfVariable}
-use Rattle.printing.specs.Meaning.{linesOfEntries, linesOfState, linesOfRun, linesOfJob, LinesHold}
+use Rattle.printing.specs.Meaning.{linesOfEntries, linesOfState, linesOfRun, linesOfTallies, linesOfEnded, linesOfJob, LinesHold}
 
 -- the 4 bytes of a number, first of what stands past the first bytes
 word-past : (xs ys : List ℕ) (at v : ℕ) → at ≡ length xs → v < 2 ^ 32 → numberAt (xs ++ (bytes4 v ++ ys)) at 4 ≡ v
@@ -179,7 +182,7 @@ pub record Readable (r : Run) : Type 0 where
   pub values : (k : ℕ) → k < length (r .steps) → entryAt r k .value < 2 ^ 32
   pub final : Fits (r .final)
 
-pub run-read :
+run-read :
     (P : Program) (r : Run) → Readable r
     → runLines (answerIn r) (traceIn r) (snapshotBytes P (r .final)) (P .nodes) (P .variables) ≡ linesOfRun P r
 unfolding runLines linesOfRun
@@ -190,6 +193,22 @@ run-read P r fits =
     entries size =
         same-first (entryLine (traceIn r)) (λ k. lineOfEntry (entryAt r k)) (length (r .steps))
         (λ k h. entry-read (entriesOf (r .steps)) k (omega arith) (fits .values k h))
+
+-- the tallies of a run, and both
+tallies-read : (P : Program) (r : Run)
+    → tallyLines P (length (r .steps)) (traceIn r) (snapshotBytes P (r .final)) (P .nodes) ≡ linesOfTallies P r
+unfolding linesOfTallies
+tallies-read P r =
+    same-first (λ n. tallyLine n (countsIn P (length (r .steps)) (traceIn r) (snapshotBytes P (r .final)) n))
+    (λ n. tallyLine n (countsOf P (entryAt r) (length (r .steps)) (r .final) n)) (P .nodes)
+    (λ n h. ap (tallyLine n) (filed-alone-holds P r (length (r .steps)) n (omega arith) h))
+
+pub ended-read :
+    (P : Program) (r : Run) → Readable r
+    → runLines (answerIn r) (traceIn r) (snapshotBytes P (r .final)) (P .nodes) (P .variables)
+    ++ tallyLines P (length (r .steps)) (traceIn r) (snapshotBytes P (r .final)) (P .nodes)
+    ≡ linesOfEnded P r
+ended-read P r fits = ap₂ (λ (l m : List ℕ). l ++ m) (run-read P r fits) (tallies-read P r)
 
 -- the value of an entry that a turn makes is below 2^32
 abbrev pub Small : Entry → Type 0
@@ -237,7 +256,7 @@ module _
         by-decoded (accepted past) e a =
             let P = programOf past in
             let decoded = and-then-accepted (shortBuffer job b) (decodeJob job) past e .0 in
-            rw decoded (run-read P (run P (turnsOf past)) (fits past a))
+            rw decoded (ended-read P (run P (turnsOf past)) (fits past a))
         by-decoded (rejected r) e a = refl
 
 pub lines-hold : LinesHold

@@ -1,6 +1,6 @@
 -- What a run delivers can be printed, and what is printed of it is the text of the model's result.
 use Prim.Native.Nat.{ℕ, _+_, _*_, _≤_}
-use mathlib.Core.Path.{_≡_, refl, sym, ap, _∙_, subst}
+use mathlib.Core.Path.{_≡_, refl, sym, ap, ap₂, _∙_, subst}
 use mathlib.Core.Bool.{Bool, true, false, cond}
 use mathlib.Core.List.{List, _++_, append-nil}
 use native.Mathlib.Omega.{arith}
@@ -12,15 +12,17 @@ use Rattle.writing.specs.Writing.{Writes, placed}
 use Rattle.writing.proofs.Placing.{length-placed}
 use Rattle.output.specs.Finding.{partAt}
 use Rattle.output.proofs.Finding.{parts-of}
-use Rattle.lines.specs.Lines.{runLines, refusedLine}
+use Rattle.writing.proofs.Putting.{same-first}
+use Rattle.tally.proofs.Filed.{filed-holds, filed-alone-holds}
+use Rattle.lines.specs.Lines.{runLines, tallyLine, refusedLine}
 use Rattle.run.proofs.Delivering.{handed-ran, handed-refused}
 use Rattle.model.specs.Table.{NODE, VAR}
 use Rattle.model.specs.Command.{Command}
 use Rattle.model.specs.Declared.{countOf, turnsOf}
-use Rattle.model.specs.Program.{programOf}
+use Rattle.model.specs.Program.{Program, programOf}
 use Rattle.model.specs.State.{State}
 use Rattle.model.specs.Run.{Run, monitoredRun, unmonitoredRun, entriesOf}
-use Rattle.model.specs.Output.{answerIn, traceIn, nodesBytes, variablesBytes, snapshotBytes}
+use Rattle.model.specs.Output.{Answer as Answered, answerIn, traceIn, nodesBytes, variablesBytes, snapshotBytes}
 use Rattle.model.specs.Dispatch.{monitoredDispatch, unmonitoredDispatch}
 use Rattle.model.specs.DispatchResult.{Handed, handed}
 use Rattle.model.specs.DispatchConclusion.{DispatchEnds}
@@ -47,14 +49,20 @@ use Rattle.turns.specs.declared.ending.Ending.{Ending}
 use Rattle.turns.specs.Endings.{answerOf}
 use Rattle.turns.specs.Runs.{runOf}
 use Rattle.printing.specs.declared.Printed.the-variants as p
-use Rattle.printing.specs.Printing.{nodesIn, variablesIn, totalLines, linesBy, textSize, noRoom, saidBy, saidOf}
+use Rattle.printing.specs.Printing.{nodesIn, variablesIn, tallyLines, endedLines, totalLines, linesBy, textSize, noRoom, saidBy}
+use Rattle.printing.specs.Printing.{saidOf}
 use Rattle.printing.proofs.Fronts.{parts-end, run-front}
-use Rattle.printing.proofs.Short.{run-short}
+use Rattle.printing.proofs.Short.{run-short, tallies-short}
 
 -- the tables of an accepted job
 pub stands-of : (d : Decoded) (t : List ℕ) (r : Verdict) → Decides d t r → IsAccepted d → Stands t (commandsOf d)
 stands-of (accepted past) t r h is = h .judged .tables past refl
 stands-of (rejected q) t r h is = absurd is
+
+-- an accepted job has at most 32 nodes
+pub few-of : (job : List ℕ) (d : Decoded) → decodeJob job ≡ d → IsAccepted d → countOf NODE (commandsOf d) ≤ 32
+few-of job (accepted past) e is = limits past (job-valid job past e .commands) .nodes
+few-of job (rejected q) e is = absurd is
 
 -- a refusal
 pub refused-result : (r : Result) (before after : Buffers) (x : Answer) (q : Refused) → Delivers r before after x → x ≡ a.Refused q → r ≡
@@ -156,6 +164,37 @@ module _ (past : List Command) (s : State) where
       let variables = variablesBytes s (countOf VAR past) in
       omega (arith, parts-of s (countOf NODE past) variables, length-append nodes variables, length-variables s (countOf VAR past))
 
+-- bytes after those of a run change no line
+tallies-front :
+    (P : Program) (r : Run) (turns : ℕ) (more rest : List ℕ) (nodes : ℕ) → nodes ≤ P .nodes → turns ≡ length (r .steps)
+    → tallyLines P turns (traceIn r ++ more) (snapshotBytes P (r .final) ++ rest) nodes
+    ≡ tallyLines P turns (traceIn r) (snapshotBytes P (r .final)) nodes
+tallies-front P r turns more rest nodes few same =
+    rw same
+    (same-first _ _ nodes
+    (λ n h.
+    ap (tallyLine n)
+    (filed-holds P r more rest n (omega arith) ∙ sym (filed-alone-holds P r (length (r .steps)) n (omega arith) (omega arith)))))
+
+nodes-of : (past : List Command) → countOf NODE past ≤ programOf past .nodes
+unfolding programOf
+nodes-of past = omega arith
+
+ended-front :
+    (job : List ℕ) (past : List Command) (r : Run) (x : Answered) (more rest : List ℕ) → x .turns ≡ length (r .steps)
+    → decodeJob job ≡ accepted past
+    → endedLines job x (traceIn r ++ more) (snapshotBytes (programOf past) (r .final) ++ rest)
+    ≡ endedLines job x (traceIn r) (snapshotBytes (programOf past) (r .final))
+ended-front job past r x more rest turns e =
+    let P = programOf past in
+    let size = length-trace (entriesOf (r .steps)) in
+    let entries = length-map (r .steps) (λ t. t .made) in
+    rw e
+    (ap₂ (λ (l k : List ℕ). l ++ k)
+    (run-front x (traceIn r) more (snapshotBytes P (r .final)) rest (countOf NODE past) (countOf VAR past)
+    (omega (arith, size, entries, turns)) (omega (arith, parts-fit past (r .final))))
+    (tallies-front P r (x .turns) more rest (countOf NODE past) (nodes-of past) turns))
+
 -- what is printed of a run that ended
 module _ (schedule : Schedule) (m : Bool) (job : List ℕ) (before after : Buffers) (x : Ending)
     (e : EndedAs schedule m job before after x) where
@@ -197,13 +236,21 @@ module _ (schedule : Schedule) (m : Bool) (job : List ℕ) (before after : Buffe
   snapshot-inside =
       omega (arith, parts, ap length (e .snapshot), length-append snapshot (drop (length snapshot) (before .snapshot)))
 
+  few-nodes : nodesIn job ≤ 32
+  few-nodes = few-of job (decodeJob job) refl is-accepted
+
   pub lines-short :
       Bytes (after .trace) → Bytes (after .snapshot)
-      → length (runLines (answerOf x) (after .trace) (after .snapshot) (nodesIn job) (variablesIn job)) + 30 ≤ textSize
+      → length (endedLines job (answerOf x) (after .trace) (after .snapshot)) + 30 ≤ textSize
   lines-short b c =
+      let lines = runLines (answerOf x) (after .trace) (after .snapshot) (nodesIn job) (variablesIn job) in
+      let P = programOf (commandsOf (decodeJob job)) in
       omega (
         arith,
+        length-append lines (tallyLines P (x .turns) (after .trace) (after .snapshot) (nodesIn job)),
         run-short (answerOf x) (after .trace) (after .snapshot) b c (nodesIn job) (variablesIn job),
+        tallies-short P (x .turns) (after .trace) (after .snapshot) (nodesIn job),
+        few-nodes,
         turns-same,
         e .isShown .steps,
         parts,
@@ -211,18 +258,20 @@ module _ (schedule : Schedule) (m : Bool) (job : List ℕ) (before after : Buffe
       )
 
   pub lines-same : (examined : ℕ) → examined ≡ handedFor schedule m job (sizesOf before) .examined
-      → runLines (answerOf x) (after .trace) (after .snapshot) (nodesIn job) (variablesIn job) ++ totalLines schedule examined
+      → endedLines job (answerOf x) (after .trace) (after .snapshot) ++ totalLines schedule examined
       ≡ linesBy schedule job (handedFor schedule m job (sizesOf before))
   unfolding report
   lines-same examined counted =
-      let fits = parts-fit past (run .final) in
-      rw (counted, e .handsOver, e .trace, e .snapshot, ← e .answered)
-      (ap (λ (l : List ℕ). l ++ totalLines schedule (handed (programOf past) (runOf schedule m past) .examined))
-      (run-front (answerOf x) (traceIn run) (drop (length (traceIn run)) (before .trace)) snapshot (drop (length snapshot) (before
-      .snapshot)) (nodesIn job) (variablesIn job) (omega (arith, trace-size)) (rw (nodes-same, variables-same) (omega (
-        arith,
-        fits,
-      )))))
+      let d = runOf schedule m past in
+      let total = totalLines schedule examined in
+      ap₂ (λ (t p : List ℕ). endedLines job (answerOf x) t p ++ total) (e .trace) (e .snapshot)
+      ∙ ap (λ (l : List ℕ). l ++ total)
+      (ended-front job past run (answerOf x) (drop (length (traceIn run)) (before .trace)) (drop (length snapshot) (before .snapshot))
+      turns-same (e .decoded))
+      ∙ ap (λ (a : Answered). endedLines job a (traceIn run) snapshot ++ total) (e .answered)
+      ∙ ap (λ (k : ℕ). endedLines job (answerIn run) (traceIn run) snapshot ++ totalLines schedule k)
+      (counted ∙ ap (λ (h : Handed). h .examined) (e .handsOver))
+      ∙ sym (ap (linesBy schedule job) (e .handsOver))
 
 -- the lines of a refusal
 pub refused-same : (schedule : Schedule) (job : List ℕ) (h : Handed) (r : Refusal) → h .result ≡ refused r

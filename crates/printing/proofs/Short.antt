@@ -9,13 +9,15 @@ use Rattle.text.specs.Text.{decimal, field, fields, line}
 use Rattle.writing.specs.Writing.{joined}
 use Rattle.output.specs.Finding.{waitingIn, partAt}
 use Rattle.lines.specs.Lines.{endWord, nodeWord, varWord, refusedWord, entryLine, endLine, messagesAt, nodeLine, partLine}
-use Rattle.lines.specs.Lines.{variableLine, nodeLines, snapshotLines, runLines, refusedLine, examinedWord, examinedLine}
+use Rattle.lines.specs.Lines.{variableLine, nodeLines, snapshotLines, runLines, refusedLine, examinedWord, examinedLine, tallyWord, tallyLine}
 use Rattle.job.specs.declared.schedule.Schedule.{Schedule}
 use Rattle.job.specs.declared.schedule.Schedule.the-variants as s
-use Rattle.printing.specs.Printing.{totalLines}
+use Rattle.tally.specs.Tallies.{countsIn}
+use Rattle.printing.specs.Printing.{tallyLines, totalLines}
 use Rattle.text.proofs.Decimals.{decimal-short, decimal-20}
 use Rattle.lines.proofs.Texts.{messageFields, messages-each}
 use Rattle.model.specs.Command.{numberAt}
+use Rattle.model.specs.Program.{Program}
 use Rattle.model.specs.Output.{Answer}
 use Rattle.model.specs.Valid.{Bytes}
 use Rattle.model.proofs.Reading.{number-one, number-four}
@@ -224,3 +226,28 @@ run-short x trace snapshot b c nodes variables =
           (endLine x ++ shown),
       length-append (endLine x) shown,
     )
+
+-- tallies
+tally-short : (n a b c d : ℕ) → length (tallyLine n (a ∷ b ∷ c ∷ d ∷ [])) ≤ 111
+unfolding tallyLine
+tally-short n a b c d =
+    omega (
+      arith,
+      length-line tallyWord (n ∷ a ∷ b ∷ c ∷ d ∷ []),
+      length-fields n (a ∷ b ∷ c ∷ d ∷ []),
+      length-fields a (b ∷ c ∷ d ∷ []),
+      length-fields b (c ∷ d ∷ []),
+      length-fields c (d ∷ []),
+      length-fields d [],
+      no-fields,
+      field-21 n,
+      field-21 a,
+      field-21 b,
+      field-21 c,
+      field-21 d,
+    )
+
+pub tallies-short : (P : Program) (turns : ℕ) (trace snapshot : List ℕ) (nodes : ℕ)
+    → length (tallyLines P turns trace snapshot nodes) ≤ 111 * nodes
+tallies-short P turns trace snapshot nodes =
+    first-short (λ n. tallyLine n (countsIn P turns trace snapshot n)) 111 (λ n. tally-short n _ _ _ _) nodes

@@ -6,7 +6,7 @@ use Rattle.model.specs.Result.{monitored}
 use Rattle.model.specs.Examples.{enough, k1, k1Read, four}
 use Rattle.printing.specs.Printing.{resultLines}
 
--- the 13 lines of the paper, a line each; the first has the sender that START has (S-11)
+-- the 13 lines of the paper, a line each, the first with the sender that START has (S-11); and the tallies of both nodes (S-12)
 unfoldable pub k1Lines : List ℕ
 k1Lines =
     (48 ∷ 32 ∷ 49 ∷ 32 ∷ 50 ∷ 53 ∷ 53 ∷ 32 ∷ 50 ∷ 10 ∷ [])
@@ -22,6 +22,8 @@ k1Lines =
     ++ (110 ∷ 111 ∷ 100 ∷ 101 ∷ 32 ∷ 48 ∷ 32 ∷ 50 ∷ 53 ∷ 53 ∷ 32 ∷ 48 ∷ 32 ∷ 48 ∷ 32 ∷ 48 ∷ 10 ∷ [])
     ++ (110 ∷ 111 ∷ 100 ∷ 101 ∷ 32 ∷ 49 ∷ 32 ∷ 50 ∷ 53 ∷ 53 ∷ 32 ∷ 48 ∷ 32 ∷ 48 ∷ 32 ∷ 48 ∷ 10 ∷ [])
     ++ (118 ∷ 97 ∷ 114 ∷ 32 ∷ 48 ∷ 32 ∷ 53 ∷ 10 ∷ [])
+    ++ (116 ∷ 97 ∷ 108 ∷ 108 ∷ 121 ∷ 32 ∷ 48 ∷ 32 ∷ 49 ∷ 32 ∷ 48 ∷ 32 ∷ 49 ∷ 32 ∷ 48 ∷ 10 ∷ [])
+    ++ (116 ∷ 97 ∷ 108 ∷ 108 ∷ 121 ∷ 32 ∷ 49 ∷ 32 ∷ 48 ∷ 32 ∷ 49 ∷ 32 ∷ 49 ∷ 32 ∷ 48 ∷ 10 ∷ [])
 
 -- the definitions give them
 abbrev pub K1Prints : Type 0

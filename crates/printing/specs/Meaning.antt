@@ -5,7 +5,7 @@ use mathlib.Core.List.{List, [], _∷_, _++_}
 use lib.ListN.{length}
 use Rattle.text.specs.Text.{decimal, line}
 use Rattle.writing.specs.Writing.{joined}
-use Rattle.lines.specs.Lines.{nodeWord, varWord, endLine, refusedLine, examinedLine}
+use Rattle.lines.specs.Lines.{nodeWord, varWord, endLine, tallyLine, refusedLine, examinedLine}
 use Rattle.model.specs.Declared.{turnsOf}
 use Rattle.model.specs.Program.{Program, programOf}
 use Rattle.model.specs.State.{Message, State, positionAt, accumulatorAt, messageAt, queueAt, waitingAt, variableAt}
@@ -16,6 +16,7 @@ use Rattle.model.specs.Refusal.{Decoded, accepted, rejected, Sizes, decodeFor}
 use Rattle.model.specs.Result.{monitored, unmonitored}
 use Rattle.model.specs.Dispatch.{Dispatched, examinedIn, monitoredDispatch, unmonitoredDispatch}
 use Rattle.model.specs.DispatchResult.{decodeDispatch, dispatchMonitored, dispatchUnmonitored}
+use Rattle.model.specs.Tally.{countsOf}
 use Rattle.model.specs.Valid.{Bytes}
 use Rattle.job.specs.declared.schedule.Schedule.the-variants as s
 use Rattle.printing.specs.Printing.{resultLines, linesBy}
@@ -50,9 +51,17 @@ linesOfState P s = joined (lineOfNode s) (P .nodes) ++ joined (lineOfVariable s)
 unfoldable pub linesOfRun : Program → Run → List ℕ
 linesOfRun P r = linesOfEntries r ++ (endLine (answerIn r) ++ linesOfState P (r .final))
 
+-- the tallies of a run (S-12): a line for each node of the program, in order, with its four counts at the stop
+unfoldable pub linesOfTallies : Program → Run → List ℕ
+linesOfTallies P r = joined (λ n. tallyLine n (countsOf P (entryAt r) (length (r .steps)) (r .final) n)) (P .nodes)
+
+-- a run and its tallies
+abbrev pub linesOfEnded : Program → Run → List ℕ
+linesOfEnded P r = linesOfRun P r ++ linesOfTallies P r
+
 -- a job, by the way its turns are run: the lines of its run, or that of its refusal
 abbrev pub linesOfJob : (Program → List ℕ → Run) → Decoded → List ℕ
-linesOfJob run (accepted past) = linesOfRun (programOf past) (run (programOf past) (turnsOf past))
+linesOfJob run (accepted past) = linesOfEnded (programOf past) (run (programOf past) (turnsOf past))
 linesOfJob run (rejected r) = refusedLine (r .number) (r .place)
 
 -- what is printed by the bytes handed over is what the run means, monitored ("watched") and unmonitored ("bare")
@@ -67,7 +76,7 @@ LinesHold = (job : List ℕ) (b : Sizes) → Bytes job → PrintsRuns job b
 -- a dispatched job (S-2), by the way it is dispatched: the lines of its run, then that of the examined total; or the line of its refusal
 abbrev pub linesOfDispatch : (Program → Dispatched) → Decoded → List ℕ
 linesOfDispatch dispatch (accepted past) =
-    linesOfRun (programOf past) (dispatch (programOf past) .run) ++ examinedLine (examinedIn (dispatch (programOf past) .choices))
+    linesOfEnded (programOf past) (dispatch (programOf past) .run) ++ examinedLine (examinedIn (dispatch (programOf past) .choices))
 linesOfDispatch dispatch (rejected r) = refusedLine (r .number) (r .place)
 
 -- what is printed by the bytes handed over is what the dispatched run means, monitored ("watched") and unmonitored ("bare")

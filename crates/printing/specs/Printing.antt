@@ -4,9 +4,13 @@ use mathlib.Core.Bool.{Bool}
 use mathlib.Core.List.{List, [], _++_}
 use lib.Dec.{leb}
 use lib.ListN.{length}
-use Rattle.lines.specs.Lines.{runLines, refusedLine, examinedLine}
+use Rattle.writing.specs.Writing.{joined}
+use Rattle.lines.specs.Lines.{runLines, tallyLine, refusedLine, examinedLine}
+use Rattle.tally.specs.Tallies.{countsIn}
 use Rattle.model.specs.Table.{NODE, VAR}
 use Rattle.model.specs.Declared.{countOf}
+use Rattle.model.specs.Program.{Program, programOf}
+use Rattle.model.specs.Output.{Answer}
 use Rattle.model.specs.Refusal.{decodeJob, commandsOf}
 use Rattle.model.specs.Result.{Result, refused, ran}
 use Rattle.model.specs.DispatchResult.{Handed}
@@ -23,10 +27,20 @@ nodesIn job = countOf NODE (commandsOf (decodeJob job))
 abbrev pub variablesIn : List ℕ → ℕ
 variablesIn job = countOf VAR (commandsOf (decodeJob job))
 
+-- the tallies (S-12) of a program's first nodes, after so many turns, by trace and snapshot ("picture")
+abbrev pub tallyLines : Program → ℕ → List ℕ → List ℕ → ℕ → List ℕ
+tallyLines P turns trace snapshot nodes = joined (λ n. tallyLine n (countsIn P turns trace snapshot n)) nodes
+
+-- what is printed for a job whose run left this answer, trace and snapshot: the lines of the run, then the tallies
+abbrev pub endedLines : List ℕ → Answer → List ℕ → List ℕ → List ℕ
+endedLines job x trace snapshot =
+    runLines x trace snapshot (nodesIn job) (variablesIn job)
+    ++ tallyLines (programOf (commandsOf (decodeJob job))) (x .turns) trace snapshot (nodesIn job)
+
 -- what is printed for a job with this result
 abbrev pub resultLines : List ℕ → Result → List ℕ
 resultLines job (refused r) = refusedLine (r .number) (r .place)
-resultLines job (ran x trace snapshot) = runLines x trace snapshot (nodesIn job) (variablesIn job)
+resultLines job (ran x trace snapshot) = endedLines job x trace snapshot
 
 -- the line after those of a run: the examined total, if its turns were dispatched (S-2)
 abbrev pub totalLines : Schedule → ℕ → List ℕ

@@ -3,14 +3,15 @@ ghost use Prim.Native.Nat.{_+_, _*_, _≤_};
 ghost use mathlib.Core.Path.{_≡_};
 ghost use mathlib.Core.Bool.{cond};
 ghost use lib.ListN.{length};
+ghost use Rattle.model.specs.Table.{maxNodes};
 ghost use Rattle.model.specs.Refusal.{decodeJob, IsAccepted};
 ghost use Rattle.model.specs.Result.{traceAfter, snapshotAfter, workAfter};
 ghost use Rattle.run.specs.Answers.{handedWith};
 ghost use Rattle.writing.specs.Writing.{Writes, placed};
+ghost use Rattle.tables.specs.Programs.{Handlers, programIn};
 ghost use Rattle.turns.specs.Endings.{answerOf};
 ghost use Rattle.output.specs.Finding.{partAt};
-ghost use Rattle.lines.specs.Lines.{runLines};
-ghost use Rattle.printing.specs.Printing.{nodesIn, variablesIn, totalLines, linesBy};
+ghost use Rattle.printing.specs.Printing.{nodesIn, variablesIn, tallyLines, endedLines, totalLines, linesBy};
 ghost use Rattle.printing.specs.Printing.{textSize, hasRoom, noRoom, saidBy, saidOf, placeAfter};
 use command::bytes;
 use declared::count_of;
@@ -19,9 +20,12 @@ use job::schedule::Schedule;
 use lines::put_examined;
 use lines::put_refusal;
 use lines::put_run;
+use lines::tallies::put_tally_lines;
 use run::answer::Answer;
 use run::run;
 use tables::cells::CELLS;
+use tally::COUNTS;
+use tally::put_counts;
 use turns::ending::Ending;
 
 // Bytes of text that are enough for the lines of every run.
@@ -33,7 +37,29 @@ pub enum Printed {
     NoRoom,
 }
 
-// Puts the lines of the run of an accepted job, which says how many nodes and variables the snapshot shows.
+// Puts the lines of the tallies of the first nodes (S-12).
+fn put_tallies(
+    text: &mut [u8],
+    at: usize,
+    tables: &[u32],
+    turns: u64,
+    trace: &[u8],
+    snapshot: &[u8],
+    nodes: usize,
+) -> usize
+    requires { ⌜ nodes ≤ maxNodes ⌝ }
+    requires { ⌜ ((hs : Handlers) → at + length
+        (tallyLines (programIn (now tables) hs) turns (now trace) (now snapshot) nodes) ≤ length (now text)) ⌝ }
+    ensures { λ r. ⌜ ((hs : Handlers) → Writes
+        (tallyLines (programIn (now (tables .entry)) hs) turns (now (trace .entry)) (now (snapshot .entry)) nodes)
+        (now (text .entry)) at (now (text .exit)) r) ⌝ }
+{
+    let mut counts = [0u64; COUNTS];
+    put_counts(&mut counts, tables, turns, trace, snapshot, nodes);
+    put_tally_lines(text, at, &counts, nodes)
+}
+
+// Puts the lines of the run of an accepted job, which says how many nodes and variables the snapshot shows, and those of its tallies.
 fn put_ended(
     text: &mut [u8],
     at: usize,
@@ -45,18 +71,18 @@ fn put_ended(
     requires { ⌜ IsAccepted (decodeJob (now job)) ⌝ }
     requires { ⌜ 7 * (ending .turns) ≤ length (now trace) ⌝ }
     requires { ⌜ partAt (now snapshot) (nodesIn (now job)) + 4 * variablesIn (now job) ≤ length (now snapshot) ⌝ }
-    requires { ⌜ at + length
-        (runLines (answerOf ending) (now trace) (now snapshot) (nodesIn (now job)) (variablesIn (now job))) ≤ length (now text) ⌝ }
+    requires { ⌜ at + length (endedLines (now job) (answerOf ending) (now trace) (now snapshot)) ≤ length (now text) ⌝ }
     ensures { λ r. ⌜ Writes
-        (runLines (answerOf ending) (now (trace .entry)) (now (snapshot .entry))
-        (nodesIn (now (job .entry))) (variablesIn (now (job .entry))))
+        (endedLines (now (job .entry)) (answerOf ending) (now (trace .entry)) (now (snapshot .entry)))
         (now (text .entry)) at (now (text .exit)) r ⌝ }
 {
     let mut tables = [0u32; CELLS];
     decode(job, &mut tables);
     let nodes = count_of(&tables, bytes::NODE) as usize;
     let variables = count_of(&tables, bytes::VAR) as usize;
-    put_run(text, at, ending, trace, snapshot, nodes, variables)
+    let turns = ending.turns as u64;
+    let next = put_run(text, at, ending, trace, snapshot, nodes, variables);
+    put_tallies(text, next, &tables, turns, trace, snapshot, nodes)
 }
 
 // Puts the line of the examined total, if the turns were dispatched.

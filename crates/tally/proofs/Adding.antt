@@ -5,7 +5,7 @@ use mathlib.Core.Bool.{Bool, true, false, cond, _&&_}
 use mathlib.Core.List.{List}
 use native.Mathlib.Omega.{arith}
 use lib.Dec.{eqb}
-use lib.ListN.{length, getD, set, length-set, length-append}
+use lib.ListN.{length, getD, set, length-set}
 use lib.Seq.{getD-set-same, getD-set-other}
 use borrow.Author.Tests.{eqb-true, eqb-false, eq-eqb, ne-eqb}
 use Rattle.model.specs.Table.{maxNodes}
@@ -16,7 +16,6 @@ use Rattle.model.proofs.Counting.{bit, count-next, count-nothing, count-most}
 use Rattle.model.proofs.Reading.{number-one}
 use Rattle.tables.specs.Tables.{wiredIn}
 use Rattle.tables.specs.Programs.{Handlers, programIn}
-use Rattle.writing.specs.Writing.{joined}
 use Rattle.tables.specs.Bits.{bitOf}
 use Rattle.memory.specs.Queues.{counted}
 use Rattle.memory.proofs.Sending.{Ahead, ahead-none, counted-later, counted-all}
@@ -132,9 +131,3 @@ counts-next test entries k before after c a =
 pub counts-room : (test : ℕ → Entry → Bool) (entries : ℕ → Entry) (k : ℕ) (array : List ℕ)
     → Counts (λ n. countEntries (test n) entries k) array → k < 2 ^ 63 → (n : ℕ) → n < maxNodes → getD array n 0 < 2 ^ 63
 counts-room test entries k array c l n h = omega (arith, c .each n h, count-most (λ j. test n (entries j)) k)
-
--- four numbers a node
-pub length-fours : (f : ℕ → List ℕ) → ((n : ℕ) → length (f n) ≡ 4) → (k : ℕ) → length (joined f k) ≡ 4 * k
-unfolding joined
-length-fours f four zero = refl
-length-fours f four (suc k) = omega (arith, length-append (joined f k) (f k), four k, length-fours f four k)

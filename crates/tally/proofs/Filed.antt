@@ -66,11 +66,12 @@ filed-holds P r more rest n h =
     counts-back P r more rest (length (r .steps)) n (rw (le-leb (length (r .steps)) (length (traceIn r ++ more) / 7) long)) h
 
 pub filed-alone-holds : FiledAloneHolds
-filed-alone-holds P r turns rest n long h =
-    rw (append-nil (traceIn r)) at (counts-back P r [] rest turns n (rw (append-nil (traceIn r)) held) h)
+filed-alone-holds P r turns n long h =
+    rw (append-nil (traceIn r), append-nil (snapshotBytes P (r .final))) at
+    (counts-back P r [] [] turns n (rw (append-nil (traceIn r)) held) h)
   where
     bytes : length (traceIn r) ≡ 7 * length (r .steps)
-    bytes = size P r [] rest
+    bytes = size P r [] []
 
     whole : length (traceIn r) / 7 ≡ length (r .steps)
     whole = omega (arith, bytes)

@@ -24,11 +24,11 @@ FiledHolds =
     (P : Program) (r : Run) (more rest : List ℕ) (n : ℕ) → n < P .nodes
     → filedCounts P r more rest n ≡ countsOf P (entryAt r) (length (r .steps)) (r .final) n
 
--- and so are those by a trace alone, with any number of turns that is not less
+-- and so are those by the filed trace and snapshot alone, with any number of turns that is not less
 abbrev pub FiledAloneHolds : Type 0
 FiledAloneHolds =
-    (P : Program) (r : Run) (turns : ℕ) (rest : List ℕ) (n : ℕ) → length (r .steps) ≤ turns → n < P .nodes
-    → countsIn P turns (traceIn r) (snapshotBytes P (r .final) ++ rest) n ≡ countsOf P (entryAt r) (length (r .steps)) (r .final) n
+    (P : Program) (r : Run) (turns n : ℕ) → length (r .steps) ≤ turns → n < P .nodes
+    → countsIn P turns (traceIn r) (snapshotBytes P (r .final)) n ≡ countsOf P (entryAt r) (length (r .steps)) (r .final) n
 
 -- four counts add up: started and received are taken and waiting
 abbrev pub AddsUp : List ℕ → Type 0

@@ -28,6 +28,7 @@ mod senders;
 mod sight;
 mod spans;
 mod stops;
+mod tallies;
 mod unused;
 mod work;
 mod worked;
@@ -80,8 +81,8 @@ fn jobs() -> Vec<(&'static str, Vec<Job>)> {
 const WITH_UNUSED: [&str; 2] = ["groups", "random"];
 
 /// All families: the worked jobs in both modes, each of the jobs above once, then what is about runs, then SPAN,
-/// then REPLY, then unused permissions, then senders, then dispatched runs. A new family goes behind all others, so that
-/// the stored runs before it stay the same.
+/// then REPLY, then unused permissions, then senders, then dispatched runs, then tallies. A new family goes behind all
+/// others, so that the stored runs before it stay the same.
 pub fn families() -> Vec<Family> {
     let mut runs = Runs::new();
     let mut list = vec![Family { name: "worked", runs: runs.pairs(&worked::jobs()) }];
@@ -113,6 +114,7 @@ pub fn families() -> Vec<Family> {
     list.extend(about_unused(&mut runs));
     list.extend(about_senders(&mut runs));
     list.extend(dispatched(&mut runs));
+    list.push(Family { name: "tallies", runs: tallies::runs(&mut runs) });
     list
 }
 

@@ -2,18 +2,13 @@
 //! snapshot.
 
 use super::run::{exact, Run, Runs};
-use super::worlds::{body, flow, start, wires};
+use super::worlds::{body, flow, start, turns, wires};
 use super::Job;
 use crate::table::{self, *};
 
 pub fn jobs() -> Vec<Job> {
     let taken = [orders(), to_themselves(), beside_start(), several_targets()].concat();
     [taken, full_queues(), moving(), numbers(), judged()].concat()
-}
-
-/// Turns of nodes, each so often.
-fn turns(list: &[(u8, usize)]) -> Job {
-    list.iter().flat_map(|&(node, times)| [TURN, node].repeat(times)).collect()
 }
 
 /// So many turns of each of these nodes.

@@ -65,6 +65,11 @@ pub fn start(node: u8) -> Job {
     table::write(START, &[node.into(), 7])
 }
 
+/// Turns of nodes, each so often.
+pub fn turns(list: &[(u8, usize)]) -> Job {
+    list.iter().flat_map(|&(node, times)| [TURN, node].repeat(times)).collect()
+}
+
 /// The plan's job with more bytes behind it.
 pub fn behind(plan: &Plan, tail: &[u8]) -> Job {
     [&plan.bytes(), tail].concat()

@@ -7,6 +7,7 @@ pub mod made;
 use std::collections::HashSet;
 use std::ops::RangeInclusive;
 
+use flow_reference::print::print;
 use flow_reference::{decode, hex, run_or_dispatch, Mode, Outcome, Refusal};
 
 pub const MODES: [Mode; 2] = [Mode::Monitored, Mode::Unmonitored];
@@ -24,6 +25,13 @@ pub fn k1() -> Vec<u8> {
     job.extend([0x60, 0].repeat(5));
     job.extend([0x60, 1].repeat(4));
     job
+}
+
+/// What is printed of a job with its written turns but the tally lines, which have tests of their own.
+pub fn print_untallied(job: &[u8], mode: Mode) -> String {
+    let text = print(job, mode);
+    let rest = text.split_inclusive('\n').filter(|line| !line.starts_with("tally "));
+    rest.collect()
 }
 
 /// What a run left in its buffers.

@@ -12,7 +12,7 @@ use Rattle.tables.specs.Programs.{Handlers, programIn}
 use Rattle.output.specs.Finding.{waitingIn, partAt}
 use Rattle.output.proofs.Finding.{part-first}
 use Rattle.tally.specs.Counted.{countsBy}
-use Rattle.tally.proofs.Adding.{length-fours}
+use Rattle.tally.proofs.Fours.{length-fours}
 use Rattle.tally.proofs.nodes.put_nodes.Statement.{statement}
 use Rattle.tally.proofs.nodes.put_nodes.Tie as tie
 
