@@ -1,5 +1,5 @@
-/* Running a job, monitored or not, with its written turns or dispatched, and counting the messages of a run: the C functions of the
- * static library librun.a.
+/* Running a job, monitored or not, with its written turns or dispatched: the C functions of the static library librun.a. And counting the
+ * messages of a run: leqsumir_tally, of libtally.a. The two can be linked together or each alone.
  *
  * Document 01, with requests S-1, S-2, S-4, S-5, S-7, S-9, S-11 and S-12 of document 02, says what a job is, what a run does, when a job
  * is refused and what the tally counts. "Monitored" is 01's "watched", "unmonitored" its "bare", "snapshot" its "end picture". All five

@@ -1,8 +1,9 @@
-/* Reruns a job file through the proved static library, monitored and unmonitored, counts the messages of each node and says where the two
+/* Reruns a job file through the proved static libraries, monitored and unmonitored, counts the messages of each node and says where the two
  * part. With a budget both runs are dispatched.
  * At the repository's root:
  *     rt staticlib run
- *     gcc -O2 -Wall -Wextra -Iinclude -o target/rerun rerun/rerun.c target/staticlib/librun.a
+ *     rt staticlib tally
+ *     gcc -O2 -Wall -Wextra -Iinclude -o target/rerun rerun/rerun.c target/staticlib/librun.a target/staticlib/libtally.a
  *     target/rerun examples/k2.job
  *     target/rerun examples/email-dispatched.job 12 */
 #include <ctype.h>

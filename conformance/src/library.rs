@@ -1,4 +1,4 @@
-//! The proved run and tally, through the functions of their static library.
+//! The proved run and tally, through the functions of their static libraries.
 
 use flow_reference::Mode;
 use leqsumir::COUNTS;

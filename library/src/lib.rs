@@ -1,5 +1,5 @@
 //! Running a job, monitored or not, with its written turns or dispatched, and counting the messages of a run, from Rust:
-//! the functions of the proved static library librun.a.
+//! the functions of the proved static libraries librun.a and libtally.a.
 //!
 //! Document 01, with requests S-1, S-2, S-4, S-5, S-7, S-9, S-11 and S-12 of document 02, says what a job is, what a run
 //! does, when a job is refused and what the tally counts; `include/leqsumir.h` says what the functions promise. The

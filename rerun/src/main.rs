@@ -1,4 +1,4 @@
-//! Reruns a job file through the proved static library, monitored and unmonitored, counts the messages of each node and
+//! Reruns a job file through the proved static libraries, monitored and unmonitored, counts the messages of each node and
 //! says where the two part. With a budget both runs are dispatched.
 
 use std::ffi::OsString;

@@ -1,9 +1,6 @@
-// The entry points for programs in C and Rust (include/leqsumir.h): the answer as eight numbers, with the examined total as nine; that of a
-// tally as three.
+// The entry points for programs in C and Rust (include/leqsumir.h): the answer as eight numbers, with the examined total as nine.
 ghost use mathlib.Core.Path.{_≡_};
-ghost use Rattle.model.specs.Refusal.{decodeJob};
 ghost use Rattle.model.specs.Result.{traceAfter, snapshotAfter, workAfter};
-ghost use Rattle.tally.specs.Tallies.{tallyTold, talliesAfter};
 ghost use Rattle.run.specs.Answers.{toldBy, toldIn, monitoredWith, unmonitoredWith};
 ghost use Rattle.run.specs.Answers.{monitoredUnder, unmonitoredUnder};
 ghost use Rattle.run.specs.Exported.{numbersIn, numbersWith};
@@ -13,8 +10,6 @@ use crate::dispatch_monitored;
 use crate::dispatch_unmonitored;
 use crate::run_monitored;
 use crate::run_unmonitored;
-use tally::COUNTS;
-use tally::tally;
 
 // The numbers of an answer.
 fn numbers_in(answer: Answer) -> [u64; 8]
@@ -149,21 +144,4 @@ pub extern "C" fn leqsumir_dispatch_unmonitored(
         (now (work .entry)) ⌝ }
 {
     *answer = numbers_with(dispatch_unmonitored(job, budget, trace, snapshot, work));
-}
-
-// The tally (S-12) of a run of a job, by the number of its turns, its trace and its snapshot (01's "picture"): four counts a node.
-#[no_mangle]
-pub extern "C" fn leqsumir_tally(
-    job: &[u8],
-    turns: u64,
-    trace: &[u8],
-    snapshot: &[u8],
-    counts: &mut [u64; COUNTS],
-    answer: &mut [u64; 3],
-)
-    ensures told { λ _. ⌜ now (answer .exit) ≡ tallyTold (decodeJob (now (job .entry))) ⌝ }
-    ensures counts { λ _. ⌜ now (counts .exit) ≡ talliesAfter (decodeJob (now (job .entry))) turns
-        (now (trace .entry)) (now (snapshot .entry)) (now (counts .entry)) ⌝ }
-{
-    *answer = tally(job, turns, trace, snapshot, counts);
 }

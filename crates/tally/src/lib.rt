@@ -1,6 +1,7 @@
 // The tally of a job's nodes (S-12): messages started, received, taken and waiting, counted from the job, the bytes of a trace and those of
 // a snapshot (01's "picture"). Any bytes are allowed.
 mod counting;
+mod exports;
 mod nodes;
 
 ghost use mathlib.Core.Path.{_≡_};
