@@ -84,7 +84,7 @@ tallyLine n counts = line tallyWord (n ∷ counts)
 abbrev pub fourAt : List ℕ → ℕ → List ℕ
 fourAt counts n = getD counts (4 * n) 0 ∷ getD counts (4 * n + 1) 0 ∷ getD counts (4 * n + 2) 0 ∷ getD counts (4 * n + 3) 0 ∷ []
 
--- the tallies of the first nodes in an array
+-- the tallies of the first nodes, by an array
 abbrev pub tallyLinesIn : List ℕ → ℕ → List ℕ
 tallyLinesIn counts nodes = joined (λ n. tallyLine n (fourAt counts n)) nodes
 

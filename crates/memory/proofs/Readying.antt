@@ -111,7 +111,7 @@ more-waiting true true w w′ e = rw (ne-eqb w′ 0 (λ z. omega arith)) (by-cou
     by-count false = refl
 
 -- how many messages wait at a node after a send
-length-counted : (target : ℕ → Bool) (ws : List ℕ) (k : ℕ) → length (counted target ws k) ≡ length ws
+pub length-counted : (target : ℕ → Bool) (ws : List ℕ) (k : ℕ) → length (counted target ws k) ≡ length ws
 unfolding counted
 length-counted target ws zero = refl
 length-counted target ws (suc k) = by-target (target k) (length-counted target ws k)
@@ -121,7 +121,7 @@ length-counted target ws (suc k) = by-target (target k) (length-counted target w
     by-target true ih = length-set (counted target ws k) k (getD ws k 0 + 1) ∙ ih
     by-target false ih = ih
 
-counted-at : (target : ℕ → Bool) (ws : List ℕ) (k m : ℕ) → m < k → m < length ws
+pub counted-at : (target : ℕ → Bool) (ws : List ℕ) (k m : ℕ) → m < k → m < length ws
     → getD (counted target ws k) m 0 ≡ getD ws m 0 + bit (target m)
 unfolding counted
 counted-at target ws zero m h l = absurd (omega arith)

@@ -1,6 +1,6 @@
 -- Messages add up (S-12): one law for one turn, then by induction over the turns of any run.
-use Prim.Native.Nat.{ℕ, zero, suc, _+_, _≤_, _<_}
-use mathlib.Core.Path.{_≡_, refl, sym, ap, subst, _∙_}
+use Prim.Native.Nat.{ℕ, zero, suc, _+_, _<_}
+use mathlib.Core.Path.{_≡_, refl, sym, subst, _∙_}
 use mathlib.Core.Bool.{Bool, true, false, cond, _&&_, and-true}
 use mathlib.Core.List.{List, [], _∷_, _++_, map}
 use native.Mathlib.Omega.{arith}
@@ -9,7 +9,7 @@ use lib.ListN.{length, getD, set, drop, List·getD-eq-default}
 use lib.Seq.{getD-set-same, getD-set-other}
 use borrow.Author.Tests.{eqb-true, eqb-false, ne-eqb, leb-true, leb-false}
 use Rattle.model.specs.Table.{SEND, START, maxNodes}
-use Rattle.model.specs.Command.{Command, is}
+use Rattle.model.specs.Command.{is}
 use Rattle.model.specs.Declared.{Instruction, startsOf}
 use Rattle.model.specs.Program.{Program, programOf}
 use Rattle.model.specs.State.{Message, startSender, messageFrom, noMessage, State, positionAt, accumulatorAt, queueAt, waitingAt}
@@ -19,9 +19,9 @@ use Rattle.model.specs.Turn.{instructionAt, turn}
 use Rattle.model.specs.Permission.{monitoredTurn}
 use Rattle.model.specs.Run.{Run, entryAt, stateAt}
 use Rattle.model.specs.Following.{Follows}
-use Rattle.model.specs.Dispatch.{countBelow, chosenIn, monitoredDispatch, unmonitoredDispatch}
+use Rattle.model.specs.Dispatch.{chosenIn, monitoredDispatch, unmonitoredDispatch}
 use Rattle.model.specs.Valid.{Sized}
-use Rattle.model.specs.Tally.{countEntries, countIf, reaches, takes, started, startedFrom, AddUp, Tallied, RunOf, unmonitoredTurns, monitoredTurns}
+use Rattle.model.specs.Tally.{countEntries, countIf, reaches, takes, started, startedFrom, AddUp, Tallied, unmonitoredTurns, monitoredTurns}
 use Rattle.model.specs.Tally.{unmonitoredBudget, monitoredBudget, TallyHolds, StartedHolds}
 use Rattle.model.proofs.Logic.{not-both}
 use Rattle.model.proofs.Lists.{length-only, getD-tabulate}
@@ -215,15 +215,15 @@ module _
   where
     -- by the senders that pass a test
     module _ (from : ℕ → Bool) (t : ℕ) (h : t < maxNodes) where
-      abbrev Adds : ℕ → State → Type 0
-      Adds k s =
+      abbrev Balances : ℕ → State → Type 0
+      Balances k s =
           cond (from startSender) (started P t) 0 + countEntries (arrives from P t) (entryAt r) k
           ≡ countEntries (leaves from t) (entryAt r) k + waits from (s .queue) t
 
       one-more : (test : Entry → Bool) (k : ℕ) → countEntries test (entryAt r) (suc k) ≡ countEntries test (entryAt r) k + bit (test (entryAt r k))
       one-more test k = count-suc (λ j. test (entryAt r j)) k
 
-      first : Adds 0 (initialState P)
+      first : Balances 0 (initialState P)
       unfolding initialState
       first =
           rw (getD-tabulate maxNodes t (firstQueue P) [] h)
@@ -234,14 +234,14 @@ module _
             count-nothing (λ j. leaves from t (entryAt r j)),
           ))
 
-      stays : (k : ℕ) (s : State) → ¬ (k < length (r .steps)) → Sized s × Adds k s → Sized s × Adds (suc k) s
+      stays : (k : ℕ) (s : State) → ¬ (k < length (r .steps)) → Sized s × Balances k s → Sized s × Balances (suc k) s
       stays k s beyond (z, a) =
           let arriving : bit (arrives from P t (entryAt r k)) ≡ 0 = rw (no-entry r k beyond) (none (from 0) false true refl) in
           let leaving : bit (leaves from t (entryAt r k)) ≡ 0 = rw (no-entry r k beyond) (none (from 0) false true refl) in
           (z, omega (arith, a, one-more (arrives from P t) k, one-more (leaves from t) k))
 
-      next : (k : ℕ) → k < length (r .steps) → Sized (stateAt r k) × Adds k (stateAt r k)
-          → Sized (stateAt r (suc k)) × Adds (suc k) (stateAt r (suc k))
+      next : (k : ℕ) → k < length (r .steps) → Sized (stateAt r k) × Balances k (stateAt r k)
+          → Sized (stateAt r (suc k)) × Balances (suc k) (stateAt r (suc k))
       next k below (z, a) =
           let turned = goes .goesOn k below in
           let balance = subst (Balanced from P (stateAt r k)) turned (balanced from (stateAt r k) (getD turns k 0) (z .queue)) t h in (
@@ -249,8 +249,8 @@ module _
             omega (arith, a, balance, one-more (arrives from P t) k, one-more (leaves from t) k),
           )
 
-      adds : (k : ℕ) → Adds k (stateAt r k)
-      adds k = at-each goes (λ j s. Sized s × Adds j s) (initial-sized P, first) stays next k .1
+      adds : (k : ℕ) → Balances k (stateAt r k)
+      adds k = at-each goes (λ j s. Sized s × Balances j s) (initial-sized P, first) stays next k .1
 
     add-up : (k n : ℕ) → n < maxNodes → AddUp P (entryAt r) k (stateAt r k) n
     add-up k n h =
@@ -259,7 +259,7 @@ module _
           from = λ m. adds (λ sender. eqb sender m) n h k;
           fromNode =
               λ m l.
-              let none-started : startedFrom P m n ≡ 0 = rw (ne-eqb startSender m (λ e. omega arith)) in
+              let none-started : startedFrom P m n ≡ 0 = rw (ne-eqb startSender m (λ e. l (sym e))) in
               omega (arith, adds (λ sender. eqb sender m) n h k);
         }
 

@@ -13,7 +13,7 @@ use Rattle.model.specs.Turn.{Entry}
 use Rattle.model.specs.Run.{Run, entryAt, stateAt, monitoredRun, unmonitoredRun}
 use Rattle.model.specs.Dispatch.{countBelow, monitoredDispatch, unmonitoredDispatch}
 
--- how many of the first k entries pass a test; the entries are given by their numbers
+-- how many of the first k entries pass a test; the entries are given as a function: entry 0, entry 1, ..
 abbrev pub countEntries : (Entry → Bool) → (ℕ → Entry) → ℕ → ℕ
 countEntries test entries k = countBelow (λ j. test (entries j)) k
 
@@ -26,13 +26,18 @@ countIf test (a ∷ l) = cond (test a) (countIf test l + 1) (countIf test l)
 abbrev pub reaches : Program → ℕ → Entry → Bool
 reaches P n e = eqb (e .kind) 6 && P .wired (e .node) (e .number) n
 
--- the entry is a taking by node n: its kind 1
+-- the entry is a taking by node n: kind 1, of node n
 abbrev pub takes : ℕ → Entry → Bool
 takes n e = eqb (e .kind) 1 && eqb (e .node) n
 
--- started: the first messages of node n, one for each of its START commands (`StartedHolds`)
+-- started: the first messages of node n
 abbrev pub started : Program → ℕ → ℕ
 started P n = length (P .firstMessages n)
+
+-- it counts the START commands of the node
+abbrev pub StartedHolds : Type 0
+StartedHolds =
+    (past : List Command) (n : ℕ) → started (programOf past) n ≡ countIf (λ (c : Command). is START c && eqb (c .operands .first) n) past
 
 -- received: the first k entries that reach node n, each once
 abbrev pub received : Program → (ℕ → Entry) → ℕ → ℕ → ℕ
@@ -43,10 +48,10 @@ abbrev pub taken : (ℕ → Entry) → ℕ → ℕ → ℕ
 taken entries k n = countEntries (takes n) entries k
 
 -- waiting is `waitingAt`, which the snapshot ("picture") shows. The four counts of node n, after the first k entries and in this state
-abbrev pub countsOf : Program → (ℕ → Entry) → ℕ → State → ℕ → List ℕ
-countsOf P entries k s n = started P n ∷ received P entries k n ∷ taken entries k n ∷ waitingAt s n ∷ []
+abbrev pub tallyOf : Program → (ℕ → Entry) → ℕ → State → ℕ → List ℕ
+tallyOf P entries k s n = started P n ∷ received P entries k n ∷ taken entries k n ∷ waitingAt s n ∷ []
 
--- by sender: the first messages of node n that are from m, which are all of them if m is 255, the sender that START has
+-- by sender: the first messages of node n that are from m, which are all of them if m is 255, the sender that START has, and else none
 abbrev pub startedFrom : Program → ℕ → ℕ → ℕ
 startedFrom P m n = cond (eqb startSender m) (started P n) 0
 
@@ -68,10 +73,10 @@ pub record AddUp (P : Program) (entries : ℕ → Entry) (k : ℕ) (s : State) (
   pub inAll : started P n + received P entries k n ≡ taken entries k n + waitingAt s n
   -- by sender, START among them
   pub from : (m : ℕ) → startedFrom P m n + sentTo P entries k m n ≡ takenFrom entries k m n + waitingFrom s m n
-  -- so those from a node m add up to m's sends that are wired to n
-  pub fromNode : (m : ℕ) → m < maxNodes → sentTo P entries k m n ≡ takenFrom entries k m n + waitingFrom s m n
+  -- so those from any other m than 255 add up to m's sends that are wired to n
+  pub fromNode : (m : ℕ) → ¬ (m ≡ startSender) → sentTo P entries k m n ≡ takenFrom entries k m n + waitingFrom s m n
 
--- they do for each of 32 nodes at every moment of a run, after its first k turns, and so at its stop
+-- they do at each of 32 nodes after the first k turns of a run, for every k (after its last turn nothing changes), and so at its stop
 pub record Tallied (P : Program) (r : Run) : Type 0 where
   pub always : (k n : ℕ) → n < maxNodes → AddUp P (entryAt r) k (stateAt r k) n
   pub atStop : (n : ℕ) → n < maxNodes → AddUp P (entryAt r) (length (r .steps)) (r .final) n
@@ -86,8 +91,3 @@ pub data RunOf (P : Program) : Run → Type 0 where
 -- messages add up in every run of every program
 abbrev pub TallyHolds : Type 0
 TallyHolds = (P : Program) (r : Run) → RunOf P r → Tallied P r
-
--- started counts the START commands of the node
-abbrev pub StartedHolds : Type 0
-StartedHolds =
-    (past : List Command) (n : ℕ) → started (programOf past) n ≡ countIf (λ (c : Command). is START c && eqb (c .operands .first) n) past

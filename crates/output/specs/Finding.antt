@@ -1,4 +1,4 @@
--- A trace read entry by entry, and a snapshot ("end picture") read part by part (S-3).
+-- A snapshot ("end picture") read part by part (S-3), and a trace entry by entry.
 use Prim.Native.Nat.{ℕ, zero, suc, _+_, _*_, _≤_}
 use mathlib.Core.Path.{_≡_}
 use mathlib.Core.List.{List, _++_}

@@ -2,16 +2,15 @@
 use Prim.Native.Nat.{ℕ, zero, suc, _+_, _*_, _^_, _≤_, _<_}
 use mathlib.Core.Path.{_≡_, refl, sym, ap, ap₂, subst, _∙_}
 use mathlib.Core.List.{List, [], _∷_, _++_, append-assoc, append-nil}
-use native.Mathlib.Nat.{mul-suc}
 use native.Mathlib.Omega.{arith}
 use lib.ListN.{length, getD, length-append, length-map, List·getD-eq-default}
-use lib.Seq.{getD-append-seam, getD-append-add}
+use lib.Seq.{getD-append-seam}
 use Rattle.writing.specs.Writing.{joined}
 use Rattle.writing.proofs.Putting.{first-shift, same-first}
 use Rattle.output.specs.Finding.{waitingIn}
 use Rattle.output.proofs.Finding.{parts-of}
 use Rattle.output.proofs.Rereading.{number-front, number-past, element, entry-part, entry-byte}
-use Rattle.tally.specs.Tallies.{countsIn}
+use Rattle.tally.specs.Tallies.{tallyIn}
 use Rattle.tally.proofs.Filed.{filed-alone-holds}
 use Rattle.lines.specs.Lines.{entryLine, messageIn, messagesAt, nodeLine, variableLine, nodeLines, snapshotLines, runLines, tallyLine}
 use Rattle.lines.proofs.Texts.{entry-same, variable-same}
@@ -22,13 +21,13 @@ use Rattle.model.specs.State.{Message, noMessage, State, positionAt, accumulato
 use Rattle.model.specs.Turn.{Entry, entry, Turned, entryOf, instructionAt, turn}
 use Rattle.model.specs.Permission.{monitoredTurn}
 use Rattle.model.specs.Run.{Run, entriesOf, statesOf, entryAt, stateAt, monitoredRun, unmonitoredRun}
-use Rattle.model.specs.Output.{answerIn, bytes4, entryBytes, traceBytes, traceIn}
+use Rattle.model.specs.Output.{answerIn, bytes4, traceBytes, traceIn}
 use Rattle.model.specs.Output.{messagesBytes, nodeBytes, nodesBytes, variablesBytes, snapshotBytes}
 use Rattle.model.specs.Refusal.{Decoded, accepted, rejected, decodeJob, Sizes, shortBuffer, decodeFor}
 use Rattle.model.specs.Result.{report, resultOf, monitored, unmonitored}
 use Rattle.model.specs.Conclusion.{Refuses, Accepts}
 use Rattle.model.specs.Following.{Follows}
-use Rattle.model.specs.Tally.{countsOf}
+use Rattle.model.specs.Tally.{tallyOf}
 use Rattle.model.specs.Valid.{Fits}
 use Rattle.model.proofs.Reading.{number-one}
 use Rattle.model.proofs.Bounds.{length-messages, length-variables}
@@ -199,9 +198,11 @@ tallies-read : (P : Program) (r : Run)
     → tallyLines P (length (r .steps)) (traceIn r) (snapshotBytes P (r .final)) (P .nodes) ≡ linesOfTallies P r
 unfolding linesOfTallies
 tallies-read P r =
-    same-first (λ n. tallyLine n (countsIn P (length (r .steps)) (traceIn r) (snapshotBytes P (r .final)) n))
-    (λ n. tallyLine n (countsOf P (entryAt r) (length (r .steps)) (r .final) n)) (P .nodes)
-    (λ n h. ap (tallyLine n) (filed-alone-holds P r (length (r .steps)) n (omega arith) h))
+    same-first (λ n. tallyLine n (tallyIn P (length (r .steps)) (traceIn r) (snapshotBytes P (r .final)) n))
+    (λ n. tallyLine n (tallyOf P (entryAt r) (length (r .steps)) (r .final) n)) (P .nodes)
+    (λ n h.
+    ap (tallyLine n)
+    (rw (append-nil (snapshotBytes P (r .final))) at (filed-alone-holds P r (length (r .steps)) [] n (omega arith) h)))
 
 pub ended-read :
     (P : Program) (r : Run) → Readable r

@@ -2,7 +2,7 @@
 use Prim.Native.Nat.{ℕ, _+_, _*_, _≤_}
 use mathlib.Core.Path.{_≡_, refl, sym, ap, ap₂, _∙_, subst}
 use mathlib.Core.Bool.{Bool, true, false, cond}
-use mathlib.Core.List.{List, _++_, append-nil}
+use mathlib.Core.List.{List, [], _++_, append-nil}
 use native.Mathlib.Omega.{arith}
 use lib.ListN.{length, drop, length-append, length-map}
 use Rattle.run.specs.declared.answer.Answer.{Answer}
@@ -15,7 +15,7 @@ use Rattle.output.proofs.Finding.{parts-of}
 use Rattle.writing.proofs.Putting.{same-first}
 use Rattle.tally.proofs.Filed.{filed-holds, filed-alone-holds}
 use Rattle.lines.specs.Lines.{runLines, tallyLine, refusedLine}
-use Rattle.run.proofs.Delivering.{handed-ran, handed-refused}
+use Rattle.run.proofs.Delivering.{handed-ran, handed-refused, decoded-by}
 use Rattle.model.specs.Table.{NODE, VAR}
 use Rattle.model.specs.Command.{Command}
 use Rattle.model.specs.Declared.{countOf, turnsOf}
@@ -26,11 +26,9 @@ use Rattle.model.specs.Output.{Answer as Answered, answerIn, traceIn, nodesByte
 use Rattle.model.specs.Dispatch.{monitoredDispatch, unmonitoredDispatch}
 use Rattle.model.specs.DispatchResult.{Handed, handed}
 use Rattle.model.specs.DispatchConclusion.{DispatchEnds}
-use Rattle.model.specs.Refusal.{Refusal, Decoded, accepted, rejected, decodeJob, Sizes, shortBuffer, decodeFor}
+use Rattle.model.specs.Refusal.{Refusal, Decoded, accepted, rejected, decodeJob, Sizes}
 use Rattle.model.specs.Result.{Result, refused, ran, report, Buffers, sizesOf, written, traceAfter, snapshotAfter, workAfter}
 use Rattle.model.specs.Valid.{Bytes, Valid}
-use Rattle.model.proofs.Results.{and-then-accepted}
-use Rattle.model.proofs.DispatchDecoding.{under-accepted}
 use Rattle.model.proofs.DispatchWalking.{walked}
 use Rattle.model.proofs.DispatchConclusion.{dispatch-concludes}
 use Rattle.model.proofs.Valid.{job-valid, limits}
@@ -105,13 +103,6 @@ runs-shown (s.Dispatched budget) false job b past e d =
     let a = rw e at (walked budget job (sizesOf b)) in
     ends-shown past budget (sizesOf b) _ (a .hasBudget .highest) (dispatch-concludes budget job b .runs past a .unmonitoredEnds)
 
--- a job that is accepted in either way is accepted by the tests of every job
-decoded-by : (schedule : Schedule) (job : List ℕ) (b : Sizes) (past : List Command) → decodeBy schedule job b ≡ accepted past
-    → decodeJob job ≡ accepted past
-unfolding decodeFor
-decoded-by s.Written job b past e = and-then-accepted (shortBuffer job b) (decodeJob job) past e .0
-decoded-by (s.Dispatched budget) job b past e = under-accepted budget job b past e .0
-
 -- a run that ended is the model's run of the commands of an accepted job
 pub record EndedAs (schedule : Schedule) (m : Bool) (job : List ℕ) (before after : Buffers) (x : Ending) : Type 0 where
   pub past : List Command
@@ -173,8 +164,8 @@ tallies-front P r turns more rest nodes few same =
     rw same
     (same-first _ _ nodes
     (λ n h.
-    ap (tallyLine n)
-    (filed-holds P r more rest n (omega arith) ∙ sym (filed-alone-holds P r (length (r .steps)) n (omega arith) (omega arith)))))
+    let alone = rw (append-nil (snapshotBytes P (r .final))) at (filed-alone-holds P r (length (r .steps)) [] n (omega arith) (omega arith)) in
+    ap (tallyLine n) (filed-holds P r more rest n (omega arith) ∙ sym alone)))
 
 nodes-of : (past : List Command) → countOf NODE past ≤ programOf past .nodes
 unfolding programOf

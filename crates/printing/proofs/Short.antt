@@ -12,7 +12,7 @@ use Rattle.lines.specs.Lines.{endWord, nodeWord, varWord, refusedWord, entryLin
 use Rattle.lines.specs.Lines.{variableLine, nodeLines, snapshotLines, runLines, refusedLine, examinedWord, examinedLine, tallyWord, tallyLine}
 use Rattle.job.specs.declared.schedule.Schedule.{Schedule}
 use Rattle.job.specs.declared.schedule.Schedule.the-variants as s
-use Rattle.tally.specs.Tallies.{countsIn}
+use Rattle.tally.specs.Tallies.{tallyIn}
 use Rattle.printing.specs.Printing.{tallyLines, totalLines}
 use Rattle.text.proofs.Decimals.{decimal-short, decimal-20}
 use Rattle.lines.proofs.Texts.{messageFields, messages-each}
@@ -250,4 +250,4 @@ tally-short n a b c d =
 pub tallies-short : (P : Program) (turns : ℕ) (trace snapshot : List ℕ) (nodes : ℕ)
     → length (tallyLines P turns trace snapshot nodes) ≤ 111 * nodes
 tallies-short P turns trace snapshot nodes =
-    first-short (λ n. tallyLine n (countsIn P turns trace snapshot n)) 111 (λ n. tally-short n _ _ _ _) nodes
+    first-short (λ n. tallyLine n (tallyIn P turns trace snapshot n)) 111 (λ n. tally-short n _ _ _ _) nodes

@@ -1,7 +1,7 @@
 -- The tallies that are printed from an array of counts.
 use Prim.Native.Nat.{ℕ, _+_, _*_, _≤_, _<_}
-use mathlib.Core.Path.{_≡_, refl, sym, ap, _∙_}
-use mathlib.Core.List.{List, [], _∷_, _++_}
+use mathlib.Core.Path.{_≡_, refl, ap, _∙_}
+use mathlib.Core.List.{List, _++_}
 use native.Mathlib.Omega.{arith}
 use lib.ListN.{length, getD, drop, replicate, length-replicate}
 use Rattle.model.specs.Command.{Command}
@@ -14,7 +14,7 @@ use Rattle.tables.specs.Programs.{Handlers, programIn}
 use Rattle.tables.specs.Stands.{Stands}
 use Rattle.tables.proofs.Standing.{program-stands}
 use Rattle.lines.specs.Lines.{tallyLine, fourAt, tallyLinesIn}
-use Rattle.tally.specs.Tallies.{countsIn}
+use Rattle.tally.specs.Tallies.{tallyIn}
 use Rattle.tally.proofs.Fours.{length-fours, four-at}
 use Rattle.printing.specs.Printing.{tallyLines}
 
@@ -27,13 +27,13 @@ any-handlers t hs others turns trace snapshot nodes = refl
 -- an array with the counts at its front
 pub same-tallies :
     (P : Program) (turns : ℕ) (trace snapshot : List ℕ) (nodes : ℕ) (before counts : List ℕ) (next : ℕ)
-    → Writes (joined (countsIn P turns trace snapshot) nodes) before 0 counts next
+    → Writes (joined (tallyIn P turns trace snapshot) nodes) before 0 counts next
     → tallyLinesIn counts nodes ≡ tallyLines P turns trace snapshot nodes
 same-tallies P turns trace snapshot nodes before counts next w =
     same-first (λ n. tallyLine n (fourAt counts n)) (λ n. tallyLine n (f n)) nodes (λ n h. ap (tallyLine n) (each n h))
   where
     f : ℕ → List ℕ
-    f = countsIn P turns trace snapshot
+    f = tallyIn P turns trace snapshot
 
     rest : List ℕ
     rest = drop (length (joined f nodes)) before
@@ -53,9 +53,9 @@ same-tallies P turns trace snapshot nodes before counts next w =
 -- it is as long as it was
 pub same-size :
     (P : Program) (turns : ℕ) (trace snapshot : List ℕ) (nodes : ℕ) (counts : List ℕ) (next : ℕ) → nodes ≤ 32
-    → Writes (joined (countsIn P turns trace snapshot) nodes) (replicate 128 0) 0 counts next → length counts ≡ 128
+    → Writes (joined (tallyIn P turns trace snapshot) nodes) (replicate 128 0) 0 counts next → length counts ≡ 128
 same-size P turns trace snapshot nodes counts next few w =
-    let f = countsIn P turns trace snapshot in
+    let f = tallyIn P turns trace snapshot in
     let long = length-replicate {A = ℕ} 128 0 in
     length-writes (joined f nodes) (replicate 128 0) 0 counts next (omega (arith, long, length-fours f (λ n. refl) nodes)) w ∙ long
 

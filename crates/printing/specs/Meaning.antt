@@ -16,7 +16,7 @@ use Rattle.model.specs.Refusal.{Decoded, accepted, rejected, Sizes, decodeFor}
 use Rattle.model.specs.Result.{monitored, unmonitored}
 use Rattle.model.specs.Dispatch.{Dispatched, examinedIn, monitoredDispatch, unmonitoredDispatch}
 use Rattle.model.specs.DispatchResult.{decodeDispatch, dispatchMonitored, dispatchUnmonitored}
-use Rattle.model.specs.Tally.{countsOf}
+use Rattle.model.specs.Tally.{tallyOf}
 use Rattle.model.specs.Valid.{Bytes}
 use Rattle.job.specs.declared.schedule.Schedule.the-variants as s
 use Rattle.printing.specs.Printing.{resultLines, linesBy}
@@ -53,7 +53,7 @@ linesOfRun P r = linesOfEntries r ++ (endLine (answerIn r) ++ linesOfState P (r 
 
 -- the tallies of a run (S-12): a line for each node of the program, in order, with its four counts at the stop
 unfoldable pub linesOfTallies : Program → Run → List ℕ
-linesOfTallies P r = joined (λ n. tallyLine n (countsOf P (entryAt r) (length (r .steps)) (r .final) n)) (P .nodes)
+linesOfTallies P r = joined (λ n. tallyLine n (tallyOf P (entryAt r) (length (r .steps)) (r .final) n)) (P .nodes)
 
 -- a run and its tallies
 abbrev pub linesOfEnded : Program → Run → List ℕ

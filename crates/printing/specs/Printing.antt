@@ -6,7 +6,7 @@ use lib.Dec.{leb}
 use lib.ListN.{length}
 use Rattle.writing.specs.Writing.{joined}
 use Rattle.lines.specs.Lines.{runLines, tallyLine, refusedLine, examinedLine}
-use Rattle.tally.specs.Tallies.{countsIn}
+use Rattle.tally.specs.Tallies.{tallyIn}
 use Rattle.model.specs.Table.{NODE, VAR}
 use Rattle.model.specs.Declared.{countOf}
 use Rattle.model.specs.Program.{Program, programOf}
@@ -29,7 +29,7 @@ variablesIn job = countOf VAR (commandsOf (decodeJob job))
 
 -- the tallies (S-12) of a program's first nodes, after so many turns, by trace and snapshot ("picture")
 abbrev pub tallyLines : Program → ℕ → List ℕ → List ℕ → ℕ → List ℕ
-tallyLines P turns trace snapshot nodes = joined (λ n. tallyLine n (countsIn P turns trace snapshot n)) nodes
+tallyLines P turns trace snapshot nodes = joined (λ n. tallyLine n (tallyIn P turns trace snapshot n)) nodes
 
 -- what is printed for a job whose run left this answer, trace and snapshot: the lines of the run, then the tallies
 abbrev pub endedLines : List ℕ → Answer → List ℕ → List ℕ → List ℕ

@@ -151,6 +151,13 @@ handed-refused s.Written false job b r e = rw e
 handed-refused (s.Dispatched budget) true job b r e = rw e
 handed-refused (s.Dispatched budget) false job b r e = rw e
 
+-- a job that is accepted in either way is accepted by the tests of every job
+pub decoded-by : (schedule : Schedule) (job : List ℕ) (b : Sizes) (past : List Command) → decodeBy schedule job b ≡ accepted past
+    → decodeJob job ≡ accepted past
+unfolding decodeFor
+decoded-by s.Written job b past e = and-then-accepted (shortBuffer job b) (decodeJob job) past e .0
+decoded-by (s.Dispatched budget) job b past e = under-accepted budget job b past e .0
+
 -- the answer, the examined total and the buffers afterwards are those handed over
 pub record Reports (h : Handed) (before after : Buffers) (x : Answered) : Type 0 where
   pub delivers : Delivers (h .result) before after (x .answer)

@@ -1,13 +1,13 @@
 -- Laws of counting in an array of 32 numbers.
-use Prim.Native.Nat.{ℕ, zero, suc, _+_, _*_, _^_, _≤_, _<_}
+use Prim.Native.Nat.{ℕ, _+_, _*_, _^_, _<_}
 use mathlib.Core.Path.{_≡_, refl, sym, ap, _∙_}
-use mathlib.Core.Bool.{Bool, true, false, cond, _&&_}
+use mathlib.Core.Bool.{Bool, true, false}
 use mathlib.Core.List.{List}
 use native.Mathlib.Omega.{arith}
 use lib.Dec.{eqb}
 use lib.ListN.{length, getD, set, length-set}
 use lib.Seq.{getD-set-same, getD-set-other}
-use borrow.Author.Tests.{eqb-true, eqb-false, eq-eqb, ne-eqb}
+use borrow.Author.Tests.{eqb-true, eqb-false, ne-eqb}
 use Rattle.model.specs.Table.{maxNodes}
 use Rattle.model.specs.Command.{numberAt}
 use Rattle.model.specs.Turn.{Entry}
@@ -18,39 +18,10 @@ use Rattle.tables.specs.Tables.{wiredIn}
 use Rattle.tables.specs.Programs.{Handlers, programIn}
 use Rattle.tables.specs.Bits.{bitOf}
 use Rattle.memory.specs.Queues.{counted}
-use Rattle.memory.proofs.Sending.{Ahead, ahead-none, counted-later, counted-all}
+use Rattle.memory.proofs.Sending.{Ahead, ahead-none, counted-all}
+use Rattle.memory.proofs.Readying.{length-counted, counted-at}
 use Rattle.output.specs.Finding.{entryFrom}
-use Rattle.tally.specs.Counted.{Adds, Counts}
-
--- one more at each target: as many numbers as before, and the number at each node
-module _ (target : ℕ → Bool) (ws : List ℕ) where
-  length-counted : (k : ℕ) → length (counted target ws k) ≡ length ws
-  unfolding counted
-  length-counted zero = refl
-  length-counted (suc k) = by-target (target k) (length-counted k)
-    where
-      by-target : (b : Bool) → length (counted target ws k) ≡ length ws
-          → length (cond b (set (counted target ws k) k (getD ws k 0 + 1)) (counted target ws k)) ≡ length ws
-      by-target true ih = length-set (counted target ws k) k (getD ws k 0 + 1) ∙ ih
-      by-target false ih = ih
-
-  counted-at : (k n : ℕ) → n < k → k ≤ length ws → getD (counted target ws k) n 0 ≡ getD ws n 0 + bit (target n)
-  unfolding counted
-  counted-at zero n h l = absurd (omega arith)
-  counted-at (suc k) n h l = by-last (eqb n k) refl (target k) refl (λ i. counted-at k n i (omega arith))
-    where
-      d : List ℕ
-      d = counted target ws k
-
-      by-last :
-          (b : Bool) → eqb n k ≡ b → (c : Bool) → target k ≡ c → (n < k → getD d n 0 ≡ getD ws n 0 + bit (target n))
-          → getD (cond c (set d k (getD ws k 0 + 1)) d) n 0 ≡ getD ws n 0 + bit (target n)
-      by-last true p true q ih =
-          rw (eqb-true n k p, q) (getD-set-same d k (getD ws k 0 + 1) 0 (omega (arith, length-counted k)))
-      by-last true p false q ih = rw (eqb-true n k p, q) (omega (arith, counted-later target ws k k (omega arith)))
-      by-last false p true q ih =
-          getD-set-other d k n (getD ws k 0 + 1) 0 (eqb-false n k p) ∙ ih (omega (arith, eqb-false n k p))
-      by-last false p false q ih = ih (omega (arith, eqb-false n k p))
+use Rattle.tally.specs.Counted.{Adds, Numbered}
 
 -- all targets are counted
 pub adds-targets : (all k ahead : ℕ) (before after : List ℕ) → length before ≡ maxNodes → Ahead all k ahead → ahead ≡ 0
@@ -113,14 +84,14 @@ module _ (trace : List ℕ) (k : ℕ) where
     reaches-none e = rw (ne-eqb (entryFrom trace k .kind) 6 (λ q. e (sym (number-one trace (7 * k + 1)) ∙ q)))
 
 -- an array that counts entries: none at first, and one entry more
-pub counts-first : (test : ℕ → Entry → Bool) (entries : ℕ → Entry) (array : List ℕ) → Counts (λ n. 0) array
-    → Counts (λ n. countEntries (test n) entries 0) array
+pub counts-first : (test : ℕ → Entry → Bool) (entries : ℕ → Entry) (array : List ℕ) → Numbered (λ n. 0) array
+    → Numbered (λ n. countEntries (test n) entries 0) array
 counts-first test entries array c =
     record { size = c .size; each = λ n h. c .each n h ∙ sym (count-nothing (λ j. test n (entries j))) }
 
 pub counts-next : (test : ℕ → Entry → Bool) (entries : ℕ → Entry) (k : ℕ) (before after : List ℕ)
-    → Counts (λ n. countEntries (test n) entries k) before → Adds (λ n. test n (entries k)) before after
-    → Counts (λ n. countEntries (test n) entries (k + 1)) after
+    → Numbered (λ n. countEntries (test n) entries k) before → Adds (λ n. test n (entries k)) before after
+    → Numbered (λ n. countEntries (test n) entries (k + 1)) after
 counts-next test entries k before after c a =
     record {
       size = a .size;
@@ -129,5 +100,5 @@ counts-next test entries k before after c a =
 
 -- a count of fewer than 2^63 entries has room for one more
 pub counts-room : (test : ℕ → Entry → Bool) (entries : ℕ → Entry) (k : ℕ) (array : List ℕ)
-    → Counts (λ n. countEntries (test n) entries k) array → k < 2 ^ 63 → (n : ℕ) → n < maxNodes → getD array n 0 < 2 ^ 63
+    → Numbered (λ n. countEntries (test n) entries k) array → k < 2 ^ 63 → (n : ℕ) → n < maxNodes → getD array n 0 < 2 ^ 63
 counts-room test entries k array c l n h = omega (arith, c .each n h, count-most (λ j. test n (entries j)) k)

@@ -1,6 +1,6 @@
 -- The counts made from bytes are those of the run.
 use Prim.Native.Nat.{ℕ, _*_, _/_, _≤_, _<_}
-use mathlib.Core.Path.{_≡_, refl, sym, ap, subst, _∙_}
+use mathlib.Core.Path.{_≡_, refl, ap, _∙_}
 use mathlib.Core.Bool.{Bool, true, false, cond}
 use mathlib.Core.List.{List, [], _++_, append-nil}
 use native.Mathlib.Omega.{arith}
@@ -11,16 +11,15 @@ use Rattle.model.specs.Program.{Program, programOf}
 use Rattle.model.specs.Run.{Run, Step, entriesOf, entryAt}
 use Rattle.model.specs.Output.{traceIn, snapshotBytes}
 use Rattle.model.specs.Result.{written}
-use Rattle.model.specs.Tally.{reaches, takes, countsOf}
+use Rattle.model.specs.Tally.{reaches, takes, tallyOf}
 use Rattle.model.proofs.Counting.{count-agree}
 use Rattle.model.proofs.Bounds.{length-trace}
-use Rattle.model.proofs.Tally.{tally-holds}
 use Rattle.writing.proofs.Putting.{same-first}
 use Rattle.output.specs.Finding.{entryFrom}
 use Rattle.output.proofs.Finding.{waiting-found}
 use Rattle.output.proofs.Rereading.{node-back, kind-back, number-of-back}
-use Rattle.tally.specs.Tallies.{entriesHeld, countsIn}
-use Rattle.tally.specs.Filed.{filedCounts, FiledHolds, FiledAloneHolds, AddsUp, FiledAddsUp, LeftHolds}
+use Rattle.tally.specs.Tallies.{entriesHeld, tallyIn}
+use Rattle.tally.specs.Filed.{filedTally, FiledHolds, FiledAloneHolds, LeftHolds}
 
 module _ (P : Program) (r : Run) (more rest : List ℕ) where
   abbrev trace : List ℕ
@@ -47,7 +46,7 @@ module _ (P : Program) (r : Run) (more rest : List ℕ) where
 
   -- so the counts are those of the run, if as many entries are held
   counts-back : (turns n : ℕ) → entriesHeld turns trace ≡ steps → n < P .nodes
-      → countsIn P turns trace (snapshotBytes P (r .final) ++ rest) n ≡ countsOf P (entryAt r) steps (r .final) n
+      → tallyIn P turns trace (snapshotBytes P (r .final) ++ rest) n ≡ tallyOf P (entryAt r) steps (r .final) n
   counts-back turns n held h =
       rw (
         held,
@@ -66,12 +65,11 @@ filed-holds P r more rest n h =
     counts-back P r more rest (length (r .steps)) n (rw (le-leb (length (r .steps)) (length (traceIn r ++ more) / 7) long)) h
 
 pub filed-alone-holds : FiledAloneHolds
-filed-alone-holds P r turns n long h =
-    rw (append-nil (traceIn r), append-nil (snapshotBytes P (r .final))) at
-    (counts-back P r [] [] turns n (rw (append-nil (traceIn r)) held) h)
+filed-alone-holds P r turns rest n long h =
+    rw (append-nil (traceIn r)) at (counts-back P r [] rest turns n (rw (append-nil (traceIn r)) held) h)
   where
     bytes : length (traceIn r) ≡ 7 * length (r .steps)
-    bytes = size P r [] []
+    bytes = size P r [] rest
 
     whole : length (traceIn r) / 7 ≡ length (r .steps)
     whole = omega (arith, bytes)
@@ -83,14 +81,10 @@ filed-alone-holds P r turns n long h =
         by-test true p = omega (arith, whole, leb-true turns (length (traceIn r) / 7) p)
         by-test false p = whole
 
-pub filed-adds-up : FiledAddsUp
-filed-adds-up P r of more rest n h few =
-    subst AddsUp (sym (filed-holds P r more rest n h)) (tally-holds P r of .atStop n (omega arith) .inAll)
-
 pub left-holds : LeftHolds
 left-holds job past r trace snapshot before e =
     let P = programOf past in
     rw e
     (ap (λ (l : List ℕ). written l before)
-    (same-first (filedCounts P r (drop (length (traceIn r)) trace) (drop (length (snapshotBytes P (r .final))) snapshot))
-    (countsOf P (entryAt r) (length (r .steps)) (r .final)) (P .nodes) (filed-holds P r _ _)))
+    (same-first (filedTally P r (drop (length (traceIn r)) trace) (drop (length (snapshotBytes P (r .final))) snapshot))
+    (tallyOf P (entryAt r) (length (r .steps)) (r .final)) (P .nodes) (filed-holds P r _ _)))

@@ -1,6 +1,6 @@
 -- The entries that a trace holds; arrays of zeros; and the counts by two arrays, as those by the entries.
 use Prim.Native.Nat.{ℕ, _*_, _/_, _≤_, _<_}
-use mathlib.Core.Path.{_≡_, refl, ap₂, _∙_}
+use mathlib.Core.Path.{_≡_, refl, ap₂}
 use mathlib.Core.Bool.{Bool, true, false, cond}
 use mathlib.Core.List.{List, [], _∷_}
 use native.Mathlib.Omega.{arith}
@@ -13,8 +13,8 @@ use Rattle.model.specs.Tally.{received, taken, started}
 use Rattle.writing.specs.Writing.{joined}
 use Rattle.writing.proofs.Putting.{same-first}
 use Rattle.output.specs.Finding.{entryFrom, waitingIn, partAt}
-use Rattle.tally.specs.Counted.{Counts, countsBy}
-use Rattle.tally.specs.Tallies.{entriesHeld, countsIn}
+use Rattle.tally.specs.Counted.{Numbered, tallyBy}
+use Rattle.tally.specs.Tallies.{entriesHeld, tallyIn}
 
 -- no more than the trace has bytes for
 pub held-fits : (turns : ℕ) (trace : List ℕ) → 7 * entriesHeld turns trace ≤ length trace
@@ -31,16 +31,16 @@ pub held-whole : (turns : ℕ) (trace : List ℕ) → length trace / 7 < turns �
 held-whole turns trace h = rw (lt-leb turns (length trace / 7) h)
 
 -- an array of zeros
-pub counts-zeros : Counts (λ n. 0) (replicate 32 0)
+pub counts-zeros : Numbered (λ n. 0) (replicate 32 0)
 counts-zeros = record { size = length-replicate {A = ℕ} 32 0; each = λ n h. getD-replicate 32 n 0 0 h }
 
 -- the arrays have what the entries count
 pub same-counts :
     (P : Program) (turns : ℕ) (trace snapshot arrivals takings : List ℕ)
-    → Counts (received P (entryFrom trace) (entriesHeld turns trace)) arrivals
-    → Counts (taken (entryFrom trace) (entriesHeld turns trace)) takings
-    → (nodes : ℕ) → nodes ≤ maxNodes → joined (countsBy P arrivals takings snapshot) nodes ≡ joined (countsIn P turns trace snapshot) nodes
+    → Numbered (received P (entryFrom trace) (entriesHeld turns trace)) arrivals
+    → Numbered (taken (entryFrom trace) (entriesHeld turns trace)) takings
+    → (nodes : ℕ) → nodes ≤ maxNodes → joined (tallyBy P arrivals takings snapshot) nodes ≡ joined (tallyIn P turns trace snapshot) nodes
 same-counts P turns trace snapshot arrivals takings a b nodes few =
-    same-first (countsBy P arrivals takings snapshot) (countsIn P turns trace snapshot) nodes
+    same-first (tallyBy P arrivals takings snapshot) (tallyIn P turns trace snapshot) nodes
     (λ n h.
     ap₂ (λ (x y : ℕ). started P n ∷ x ∷ y ∷ waitingIn snapshot (partAt snapshot n) ∷ []) (a .each n (omega arith)) (b .each n (omega arith)))

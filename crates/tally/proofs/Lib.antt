@@ -1,5 +1,5 @@
 pub mod Adding
 pub mod Fours
 pub mod Held
-pub mod Judged
+pub mod Told
 pub mod Filed

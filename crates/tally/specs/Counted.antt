@@ -15,11 +15,11 @@ pub record Adds (test : ℕ → Bool) (before after : List ℕ) : Type 0 where
   pub each : (n : ℕ) → n < maxNodes → getD after n 0 ≡ getD before n 0 + cond (test n) 1 0
 
 -- the array has 32 numbers, and at each node the one that is given
-pub record Counts (number : ℕ → ℕ) (array : List ℕ) : Type 0 where
+pub record Numbered (number : ℕ → ℕ) (array : List ℕ) : Type 0 where
   pub size : length array ≡ maxNodes
   pub each : (n : ℕ) → n < maxNodes → getD array n 0 ≡ number n
 
 -- the four counts of node n: started by the program, received and taken by two arrays, waiting by the snapshot ("picture")
-abbrev pub countsBy : Program → List ℕ → List ℕ → List ℕ → ℕ → List ℕ
-countsBy P arrivals takings snapshot n =
+abbrev pub tallyBy : Program → List ℕ → List ℕ → List ℕ → ℕ → List ℕ
+tallyBy P arrivals takings snapshot n =
     started P n ∷ getD arrivals n 0 ∷ getD takings n 0 ∷ waitingIn snapshot (partAt snapshot n) ∷ []

@@ -1,4 +1,4 @@
--- The tally (S-12) made from the bytes that a run left, its job, and nothing else.
+-- The tally (S-12) made from a job, a number of turns, and any bytes as trace and snapshot ("picture").
 use Prim.Native.Nat.{ℕ, _/_}
 use mathlib.Core.Bool.{cond}
 use mathlib.Core.List.{List, [], _∷_}
@@ -17,8 +17,8 @@ entriesHeld turns trace = cond (leb turns (length trace / 7)) turns (length trac
 
 -- the four counts of node n: started by the job, received and taken by the entries, waiting by the byte in the node's part of the snapshot
 -- ("picture")
-abbrev pub countsIn : Program → ℕ → List ℕ → List ℕ → ℕ → List ℕ
-countsIn P turns trace snapshot n =
+abbrev pub tallyIn : Program → ℕ → List ℕ → List ℕ → ℕ → List ℕ
+tallyIn P turns trace snapshot n =
     let k = entriesHeld turns trace in
     started P n
     ∷ received P (entryFrom trace) k n
@@ -34,5 +34,5 @@ tallyTold (rejected r) = r .number ∷ r .place ∷ 0 ∷ []
 -- the caller's array afterwards: the counts of the job's nodes at the front, the other numbers unchanged; all of them for a refused job
 abbrev pub talliesAfter : Decoded → ℕ → List ℕ → List ℕ → List ℕ → List ℕ
 talliesAfter (accepted past) turns trace snapshot before =
-    written (joined (countsIn (programOf past) turns trace snapshot) (programOf past .nodes)) before
+    written (joined (tallyIn (programOf past) turns trace snapshot) (programOf past .nodes)) before
 talliesAfter (rejected r) turns trace snapshot before = before

@@ -7,7 +7,7 @@ ghost use Rattle.model.specs.Tally.{reaches, takes, received, taken};
 ghost use Rattle.tables.specs.Bits.{bitOf};
 ghost use Rattle.tables.specs.Programs.{Handlers, programIn};
 ghost use Rattle.output.specs.Finding.{entryFrom};
-ghost use Rattle.tally.specs.Counted.{Adds, Counts};
+ghost use Rattle.tally.specs.Counted.{Adds, Numbered};
 use command::numbers::NodeNum;
 use command::read::operand;
 use declared::targets_of;
@@ -64,7 +64,7 @@ fn add_taken(counts: &mut [u64; 32], trace: &[u8], k: usize)
     }
 }
 
-// Counts the first entries: what each node received, and what it took.
+// Numbered the first entries: what each node received, and what it took.
 pub fn count_entries<'a>(
     arrivals: &'a mut [u64; 32],
     takings: &'a mut [u64; 32],
@@ -73,10 +73,10 @@ pub fn count_entries<'a>(
     turns: usize,
 )
     requires { ⌜ 7 * turns ≤ length (now trace) ⌝ }
-    requires { ⌜ Counts (λ n. 0) (now arrivals) × Counts (λ n. 0) (now takings) ⌝ }
-    ensures received { λ _. ⌜ ((hs : Handlers) → Counts
+    requires { ⌜ Numbered (λ n. 0) (now arrivals) × Numbered (λ n. 0) (now takings) ⌝ }
+    ensures received { λ _. ⌜ ((hs : Handlers) → Numbered
         (received (programIn (now (tables .entry)) hs) (entryFrom (now (trace .entry))) turns) (now (arrivals .exit))) ⌝ }
-    ensures taken { λ _. ⌜ Counts (taken (entryFrom (now (trace .entry))) turns) (now (takings .exit)) ⌝ }
+    ensures taken { λ _. ⌜ Numbered (taken (entryFrom (now (trace .entry))) turns) (now (takings .exit)) ⌝ }
 {
     let mut k: usize = 0;
     while k < turns {

@@ -10,7 +10,7 @@ ghost use Rattle.model.specs.Table.{maxNodes};
 ghost use Rattle.model.specs.Refusal.{decodeJob};
 ghost use Rattle.writing.specs.Writing.{Writes, joined};
 ghost use Rattle.tables.specs.Programs.{Handlers, programIn};
-ghost use Rattle.tally.specs.Tallies.{entriesHeld, countsIn, tallyTold, talliesAfter};
+ghost use Rattle.tally.specs.Tallies.{entriesHeld, tallyIn, tallyTold, talliesAfter};
 use command::bytes;
 use counting::count_entries;
 use declared::count_of;
@@ -44,7 +44,7 @@ pub fn put_counts(
 ) -> usize
     requires { ⌜ nodes ≤ maxNodes ⌝ }
     ensures { λ r. ⌜ ((hs : Handlers) → Writes
-        (joined (countsIn (programIn (now (tables .entry)) hs) turns (now (trace .entry)) (now (snapshot .entry))) nodes)
+        (joined (tallyIn (programIn (now (tables .entry)) hs) turns (now (trace .entry)) (now (snapshot .entry))) nodes)
         (now (counts .entry)) 0 (now (counts .exit)) r) ⌝ }
 {
     let mut arrivals = [0u64; 32];

@@ -7,7 +7,7 @@ ghost use Rattle.model.specs.Table.{maxNodes};
 ghost use Rattle.model.specs.Tally.{started};
 ghost use Rattle.writing.specs.Writing.{Writes, joined};
 ghost use Rattle.tables.specs.Programs.{Handlers, programIn};
-ghost use Rattle.tally.specs.Counted.{countsBy};
+ghost use Rattle.tally.specs.Counted.{tallyBy};
 use command::numbers::NodeNum;
 use declared::First;
 use declared::first_message;
@@ -15,7 +15,7 @@ use output::places::next_part;
 use output::places::waiting_in;
 
 // How many first messages a node has.
-fn started_at(tables: &[u32], n: NodeNum) -> u64
+fn count_started(tables: &[u32], n: NodeNum) -> u64
     ensures { λ r. ⌜ ((hs : Handlers) → r ≡ started (programIn (now (tables .entry)) hs) (n .0)) ⌝ }
 {
     match first_message(tables, n) {
@@ -63,14 +63,14 @@ pub fn put_nodes<'a>(
     requires { ⌜ (nodes ≤ maxNodes) × (4 * nodes ≤ length (now counts)) ⌝ }
     requires { ⌜ (length (now arrivals) ≡ maxNodes) × (length (now takings) ≡ maxNodes) ⌝ }
     ensures { λ r. ⌜ ((hs : Handlers) → Writes
-        (joined (countsBy (programIn (now (tables .entry)) hs) (now (arrivals .entry)) (now (takings .entry)) (now (snapshot .entry))) nodes)
+        (joined (tallyBy (programIn (now (tables .entry)) hs) (now (arrivals .entry)) (now (takings .entry)) (now (snapshot .entry))) nodes)
         (now (counts .entry)) 0 (now (counts .exit)) r) ⌝ }
 {
     let mut at: usize = 0;
     let mut place: usize = 0;
     let mut n: usize = 0;
     while n < nodes {
-        let started = started_at(tables, NodeNum(n as u32));
+        let started = count_started(tables, NodeNum(n as u32));
         let waiting = waiting_in(snapshot, place) as u64;
         at = put_four(counts, at, started, arrivals[n], takings[n], waiting);
         place = next_part(snapshot, place, n);

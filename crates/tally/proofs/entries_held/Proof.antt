@@ -1,5 +1,4 @@
 -- `tally::entries_held` meets its contract.
-use native.Mathlib.Omega.{arith}
 use denote.Ref.{now}
 use Rattle.tally.proofs.Held.{held-all, held-whole}
 use Rattle.tally.proofs.entries_held.Statement.{statement}

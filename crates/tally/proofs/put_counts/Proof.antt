@@ -1,6 +1,4 @@
 -- `tally::put_counts` meets its contract.
-use Prim.Native.Nat.{ℕ, _*_}
-use mathlib.Core.Path.{ap, subst, _∙_}
 use mathlib.Core.List.{[]}
 use native.Mathlib.Omega.{arith}
 use denote.Ref.{now}

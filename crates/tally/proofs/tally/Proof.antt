@@ -1,10 +1,11 @@
 -- `tally::tally` meets its contract.
-use mathlib.Core.Path.{refl, sym, _∙_}
+use mathlib.Core.Path.{refl, sym}
 use native.Mathlib.Omega.{arith}
 use denote.Ref.{now}
 use borrow.Author.Needs.{needs}
 use Rattle.model.specs.Declared.{handlerOf}
-use Rattle.tally.proofs.Judged.{is-taken, is-refused, few-nodes, told-of, left-of}
+use Rattle.job.proofs.Judged.{is-accepted, is-refused}
+use Rattle.tally.proofs.Told.{few-nodes, told-of, left-of}
 use Rattle.tally.proofs.tally.Statement.{statement}
 use Rattle.tally.proofs.tally.Tie as tie
 
@@ -21,7 +22,7 @@ enum-told : tie.Need-enum-told
 enum-told c = search needs
 
 slice-aggregate-count-of : tie.Need-slice-aggregate-count-of
-slice-aggregate-count-of c = sym (is-taken _ _ _ (c .before .before .before .decode .ensures) (c .before .enum-told .given .1) .stands .size)
+slice-aggregate-count-of c = sym (is-accepted _ _ _ (c .before .before .before .decode .ensures .judged) (c .before .enum-told .given .1) .stands .size)
 
 count-of-requires : tie.Need-count-of-requires
 count-of-requires c κs = search needs
@@ -29,7 +30,7 @@ count-of-requires c κs = search needs
 slice-aggregate-put-counts : tie.Need-slice-aggregate-put-counts
 slice-aggregate-put-counts c =
     let p4 = c .before .before .before .before in
-    sym (is-taken _ _ _ (p4 .before .before .decode .ensures) (p4 .enum-told .given .1) .stands .size)
+    sym (is-accepted _ _ _ (p4 .before .before .decode .ensures .judged) (p4 .enum-told .given .1) .stands .size)
 
 cast-put-counts : tie.Need-cast-put-counts
 cast-put-counts c = search needs
@@ -37,8 +38,8 @@ cast-put-counts c = search needs
 put-counts-requires : tie.Need-put-counts-requires
 put-counts-requires c κs =
     let p4 = c .before .before .before .before in
-    let taken = is-taken _ _ _ (p4 .before .before .decode .ensures) (p4 .enum-told .given .1) in
-    few-nodes _ _ taken _ (c .before .before .count-of .ensures)
+    let job = is-accepted _ _ _ (p4 .before .before .decode .ensures .judged) (p4 .enum-told .given .1) in
+    omega (arith, few-nodes _ _ job _ (c .before .before .count-of .ensures))
 
 cast-t21 : tie.Need-cast-t21
 cast-t21 c = search needs
@@ -46,17 +47,17 @@ cast-t21 c = search needs
 returns : tie.Need-returns
 returns c =
     let d = c .before .before .before .before .decode in
-    let same = is-refused _ _ _ _ (d .ensures) (c .before .before .verdict .given .1) in
+    let same = is-refused _ _ _ _ (d .ensures .judged) (c .before .before .verdict .given .1) in
     rw same (refl, refl)
 
 returns-2 : tie.Need-returns-2
 returns-2 c =
     let p5 = c .before .before .before .before .before in
     let x = p5 .before .before .before .before .before .before .before .args in
-    let taken = is-taken _ _ _ (p5 .before .before .decode .ensures) (p5 .enum-told .given .1) in
+    let job = is-accepted _ _ _ (p5 .before .before .decode .ensures .judged) (p5 .enum-told .given .1) in
     let nodes = c .before .before .before .count-of .ensures in (
-      told-of (now (x .job)) _ taken _ nodes,
-      left-of (now (x .job)) _ taken _ nodes (x .turns) (now (x .trace)) (now (x .snapshot)) _ _ _ (c .put-counts .ensures (handlerOf (taken .past))),
+      told-of (now (x .job)) _ job _ nodes,
+      left-of (now (x .job)) _ job _ nodes (x .turns) (now (x .trace)) (now (x .snapshot)) _ _ _ (c .put-counts .ensures (handlerOf (job .past))),
     )
 
 pub tally-spec : {M : Type 1} → statement M

@@ -1,6 +1,5 @@
 -- `tally::counting::add_taken` meets its contract.
-use Prim.Native.Nat.{_*_}
-use mathlib.Core.Path.{refl, sym, _∙_}
+use mathlib.Core.Path.{refl, _∙_}
 use mathlib.Core.Logic.{inl, inr}
 use native.Mathlib.Omega.{arith}
 use denote.Ref.{now}

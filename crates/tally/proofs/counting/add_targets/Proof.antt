@@ -1,10 +1,10 @@
 -- `tally::counting::add_targets` meets its contract.
-use Prim.Native.Nat.{_+_, _^_, _<_}
+use Prim.Native.Nat.{_^_, _<_}
 use mathlib.Core.Path.{_≡_, refl, _∙_}
 use mathlib.Core.Logic.{⊎-elim}
 use native.Mathlib.Omega.{arith}
 use denote.Ref.{now}
-use lib.ListN.{length, getD}
+use lib.ListN.{getD}
 use borrow.Author.Needs.{needs}
 use Rattle.tables.specs.Bits.{bitOf}
 use Rattle.memory.specs.Queues.{counted}

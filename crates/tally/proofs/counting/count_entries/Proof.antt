@@ -9,14 +9,14 @@ use borrow.Author.Needs.{needs}
 use Rattle.model.specs.Tally.{reaches, takes, received, taken}
 use Rattle.tables.specs.Programs.{Handlers, programIn}
 use Rattle.output.specs.Finding.{entryFrom}
-use Rattle.tally.specs.Counted.{Counts}
+use Rattle.tally.specs.Counted.{Numbered}
 use Rattle.tally.proofs.Adding.{counts-first, counts-next, counts-room}
 use Rattle.tally.proofs.counting.count_entries.Statement.{statement}
 use Rattle.tally.proofs.counting.count_entries.Tie as tie
 
 abbrev Inv-loop : tie.InvT-loop
 Inv-loop arrivals₀ takings₀ tables trace turns k₀ arrivals takings k =
-    ((hs : Handlers) → Counts (received (programIn tables hs) (entryFrom trace) k) arrivals) × Counts (taken (entryFrom trace) k) takings
+    ((hs : Handlers) → Numbered (received (programIn tables hs) (entryFrom trace) k) arrivals) × Numbered (taken (entryFrom trace) k) takings
     × (k ≤ turns)
 
 abbrev μ-loop : tie.MeasureT-loop

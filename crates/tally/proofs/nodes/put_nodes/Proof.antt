@@ -1,7 +1,7 @@
 -- `tally::nodes::put_nodes` meets its contract.
 use Prim.Native.Nat.{ℕ, _+_, _-_, _*_, _≤_}
 use mathlib.Core.Path.{_≡_, refl, sym, ap, _∙_}
-use mathlib.Core.List.{List, [], _∷_}
+use mathlib.Core.List.{List, []}
 use native.Mathlib.Omega.{arith}
 use denote.Ref.{now}
 use lib.ListN.{length}
@@ -11,7 +11,7 @@ use Rattle.writing.proofs.Putting.{Put, none-put, room, one-put, all-put}
 use Rattle.tables.specs.Programs.{Handlers, programIn}
 use Rattle.output.specs.Finding.{waitingIn, partAt}
 use Rattle.output.proofs.Finding.{part-first}
-use Rattle.tally.specs.Counted.{countsBy}
+use Rattle.tally.specs.Counted.{tallyBy}
 use Rattle.tally.proofs.Fours.{length-fours}
 use Rattle.tally.proofs.nodes.put_nodes.Statement.{statement}
 use Rattle.tally.proofs.nodes.put_nodes.Tie as tie
@@ -19,7 +19,7 @@ use Rattle.tally.proofs.nodes.put_nodes.Tie as tie
 abbrev Inv-loop : tie.InvT-loop
 Inv-loop counts₀ tables arrivals takings snapshot nodes at₀ place₀ n₀ counts at place n =
     (n ≤ nodes) × (place ≡ partAt snapshot n) × (place ≤ 1285 * n)
-    × ((hs : Handlers) → Put (countsBy (programIn tables hs) arrivals takings snapshot) counts₀ 0 n counts at)
+    × ((hs : Handlers) → Put (tallyBy (programIn tables hs) arrivals takings snapshot) counts₀ 0 n counts at)
 
 abbrev μ-loop : tie.MeasureT-loop
 μ-loop counts₀ tables arrivals takings snapshot nodes at₀ place₀ n₀ counts at place n = nodes - n
@@ -30,8 +30,8 @@ loop-holds c = (omega arith, sym (part-first _), omega arith, λ hs. none-put _ 
 cast-t13 : tie.Need-cast-t13 Inv-loop μ-loop
 cast-t13 c = search needs
 
-started-at-requires : tie.Need-started-at-requires Inv-loop μ-loop
-started-at-requires c κs = search needs
+count-started-requires : tie.Need-count-started-requires Inv-loop μ-loop
+count-started-requires c κs = search needs
 
 waiting-in-requires : tie.Need-waiting-in-requires Inv-loop μ-loop
 waiting-in-requires c κs =
@@ -89,9 +89,9 @@ loop-again c =
       step .0,
       omega (arith, step .1, l .inv .2),
       λ hs.
-          let f = countsBy (programIn (now (z .args .tables)) hs) (now (z .args .arrivals)) (now (z .args .takings)) (now (z .args .snapshot)) in
+          let f = tallyBy (programIn (now (z .args .tables)) hs) (now (z .args .arrivals)) (now (z .args .takings)) (now (z .args .snapshot)) in
           let waiting = c .before .before .before .before .before .before .before .waiting-in .ensures ∙ ap (waitingIn (now (z .args .snapshot))) (l .inv .1) in
-          let four : Writes (f (l .n)) _ _ _ _ = rw (p8 .started-at .ensures hs, waiting) at (c .before .before .before .put-four .ensures) in
+          let four : Writes (f (l .n)) _ _ _ _ = rw (p8 .count-started .ensures hs, waiting) at (c .before .before .before .put-four .ensures) in
           one-put f _ 0 _ (fits f (λ n. refl) _ (now (z .args .counts)) (z .pre .0 .1)) (l .n) (p9 .loop-test .taken) _ _ (l .inv .3 hs) _ _ four,
     )
 
@@ -111,7 +111,7 @@ put-nodes-spec =
     μ-loop
     loop-holds
     cast-t13
-    started-at-requires
+    count-started-requires
     waiting-in-requires
     cast-waiting
     mul-put-four

@@ -1,10 +1,10 @@
--- `tally::nodes::started_at` meets its contract.
+-- `tally::nodes::count_started` meets its contract.
 use mathlib.Core.Path.{ap}
 use borrow.Author.Needs.{needs}
 use lib.ListN.{length}
 use Rattle.tables.specs.Programs.{programIn}
-use Rattle.tally.proofs.nodes.started_at.Statement.{statement}
-use Rattle.tally.proofs.nodes.started_at.Tie as tie
+use Rattle.tally.proofs.nodes.count_started.Statement.{statement}
+use Rattle.tally.proofs.nodes.count_started.Tie as tie
 
 first-message-requires : tie.Need-first-message-requires
 first-message-requires c κs = search needs
@@ -23,6 +23,6 @@ returns-2 : tie.Need-returns-2
 unfolding programIn
 returns-2 c hs = ap length (rw (c .enum-told2 .given .1) at (c .before .before .first-message .ensures))
 
-pub started-at-spec : {M : Type 1} → statement M
-started-at-spec =
+pub count-started-spec : {M : Type 1} → statement M
+count-started-spec =
     tie.close (tie.spec first-message-requires enum-told enum-told-2 returns returns-2)
