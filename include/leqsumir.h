@@ -31,9 +31,10 @@ extern "C" {
  *   work      4,096 bytes
  *   answer    64 bytes; dispatched, 72; of the tally, 24
  *   counts    1,024 bytes, of the tally alone
- *   stack     a call takes less than 20,000 bytes of stack; 18,128 were measured, on x86-64, with less than 300 of the caller. The tables
- *             of the decoded job and the state of the run lie there, in no other memory.
- *   code      13,425 bytes with constants, on x86-64, and memcpy and memset of the C library; no variables of its own
+ *   stack     a call takes less than 20,000 bytes of stack; 18,128 were measured, on x86-64, with less than 300 of the caller, and 12,240
+ *             of the tally. The tables of the decoded job and the state of the run lie there, in no other memory.
+ *   code      13,425 bytes with constants of librun.a and 6,852 of libtally.a, on x86-64, and memcpy and memset of the C library; no
+ *             variables of their own
  *
  * A call takes no heap. */
 
@@ -56,7 +57,7 @@ enum {
 
 /* The numbers of the tally's answer: refusal and place, as above, and */
 enum {
-    LEQSUMIR_NODES = 2,       /* how many nodes the job has; 0 for a refusal */
+    LEQSUMIR_TALLY_NODES = 2, /* how many nodes the job has; 0 for a refusal */
     LEQSUMIR_TALLY_ANSWER = 3 /* how many numbers there are */
 };
 
@@ -137,10 +138,13 @@ void leqsumir_dispatch_unmonitored(const uint8_t *job, size_t job_len, uint64_t 
  * for each node. A START counts whether it is taken or not, an entry of kind 6 once for each target of its port, and a SEND that was
  * stopped nowhere.
  *
- * Any bytes, lengths and numbers are allowed. The job is refused by 1 to 9, 15 or 19 if every run refuses it so; buffers and TURN commands
- * play no part, so 10 to 14 do not occur. A refusal changes none of the counts, and those beyond the job's nodes stay unchanged. A trace
- * that holds less than `turns` entries is counted as far as it holds entries in full. An entry whose node the job does not have, or whose
- * port no wire has, counts nowhere. A byte that the snapshot does not have reads as 0.
+ * Look at the run's LEQSUMIR_REFUSAL first: of a run that was refused there is nothing to tally. One refused by 10 to 14 is not refused
+ * here, and the counts are then those of whatever the buffers hold.
+ *
+ * Any bytes, lengths and numbers are allowed. The job is refused by 1 to 9, 15 or 19, as a run of its written turns refuses it; buffers
+ * and TURN commands play no part, so 10 to 14 do not occur. A refusal changes none of the counts, and those beyond the job's nodes stay
+ * unchanged. A trace that holds fewer than `turns` entries is counted as far as it holds entries in full. An entry whose node the job does
+ * not have, or whose port no wire has, counts nowhere. A byte that the snapshot does not have reads as 0.
  *
  * Job, trace and snapshot are only read, and no work buffer is needed. Of the caller: as above; the three that are read may overlap each
  * other, counts and answer overlap nothing. */

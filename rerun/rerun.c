@@ -52,7 +52,7 @@ static void print_tally(const char *name, const uint8_t *job, size_t length, con
         return;
     leqsumir_tally(job, length, of->answer[LEQSUMIR_TURNS], of->trace, sizeof of->trace, of->snapshot, sizeof of->snapshot, counts,
                    answer);
-    for (uint64_t node = 0; node < answer[LEQSUMIR_NODES]; node++) {
+    for (uint64_t node = 0; node < answer[LEQSUMIR_TALLY_NODES]; node++) {
         const uint64_t *own = counts + LEQSUMIR_NODE_COUNTS * node;
         printf("%s: tally %" PRIu64 " %" PRIu64 " %" PRIu64 " %" PRIu64 " %" PRIu64 "\n", name, node, own[LEQSUMIR_STARTED],
                own[LEQSUMIR_RECEIVED], own[LEQSUMIR_TAKEN], own[LEQSUMIR_WAITING]);

@@ -146,6 +146,7 @@ pub fn dispatch_unmonitored(
 /// together are taken and waiting together. The slices may have any length and hold anything; the entries that count are the
 /// first `turns`, as far as the trace holds them in full. The answer: refusal (0, 1 to 9, 15 or 19) and its place, and the
 /// number of nodes, 0 for a refusal. A refusal changes none of the counts; those beyond the job's nodes stay unchanged.
+/// Of a run that was refused there is nothing to tally: a job that is refused by 10 to 14 alone is not refused here.
 #[inline]
 pub fn tally(job: &[u8], turns: u64, trace: &[u8], snapshot: &[u8], counts: &mut [u64; COUNTS]) -> [u64; 3] {
     let mut answer = [u64::MAX; 3];

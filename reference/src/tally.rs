@@ -64,7 +64,8 @@ fn count(program: &Program, entry: &Entry, list: &mut [Tally]) {
 }
 
 /// The tallies from the bytes of a run: of its job, of its trace, of which the first `turns` entries count, as far as they
-/// are there in full, and of its snapshot. Any bytes will do. It refuses what every run refuses by 1 to 9, 15 or 19.
+/// are there in full, and of its snapshot. Any bytes will do. It refuses by 1 to 9, 15 or 19, as a run of
+/// the job's written turns does.
 pub fn tally(job: &[u8], turns: u64, trace: &[u8], snapshot: &[u8]) -> Result<Vec<Tally>, Refusal> {
     let program = decode(job)?;
     let turns = usize::try_from(turns).unwrap_or(usize::MAX);

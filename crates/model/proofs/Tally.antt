@@ -134,12 +134,9 @@ module _ (from : ℕ → Bool) where
   still : (P : Program) (s : State) (e : Entry) (s′ : State) → s′ .queue ≡ s .queue → eqb (e .kind) 6 ≡ false → eqb (e .kind) 1 ≡ false
       → Balance P s e s′
   still P s e s′ q a b t h =
-      rw q
-      (omega (
-        arith,
-        none (from (e .node)) (eqb (e .kind) 6) (P .wired (e .node) (e .number) t) a,
-        none (from (e .number)) (eqb (e .kind) 1) (eqb (e .node) t) b,
-      ))
+      let arriving : bit (arrives P t e) ≡ 0 = none (from (e .node)) (eqb (e .kind) 6) _ a in
+      let leaving : bit (leaves t e) ≡ 0 = none (from (e .number)) (eqb (e .kind) 1) _ b in
+      rw q (omega (arith, arriving, leaving))
 
   module _ (P : Program) (s : State) (n : ℕ) (sized : length (s .queue) ≡ maxNodes) where
     -- the oldest message is taken
