@@ -25,7 +25,7 @@ talliesFrom m P r =
     let k = length (r .steps) in
     tabulate (P .nodes) λ n. startedFrom P m n ∷ sentTo P (entryAt r) k m n ∷ takenFrom (entryAt r) k m n ∷ waitingFrom (r .final) m n ∷ []
 
--- a row: a job, how its commands are run, what is fourCounts, and what is expected
+-- a row: a job, how its commands are run, what is counted, and what is expected
 pub record TallyExample : Type 0 where
   pub job : List ℕ
   pub runs : List Command → Run
@@ -44,7 +44,7 @@ tallyOutcome e = outcomeIn e (decodeJob (e .job))
 unfoldable pub fourCounts : ℕ → ℕ → ℕ → ℕ → List ℕ
 fourCounts started received taken waiting = started ∷ received ∷ taken ∷ waiting ∷ []
 
--- a monitored row of written turns, by what is fourCounts; and of the four counts at the stop
+-- a monitored row of written turns, by what is counted; and of the four counts at the stop
 unfoldable pub rowOf : (Program → Run → List (List ℕ)) → List ℕ → List (List ℕ) → TallyExample
 rowOf counts job expected = record { job = job; runs = monitoredOf; counts = counts; expected = expected }
 

@@ -64,7 +64,7 @@ fn add_taken(counts: &mut [u64; 32], trace: &[u8], k: usize)
     }
 }
 
-// Numbered the first entries: what each node received, and what it took.
+// Counts the first entries: what each node received, and what it took.
 pub fn count_entries<'a>(
     arrivals: &'a mut [u64; 32],
     takings: &'a mut [u64; 32],
