@@ -1,4 +1,6 @@
 // What the tables say of permissions, each under its own kind of number.
+#![tactic(auto)]
+
 ghost use Rattle.std.specs.Prelude.{◌≡◌};
 ghost use Rattle.tables.specs.Tables.{read_in, write_in, any_in, listed_in, call_in};
 

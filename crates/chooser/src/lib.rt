@@ -1,4 +1,6 @@
 // The dispatcher's choice (S-2): the first ready node, going round by number.
+#![tactic(auto)]
+
 ghost use Rattle.std.specs.Prelude.{◌≡◌, ◌≤◌};
 ghost use Rattle.memory.specs.Ready.{ready_count_in};
 ghost use Rattle.chooser.specs.Choosing.{choose_in, choice_of, wrapped_to};
@@ -7,7 +9,7 @@ use command::numbers::NodeNum;
 use memory::ready::is_ready;
 
 // A choice: a node, or nobody; and how many nodes were examined for it.
-#[derive(Drop)]
+#[derive(Clone, Copy)]
 pub enum Choice {
     Chosen(NodeNum, u32),
     Nobody(u32),

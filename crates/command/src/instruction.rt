@@ -7,7 +7,7 @@ use crate::numbers::{FunNum, VarNum};
 use crate::read::operand;
 use crate::table::{row_of, unpack};
 
-#[derive(Drop)]
+#[derive(Clone, Copy)]
 pub enum Instruction {
     Set(u32),
     Take,
@@ -23,7 +23,7 @@ pub enum Instruction {
 }
 
 // What stands at a position of a handler: a command, or its end.
-#[derive(Drop)]
+#[derive(Clone, Copy)]
 pub enum Fetched {
     Command(Instruction),
     End,

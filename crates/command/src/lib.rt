@@ -1,5 +1,7 @@
 // The commands of a job: their bytes, the table of their operands, the countings that operands name, handler commands, and reading one
 // command.
+#![tactic(auto)]
+
 pub mod bytes;
 pub mod instruction;
 pub mod numbers;

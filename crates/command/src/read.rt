@@ -11,7 +11,7 @@ use crate::refusal::Refusal;
 use crate::table::{Lookup, look_up, unpack};
 
 // A command that was read: its place in the job, its packed row of the table, its byte and group, and its operands, 0 where it has none.
-#[derive(Drop)]
+#[derive(Clone, Copy)]
 pub struct Command {
     pub place: usize,
     pub row: u64,
@@ -24,7 +24,7 @@ pub struct Command {
 }
 
 // The operands of a command after its first, 0 where it has none.
-#[derive(Drop)]
+#[derive(Clone, Copy)]
 struct Others {
     second: u32,
     third: u32,
@@ -32,14 +32,14 @@ struct Others {
 }
 
 // What reading at a place gives: a command with the place after it, or refusal 2 or 3.
-#[derive(Drop)]
+#[derive(Clone, Copy)]
 pub enum Parsed {
     Whole(Command, usize),
     Refused(Refusal),
 }
 
 // What a further pass over a job needs of a command: its byte and group, its first operand, and the place after it.
-#[derive(Drop)]
+#[derive(Clone, Copy)]
 pub struct Head {
     pub byte: u8,
     pub group: u8,
@@ -48,14 +48,14 @@ pub struct Head {
 }
 
 // What reading a head at a place gives: a head, or nothing where a command is refused by 2 or 3.
-#[derive(Drop)]
+#[derive(Clone, Copy)]
 pub enum HeadParsed {
     Whole(Head),
     Refused,
 }
 
 // What is known of the command at a place before its operands are read: its row and the place after it, or refusal 2 or 3.
-#[derive(Drop)]
+#[derive(Clone, Copy)]
 enum Extent {
     Whole(u64, usize),
     Refused(Refusal),

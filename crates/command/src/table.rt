@@ -67,7 +67,7 @@ const ROWS: [u64; ROW_COUNT] = [
 ];
 
 // The columns of a row.
-#[derive(Drop)]
+#[derive(Clone, Copy)]
 pub struct Row {
     pub byte: u8,
     pub group: u8,
@@ -127,7 +127,7 @@ pub fn row_of(byte: u8) -> u64
 }
 
 // What looking a byte up finds: its packed row, or that it is no command.
-#[derive(Drop)]
+#[derive(Clone, Copy)]
 pub enum Lookup {
     Found(u64),
     Missing,

@@ -7,7 +7,7 @@ use libc::STDIN_FILENO;
 
 // What a run is asked to be: how its turns are given, monitored or not, which byte is changed after it, what its buffers hold before it,
 // and the lengths of its job and of its buffers.
-#[derive(Drop)]
+#[derive(Clone, Copy)]
 pub struct Head {
     pub schedule: Schedule,
     pub monitored: bool,
@@ -20,7 +20,7 @@ pub struct Head {
 }
 
 // What stands next on standard input: a run, or none.
-#[derive(Drop)]
+#[derive(Clone, Copy)]
 pub enum Record {
     Run(Head),
     End,

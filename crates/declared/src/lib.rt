@@ -1,5 +1,7 @@
 // What the tables say of flows, nodes, variables, functions and their answers, wires, handlers, first messages, and where the items of a
 // node or a function are, each under its own kind of number.
+#![tactic(auto)]
+
 ghost use Rattle.std.specs.Prelude.{◌≡◌, ℕ, ◌<◌};
 ghost use Rattle.model.specs.Table.{max_nodes};
 ghost use Rattle.model.specs.Declared.{is_there, is_seen};
@@ -136,7 +138,7 @@ pub fn has_start(tables: &[u32], f: FlowNum) -> bool
 }
 
 // What waits at a node at the start: a first message, or nothing.
-#[derive(Drop)]
+#[derive(Clone, Copy)]
 pub enum First {
     Message(u32),
     Nothing,

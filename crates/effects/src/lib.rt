@@ -1,4 +1,6 @@
 // Effects: what handler commands do, worked out from numbers before anything is changed.
+#![tactic(auto)]
+
 ghost use Rattle.std.specs.Prelude.{◌≡◌, ◌<◌};
 ghost use Rattle.effects.specs.Effects.{Performs, effect};
 
@@ -8,7 +10,7 @@ use memory::variables::variable_at;
 use memory::{Change, Registers};
 
 // An effect: the node's registers after a handler command, and the command's change.
-#[derive(Drop)]
+#[derive(Clone, Copy)]
 pub struct Effect {
     pub registers: Registers,
     pub change: Change,

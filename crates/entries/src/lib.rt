@@ -1,4 +1,6 @@
 // Trace entries: what a handler command leaves, whether the lists permit it, and what a stop shows of it.
+#![tactic(auto)]
+
 ghost use Rattle.std.specs.Prelude.{◌≡◌, cond, get_or};
 ghost use Rattle.tables.specs.Tables.{shared_in};
 ghost use Rattle.entries.specs.Entries.{LeavesEvent, Judges, Redacts};
@@ -10,7 +12,7 @@ use declared::is_shared;
 use memory::variables::variable_at;
 
 // What a turn does, each kind with its own numbers; the first of Begin is the sender of the message.
-#[derive(Drop)]
+#[derive(Clone, Copy)]
 pub enum Event {
     Other,
     Begin(u8, u32),
@@ -22,7 +24,7 @@ pub enum Event {
 }
 
 // A trace entry.
-#[derive(Drop)]
+#[derive(Clone, Copy)]
 pub struct Entry {
     pub node: NodeNum,
     pub event: Event,
@@ -30,7 +32,7 @@ pub struct Entry {
 
 // A stop, with what was attempted: an entry that the lists do not permit, a node that is idle with an empty queue, a send with a full
 // target.
-#[derive(Drop)]
+#[derive(Clone, Copy)]
 pub enum Stop {
     Forbidden(Entry),
     Unready(NodeNum),
@@ -38,7 +40,7 @@ pub enum Stop {
 }
 
 // What a turn comes to: its entry, or the stop.
-#[derive(Drop)]
+#[derive(Clone, Copy)]
 pub enum Outcome {
     Made(Entry),
     Stopped(Stop),

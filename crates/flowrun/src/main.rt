@@ -1,5 +1,7 @@
 // Reads a job from standard input, runs it monitored (01's "watched"), or unmonitored with the last argument `bare`, and prints the lines
 // of its run. With the arguments `dispatch` and a budget its turns are dispatched (S-2), and the last line is the examined total.
+#![tactic(auto)]
+
 ghost use Rattle.std.specs.Prelude.{◌≤◌, ◌≡◌, length};
 ghost use Rattle.model.specs.Refusal.{sizes, snapshot_size, work_size};
 ghost use Rattle.writing.specs.Writing.{Writes};
@@ -23,21 +25,21 @@ const SNAPSHOT: usize = 3136;
 const WORK: usize = 4096;
 
 // What the program is started for: a run, its turns given in this way, monitored or not.
-#[derive(Drop)]
+#[derive(Clone, Copy)]
 enum Order {
     Run(Schedule, bool),
     Unknown,
 }
 
 // What a word stands for: a number, or none.
-#[derive(Drop)]
+#[derive(Clone, Copy)]
 enum Number {
     Value(u64),
     Not,
 }
 
 // What reading gives: the number of bytes that were read, or that a read failed.
-#[derive(Drop)]
+#[derive(Clone, Copy)]
 enum Input {
     Bytes(usize),
     Failed,

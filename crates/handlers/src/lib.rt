@@ -1,5 +1,7 @@
 // The handlers of an accepted job: the work buffer holds the place of each of their commands, and a command is read from the job when it is
 // fetched. Nothing else knows where a command lies.
+#![tactic(auto)]
+
 pub mod fetch;
 pub mod load;
 

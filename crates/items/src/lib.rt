@@ -1,4 +1,6 @@
 // Items, what is kept of ARG, SPAN and REPLY commands: how many there are, and the search along a chain of them.
+#![tactic(auto)]
+
 ghost use Rattle.std.specs.Prelude.{◌≡◌, cond, ltb};
 ghost use Rattle.model.specs.Declared.{is_there};
 ghost use Rattle.tables.specs.Items.{item, found_item, second_of};
@@ -17,7 +19,7 @@ pub fn count(tables: &[u32]) -> u32
 
 // What is asked of an item: whether a range holds an argument, whether it is that of a command with this byte, low and high, or whether a
 // reply is to an argument.
-#[derive(Drop)]
+#[derive(Clone, Copy)]
 pub enum Question {
     Holds(u32),
     Is(u32, u32, u32),
@@ -46,7 +48,7 @@ fn go_back(at: usize, before: usize) -> usize
 }
 
 // What a search finds: an item, of which its second number is told, or nothing.
-#[derive(Drop)]
+#[derive(Clone, Copy)]
 pub enum Found {
     Second(u32),
     Nothing,

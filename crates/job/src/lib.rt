@@ -1,4 +1,6 @@
 // The tests of a job: the walk over all commands, the jumps and the unused permissions, the buffers; and the turns of an accepted job.
+#![tactic(auto)]
+
 pub mod buffers;
 mod later;
 pub mod schedule;
@@ -15,7 +17,7 @@ use tables::cells::{CELLS, clear};
 use walk::walk;
 
 // The verdict on a job.
-#[derive(Drop)]
+#[derive(Clone, Copy)]
 pub enum Verdict {
     Accepted,
     Refused(Refusal),

@@ -10,7 +10,7 @@ use command::read::wide;
 use declared::count_of;
 
 // How the turns of a run are given: as the TURN commands of the job, or chosen by the dispatcher (S-2), with a budget of turns.
-#[derive(Drop)]
+#[derive(Clone, Copy)]
 pub enum Schedule {
     Written,
     Dispatched(u64),

@@ -19,7 +19,7 @@ use uses::note_use;
 use violations::violation_of;
 
 // A step: to the place of the next command, or the refusal of the job.
-#[derive(Drop)]
+#[derive(Clone, Copy)]
 pub(crate) enum Continuation {
     Next(usize),
     Refused(Refusal),

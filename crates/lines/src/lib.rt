@@ -1,4 +1,6 @@
 // The lines that a run prints, put into a text.
+#![tactic(auto)]
+
 mod snapshot;
 pub mod tallies;
 mod trace;

@@ -1,5 +1,7 @@
 // The parts of a run's state: a node's registers, the queues with their senders, which nodes are ready, the variables; what they hold at
 // the start, and what a turn changes in them.
+#![tactic(auto)]
+
 pub mod queues;
 pub mod ready;
 pub mod senders;
@@ -14,7 +16,7 @@ pub const IDLE: u32 = 255;
 pub const START_SENDER: u8 = 255;
 
 // A node's registers: the position in its handler, the accumulator (01's "hand") and the message being handled.
-#[derive(Drop)]
+#[derive(Clone, Copy)]
 pub struct Registers {
     pub position: u32,
     pub accumulator: u32,
@@ -22,7 +24,7 @@ pub struct Registers {
 }
 
 // What a turn changes besides its node's registers: its queue, the queues of a port's targets, or a variable.
-#[derive(Drop)]
+#[derive(Clone, Copy)]
 pub enum Change {
     Nothing,
     Take,

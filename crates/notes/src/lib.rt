@@ -1,4 +1,6 @@
 // Noting one more command: what it declares, by its kind, then its count and its group.
+#![tactic(auto)]
+
 mod chains;
 mod commands;
 

@@ -7,7 +7,7 @@ ghost use Rattle.output.specs.Written.{entry_with};
 use entries::{Entry, Event};
 
 // Node, kind, number and value.
-#[derive(Drop)]
+#[derive(Clone, Copy)]
 pub struct Numbers {
     pub node: u32,
     pub kind: u32,

@@ -1,4 +1,6 @@
 // What one turn of a node comes to, planned from numbers before anything is changed.
+#![tactic(auto)]
+
 ghost use Rattle.std.specs.Prelude.{◌≡◌, ◌⊎◌, not, ◌&&◌, ◌<◌, get_or};
 ghost use Rattle.std.proofs.Math.Option.{none};
 ghost use Rattle.model.specs.Permission.{permitted};
@@ -19,7 +21,7 @@ use memory::ready::ready_with;
 use memory::{Change, IDLE, Registers};
 
 // A turn: the node's registers after it, its change, its outcome, and how many nodes are ready after it (S-4).
-#[derive(Drop)]
+#[derive(Clone, Copy)]
 pub struct Plan {
     pub registers: Registers,
     pub change: Change,

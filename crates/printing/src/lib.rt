@@ -1,4 +1,6 @@
 // A job that is run, and the lines of its run.
+#![tactic(auto)]
+
 ghost use Rattle.std.specs.Prelude.{◌+◌, ◌*◌, ◌≤◌, ◌≡◌, cond, length};
 ghost use Rattle.model.specs.Table.{max_nodes};
 ghost use Rattle.model.specs.Refusal.{decode_job, IsAccepted};
@@ -27,7 +29,7 @@ use turns::ending::Ending;
 pub const TEXT: usize = 131072;
 
 // A run that is printed: the place after its lines, and its answer; or a text that has no room for what a run may print.
-#[derive(Drop)]
+#[derive(Clone, Copy)]
 pub enum Printed {
     Put(usize, Answer),
     NoRoom,

@@ -50,8 +50,8 @@ fn numbers_with(handed: Handed) -> [u64; 9]
 }
 
 // The monitored run (01's "watched").
-#[unsafe(no_mangle)]
-pub extern "C" fn leqsumir_run_monitored(
+
+pub fn leqsumir_run_monitored(
     job: &[u8],
     trace: &mut [u8],
     snapshot: &mut [u8],
@@ -71,8 +71,8 @@ pub extern "C" fn leqsumir_run_monitored(
 }
 
 // The unmonitored run (01's "bare").
-#[unsafe(no_mangle)]
-pub extern "C" fn leqsumir_run_unmonitored(
+
+pub fn leqsumir_run_unmonitored(
     job: &[u8],
     trace: &mut [u8],
     snapshot: &mut [u8],
@@ -92,8 +92,8 @@ pub extern "C" fn leqsumir_run_unmonitored(
 }
 
 // The monitored run (01's "watched") of a job without TURN commands, its turns dispatched with a budget (S-2).
-#[unsafe(no_mangle)]
-pub extern "C" fn leqsumir_dispatch_monitored(
+
+pub fn leqsumir_dispatch_monitored(
     job: &[u8],
     budget: u64,
     trace: &mut [u8],
@@ -118,8 +118,8 @@ pub extern "C" fn leqsumir_dispatch_monitored(
 }
 
 // The unmonitored run (01's "bare") of a job without TURN commands, its turns dispatched with a budget.
-#[unsafe(no_mangle)]
-pub extern "C" fn leqsumir_dispatch_unmonitored(
+
+pub fn leqsumir_dispatch_unmonitored(
     job: &[u8],
     budget: u64,
     trace: &mut [u8],

@@ -1,7 +1,9 @@
 // The run of a job with its buffers, monitored (01's "watched") or unmonitored ("bare"), its turns as written or dispatched (S-2): any
 // bytes, any buffers and any budget are allowed.
+#![tactic(auto)]
+
 pub mod answer;
-mod exports;
+pub mod exports;
 
 ghost use Rattle.std.specs.Prelude.{◌≡◌};
 ghost use Rattle.model.specs.Result.{sizes_of, trace_after, snapshot_after, work_after};

@@ -8,7 +8,7 @@ use crate::bits::{half_of, is_set, with_bit, with_half};
 pub const CELLS: usize = 2720;
 
 // A section: its first cell, and how many cells it has.
-#[derive(Drop)]
+#[derive(Clone, Copy)]
 pub struct Section(pub usize, pub usize);
 
 // By command byte: how many commands.

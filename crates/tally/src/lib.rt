@@ -1,7 +1,9 @@
 // The tally of a job's nodes (S-12): messages started, received, taken and waiting, counted from the job, the bytes of a trace and those of
 // a snapshot (01's "picture"). Any bytes are allowed.
+#![tactic(auto)]
+
 mod counting;
-mod exports;
+pub mod exports;
 mod nodes;
 
 ghost use Rattle.std.specs.Prelude.{◌≡◌, ◌≤◌};

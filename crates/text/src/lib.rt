@@ -1,4 +1,6 @@
 // Numbers and lines, put into a text from one place to the next: each function answers the place after what it put.
+#![tactic(auto)]
+
 ghost use Rattle.std.specs.Prelude.{◌+◌, ◌≤◌, length};
 ghost use Rattle.writing.specs.Writing.{Writes};
 ghost use Rattle.text.specs.Text.{decimal, field, fields, line};

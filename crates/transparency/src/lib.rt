@@ -1,4 +1,6 @@
 // Both runs of a job compared (01's "Watched beside bare"), each with buffers of its own.
+#![tactic(auto)]
+
 ghost use Rattle.run.specs.Answers.{told_by, buffers, call, Monitored, Unmonitored};
 ghost use Rattle.transparency.specs.Claims.{Transparent};
 
@@ -7,7 +9,7 @@ use run::{run_monitored, run_unmonitored};
 
 // The two answers. If both runs accept the job, they part exactly if the monitored one ends with stop 1, and then after as many turns as
 // it has completed.
-#[derive(Drop)]
+#[derive(Clone, Copy)]
 pub struct Both {
     pub monitored: Answer,
     pub unmonitored: Answer,

@@ -6,7 +6,7 @@ use entries::Stop;
 use output::numbers::{Numbers, numbers_of};
 
 // How a run ended: the stop, the completed turns, the attempted entry.
-#[derive(Drop)]
+#[derive(Clone, Copy)]
 pub struct Ending {
     pub stop: u32,
     pub turns: u32,
@@ -14,14 +14,14 @@ pub struct Ending {
 }
 
 // How a run ended, and how many nodes were examined for its choices: none, where its turns are written.
-#[derive(Drop)]
+#[derive(Clone, Copy)]
 pub struct CountedEnding {
     pub ending: Ending,
     pub examined: u32,
 }
 
 // Why a run is over: its turns ran out, a turn was stopped, or nobody was ready (S-2).
-#[derive(Drop)]
+#[derive(Clone, Copy)]
 pub enum Halt {
     RanOut,
     Stopped(Stop),

@@ -1,4 +1,6 @@
 // The turns of a job, one after the other.
+#![tactic(auto)]
+
 pub mod ending;
 
 ghost use Rattle.std.specs.Prelude.{◌≡◌, List, ◌*◌, ◌≤◌, length};

@@ -1,5 +1,7 @@
 // What the handlers of a job use: by node, the variables that its handler reads and writes, and the functions that it calls. The cells are
 // the decoder's own: no run has them.
+#![tactic(auto)]
+
 ghost use Rattle.std.specs.Prelude.{◌≡◌, ◌||◌, eqb};
 ghost use Rattle.model.specs.Table.{ANY, ARG, SPAN};
 ghost use Rattle.tables.specs.Writes.{written};

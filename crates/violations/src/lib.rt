@@ -1,4 +1,6 @@
 // The tests 4 to 8 and 15 of a command, by the tables of those before it.
+#![tactic(auto)]
+
 ghost use Rattle.std.specs.Prelude.{◌≡◌, cond, ◌||◌, ◌-◌, List, eqb};
 ghost use Rattle.model.specs.Table.{REPLY, READ, WRITE, GET, PUT, PLUS, is_range_byte};
 ghost use Rattle.model.specs.Command.{Command as Past};
@@ -16,7 +18,7 @@ use command::read::Command;
 use command::{bytes, table};
 
 // How many flows, nodes, variables and functions are declared.
-#[derive(Drop)]
+#[derive(Clone, Copy)]
 struct Counts {
     flows: u32,
     nodes: u32,

@@ -1,4 +1,6 @@
 // Writing to a buffer from one place to the next: each function answers the place after what it wrote.
+#![tactic(auto)]
+
 ghost use Rattle.std.specs.Prelude.{[], ◌∷◌, ◌+◌, ◌*◌, ◌≤◌, ◌<◌, length, take, replicate};
 ghost use Rattle.model.specs.Output.{bytes4};
 ghost use Rattle.writing.specs.Writing.{numbers_bytes, Writes};
