@@ -8,7 +8,7 @@ use Rattle.writing.specs.Writing.{joined, Writes}
 use Rattle.writing.proofs.Putting.{Put, all-put, front-room, back-room, two_put, room-first, room-second, room-third, three_put}
 use Rattle.model.specs.Output.{Answer}
 use Rattle.output.specs.Finding.{next_part, part_at}
-use Rattle.output.proofs.Finding.{part-next}
+use Rattle.output.proofs.Finding.{part_next}
 use Rattle.lines.specs.Lines.{entry_line, end_line, part_line, variable_line, node_lines, snapshot_lines, run_lines}
 
 -- a part and those before it lie inside the snapshot
@@ -25,7 +25,7 @@ pub part-inside :
 part-inside snapshot nodes variables n place fits inside e =
     omega (
       arith,
-      part-next snapshot n place (next_part snapshot place) e refl,
+      part_next snapshot n place (next_part snapshot place) e refl,
       parts_grow snapshot (n + 1) (nodes - (n + 1)) nodes
           (omega arith),
     )

@@ -74,9 +74,9 @@ module _
           pub end_room : four < length fourth
           end_room = omega (arith, back-room (fields messages) (10 ∷ []) third three rest fourth four r)
 
-          pub node-put : (after : List ℕ) (last : ℕ) → Writes (10 ∷ []) fourth four after last
+          pub node_put : (after : List ℕ) (last : ℕ) → Writes (10 ∷ []) fourth four after last
               → Writes (part_line snapshot n) before at after last
-          node-put after last w =
+          node_put after last w =
               rw same
               (three_put node_word (fields five) back before at fits second two p third three q after last
               (two_put (fields messages) (10 ∷ []) third three rest fourth four r after last w))

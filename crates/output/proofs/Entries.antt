@@ -8,5 +8,5 @@ use Rattle.model.specs.Output.{bytes4, entry_bytes}
 use Rattle.output.specs.Written.{Narrow}
 
 -- node, kind and number are bytes already
-pub entry-bytes : (e : Entry) → Narrow e → e.node % 256 ∷ e.kind % 256 ∷ e.number % 256 ∷ bytes4 e.value ≡ entry_bytes e
-entry-bytes e h = rw (mod-eq_of_lt h.0, mod-eq_of_lt h.1, mod-eq_of_lt h.2)
+pub entry_bytes_lem : (e : Entry) → Narrow e → e.node % 256 ∷ e.kind % 256 ∷ e.number % 256 ∷ bytes4 e.value ≡ entry_bytes e
+entry_bytes_lem e h = rw (mod-eq_of_lt h.0, mod-eq_of_lt h.1, mod-eq_of_lt h.2)

@@ -15,46 +15,46 @@ use Rattle.model.proofs.Reading.{number-one}
 use Rattle.output.specs.Finding.{waiting_in, next_part, part_at, PartsFound}
 
 -- the next part, by the byte that says how many messages wait
-pub next-byte : (snapshot : List ℕ) (place : ℕ) → next_part snapshot place ≡ place + 10 + 5 * get_or snapshot (place + 9) 0
-next-byte snapshot place = ap (λ (w : ℕ). place + 10 + 5 * w) (number-one snapshot (place + 9))
+pub next_byte : (snapshot : List ℕ) (place : ℕ) → next_part snapshot place ≡ place + 10 + 5 * get_or snapshot (place + 9) 0
+next_byte snapshot place = ap (λ (w : ℕ). place + 10 + 5 * w) (number-one snapshot (place + 9))
 
 -- the first part, and the next one
-pub part-first : (snapshot : List ℕ) → part_at snapshot 0 ≡ 0
+pub part_first : (snapshot : List ℕ) → part_at snapshot 0 ≡ 0
 unfolding part_at
-part-first snapshot = refl
+part_first snapshot = refl
 
-pub part-next : (snapshot : List ℕ) (n place next : ℕ) → place ≡ part_at snapshot n → next ≡ next_part snapshot place
+pub part_next : (snapshot : List ℕ) (n place next : ℕ) → place ≡ part_at snapshot n → next ≡ next_part snapshot place
     → next ≡ part_at snapshot (n + 1)
 unfolding part_at
-part-next snapshot n place next e w = w ∙ rw (e, add-one)
+part_next snapshot n place next e w = w ∙ rw (e, add-one)
 
 -- behind the parts of the first k nodes of a state
-pub parts-of : (s : State) (k : ℕ) (rest : List ℕ) → part_at (nodes_bytes s k ++ rest) k ≡ part_start s k
+pub parts_of : (s : State) (k : ℕ) (rest : List ℕ) → part_at (nodes_bytes s k ++ rest) k ≡ part_start s k
 unfolding part_at nodes_bytes
-parts-of s zero rest = refl
-parts-of s (suc k) rest =
+parts_of s zero rest = refl
+parts_of s (suc k) rest =
     let all = nodes_bytes s k ++ (node_bytes s k ++ rest) in
     let size = part_start s k in
     let waits : waiting_in all size ≡ waiting_at s k =
     number-one all (size + 9) ∙ get_or-append-add (nodes_bytes s k) (node_bytes s k ++ rest) 9 0 in
     ap (λ (l : List ℕ). part_at l (suc k)) (append_assoc (nodes_bytes s k) (node_bytes s k) rest)
-    ∙ ap (next_part all) (parts-of s k (node_bytes s k ++ rest))
+    ∙ ap (next_part all) (parts_of s k (node_bytes s k ++ rest))
     ∙ ap (λ (w : ℕ). size + 10 + 5 * w) waits
     ∙ omega (arith, start-next s k, length-node s k)
 
-pub parts-found : PartsFound
+pub parts_found : PartsFound
 unfolding snapshot_bytes
-parts-found P s rest n h =
+parts_found P s rest n h =
     ap (λ (l : List ℕ). part_at l n) (append_assoc (nodes_bytes s P.nodes) (variables_bytes s P.variables) rest)
-    ∙ with_more s (λ l. part_at l n) (part_start s n) n (parts-of s n) (P.nodes - n) P.nodes (variables_bytes s P.variables ++ rest)
+    ∙ with_more s (λ l. part_at l n) (part_start s n) n (parts_of s n) (P.nodes - n) P.nodes (variables_bytes s P.variables ++ rest)
     (omega arith)
 
 -- the byte that tells how many messages wait at node n
-pub waiting-found : (P : Program) (s : State) (rest : List ℕ) (n : ℕ) → n < P.nodes
+pub waiting_found : (P : Program) (s : State) (rest : List ℕ) (n : ℕ) → n < P.nodes
     → waiting_in (snapshot_bytes P s ++ rest) (part_at (snapshot_bytes P s ++ rest) n) ≡ waiting_at s n
 unfolding part_at
-waiting-found P s rest n h =
+waiting_found P s rest n h =
     let all = snapshot_bytes P s ++ rest in
-    let here = parts-found P s rest n (omega arith) in
-    let next : next_part all (part_at all n) ≡ part_start s (suc n) = parts-found P s rest (suc n) (omega arith) in
+    let here = parts_found P s rest n (omega arith) in
+    let next : next_part all (part_at all n) ≡ part_start s (suc n) = parts_found P s rest (suc n) (omega arith) in
     omega (arith, here, next, start-next s n, length-node s n)

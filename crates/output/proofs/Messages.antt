@@ -15,10 +15,10 @@ use Rattle.writing.specs.Writing.{Writes}
 use Rattle.writing.proofs.Placing.{writes-on, writes_nothing}
 
 -- one message more at the end
-messages-snoc : (ms : List Message) (m : Message) → messages_bytes (ms ++ (m ∷ [])) ≡ messages_bytes ms ++ (bytes4 m.value ++ (m.sender ∷ []))
+messages_snoc : (ms : List Message) (m : Message) → messages_bytes (ms ++ (m ∷ [])) ≡ messages_bytes ms ++ (bytes4 m.value ++ (m.sender ∷ []))
 unfolding messages_bytes
-messages-snoc [] m = refl
-messages-snoc (l ∷ ms) m = ap (λ (b : List ℕ). bytes4 l.value ++ (l.sender ∷ b)) (messages-snoc ms m)
+messages_snoc [] m = refl
+messages_snoc (l ∷ ms) m = ap (λ (b : List ℕ). bytes4 l.value ++ (l.sender ∷ b)) (messages_snoc ms m)
 
 -- i messages are written of those from slot number `first` on: what a loop over them keeps
 pub record MessagesWritten (values senders : List ℕ) (first : ℕ) (before : List ℕ) (at i : ℕ) (buffer : List ℕ) (next : ℕ) : Type 0 where
@@ -51,7 +51,7 @@ module _ (values senders : List ℕ) (first : ℕ) (before : List ℕ) (at : ℕ
       let e : messages_bytes (take (i + 1) part) ≡ messages_bytes (take i part) ++ (bytes4 (get_or values (first + i) 0) ++
       (get_or senders (first + i) 0 ∷ [])) =
       ap (λ (k : ℕ). messages_bytes (take k part)) (add-one i) ∙ ap messages_bytes (take-suc part i no_message there)
-      ∙ messages-snoc (take i part) (get_or part i no_message)
+      ∙ messages_snoc (take i part) (get_or part i no_message)
       ∙ ap (λ (l : Message). messages_bytes (take i part) ++ (bytes4 l.value ++ (l.sender ∷ []))) m in
       record {
         writes = rw e (writes-on (messages_bytes (take i part)) _ before at buffer next after last (omega arith) w.writes one);

@@ -53,14 +53,14 @@ module _ (p a m w q x v : List ℕ) (n : ℕ) (narrow : get_or p n 0 < 256) (few
   waits : waiting_at s n ≡ get_or w n 0
   waits = ap length messages ∙ all_there
 
-  part-node : node_bytes s n ≡ part
-  part-node = rw (mod-eq_of_lt narrow, waits, messages)
+  part_node : node_bytes s n ≡ part
+  part_node = rw (mod-eq_of_lt narrow, waits, messages)
 
   -- at the place where the parts before it end
-  pub node-put : (at : ℕ) → at ≡ part_start s n → (before after : List ℕ) (next : ℕ) → Writes part before at after next
+  pub node_put : (at : ℕ) → at ≡ part_start s n → (before after : List ℕ) (next : ℕ) → Writes part before at after next
       → NodePut s n before after next
-  node-put at here before after next x =
-      let writes : Writes (node_bytes s n) before (part_start s n) after next = rw (part-node, ← here) x in
+  node_put at here before after next x =
+      let writes : Writes (node_bytes s n) before (part_start s n) after next = rw (part_node, ← here) x in
       record { part = writes; place = writes.place ∙ sym (start-next s n) ∙ ap (part_start s) (sym (add-one n)) }
 
 -- the parts of the first nodes are written, and the place of the next one is known: what a loop over the nodes keeps
@@ -70,20 +70,20 @@ pub record Shown (s : State) (before : List ℕ) (n : ℕ) (snapshot : List ℕ)
   pub short : at ≤ 90 * n
   pub size : length snapshot ≡ length before
 
-pub none-shown : (s : State) (before : List ℕ) → Shown s before 0 before 0
+pub none_shown : (s : State) (before : List ℕ) → Shown s before 0 before 0
 unfolding nodes_bytes
-none-shown s before = record { parts = writes_nothing before 0; place = refl; short = omega arith; size = refl }
+none_shown s before = record { parts = writes_nothing before 0; place = refl; short = omega arith; size = refl }
 
 -- where the counts are bounded, so are the queues of the model's state
-pub view-bounded : (p a m w q x v : List ℕ) → BoundedCounts w → Bounded (view_of p a m w q x v)
-view-bounded p a m w q x v bounded n =
+pub view_bounded : (p a m w q x v : List ℕ) → BoundedCounts w → Bounded (view_of p a m w q x v)
+view_bounded p a m w q x v bounded n =
     omega (arith, ap length (queue-at w (paired q x) n), length-take (get_or w n 0) (drop (16 * n) (paired q x)), bounded n)
 
-pub one-shown :
+pub one_shown :
     (s : State) → Bounded s → (before : List ℕ) (n : ℕ) (snapshot : List ℕ) (at : ℕ) (after : List ℕ) (next : ℕ)
     → 90 * n + 90 ≤ length before → length after ≡ length snapshot → Shown s before n snapshot at → NodePut s n snapshot after next
     → Shown s before (n + 1) after next
-one-shown s few before n snapshot at after next fits same w x =
+one_shown s few before n snapshot at after next fits same w x =
     let e : nodes_bytes s (n + 1) ≡ nodes_bytes s n ++ node_bytes s n = ap (nodes_bytes s) (add-one n) ∙ nodes-next s n in
     let part : Writes (node_bytes s n) snapshot at after next = rw w.place x.part in
     let short = length-nodes s few (n + 1) in
@@ -95,11 +95,11 @@ one-shown s few before n snapshot at after next fits same w x =
     }
 
 -- the variables are numbers one after the other
-variables-numbers : (s : State) (k : ℕ) → k ≤ length s.variable → variables_bytes s k ≡ numbers_bytes (take k s.variable)
+variables_numbers : (s : State) (k : ℕ) → k ≤ length s.variable → variables_bytes s k ≡ numbers_bytes (take k s.variable)
 unfolding variables_bytes numbers_bytes
-variables-numbers s zero h = refl
-variables-numbers s (suc k) h =
-    ap (λ (l : List ℕ). l ++ bytes4 (variable_at s k)) (variables-numbers s k (omega arith))
+variables_numbers s zero h = refl
+variables_numbers s (suc k) h =
+    ap (λ (l : List ℕ). l ++ bytes4 (variable_at s k)) (variables_numbers s k (omega arith))
     ∙ sym (numbers-next s.variable k (omega arith)) ∙ ap (λ (i : ℕ). numbers_bytes (take i s.variable)) (add-one k)
 
 -- they are written behind the parts of so many nodes, and the end of the snapshot is known
@@ -107,14 +107,14 @@ pub record VariablesPut (s : State) (nodes variables : ℕ) (before after : List
   pub part : Writes (variables_bytes s variables) before (part_start s nodes) after next
   pub place : next ≡ length (shown_bytes s nodes variables)
 
-pub variables-put :
+pub variables_put :
     (s : State) (nodes variables : ℕ) → variables ≤ length s.variable
     → (at : ℕ) → at ≡ part_start s nodes → (before after : List ℕ) (next : ℕ)
     → Writes (numbers_bytes (take variables s.variable)) before at after next
     → VariablesPut s nodes variables before after next
-variables-put s nodes variables inside at here before after next x =
+variables_put s nodes variables inside at here before after next x =
     let writes : Writes (variables_bytes s variables) before (part_start s nodes) after next =
-    rw (variables-numbers s variables inside, ← here) x in
+    rw (variables_numbers s variables inside, ← here) x in
     record { part = writes; place = writes.place ∙ sym (length-append (nodes_bytes s nodes) (variables_bytes s variables)) }
 
 -- nodes, and behind them the variables

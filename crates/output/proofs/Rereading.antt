@@ -14,8 +14,8 @@ use Rattle.model.proofs.Reading.{number-one, number_same}
 use Rattle.output.specs.Finding.{entry_from}
 
 -- a number among the first bytes
-pub number-front : (xs ys : List ℕ) (at w : ℕ) → at + w ≤ length xs → number_at (xs ++ ys) at w ≡ number_at xs at w
-number-front xs ys at w h = number_same (xs ++ ys) xs at w (λ i a b. get_or-append xs ys 0 i (omega arith))
+pub number_front : (xs ys : List ℕ) (at w : ℕ) → at + w ≤ length xs → number_at (xs ++ ys) at w ≡ number_at xs at w
+number_front xs ys at w h = number_same (xs ++ ys) xs at w (λ i a b. get_or-append xs ys 0 i (omega arith))
 
 -- a number past the first bytes
 pub number_past : (xs ys : List ℕ) (at w : ℕ) → number_at (xs ++ ys) (length xs + at) w ≡ number_at ys at w
@@ -36,15 +36,15 @@ module _
     element [] k h at w i = absurd (omega arith)
     element (a ∷ l) zero h at w i =
         let here : size * 0 + at ≡ at = omega arith in
-        rw (next a l, here) (number-front (one a) (all l) at w (omega (arith, sized a)))
+        rw (next a l, here) (number_front (one a) (all l) at w (omega (arith, sized a)))
     element (a ∷ l) (suc k) h at w i =
         let there : size * suc k + at ≡ length (one a) + (size * k + at) = omega (arith, sized a, mul-suc size k) in
         rw (next a l, there) (number_past (one a) (all l) (size * k + at) w ∙ element l k (omega arith) at w i)
 
 -- an entry
-trace-cons : (e : Entry) (es : List Entry) → trace_bytes (e ∷ es) ≡ entry_bytes e ++ trace_bytes es
+trace_cons : (e : Entry) (es : List Entry) → trace_bytes (e ∷ es) ≡ entry_bytes e ++ trace_bytes es
 unfolding trace_bytes
-trace-cons e es = refl
+trace_cons e es = refl
 
 module _ (es : List Entry) (k : ℕ) (h : k < length es) where
   abbrev zeros : Entry
@@ -53,24 +53,24 @@ module _ (es : List Entry) (k : ℕ) (h : k < length es) where
   abbrev e : Entry
   e = get_or es k zeros
 
-  pub entry-part : (at w : ℕ) → at + w ≤ 7 → number_at (trace_bytes es) (7 * k + at) w ≡ number_at (entry_bytes e) at w
-  entry-part = element zeros 7 entry_bytes (λ x. refl) trace_bytes trace-cons es k h
+  pub entry_part : (at w : ℕ) → at + w ≤ 7 → number_at (trace_bytes es) (7 * k + at) w ≡ number_at (entry_bytes e) at w
+  entry_part = element zeros 7 entry_bytes (λ x. refl) trace_bytes trace_cons es k h
 
-  pub entry-byte : (at : ℕ) → at < 7 → number_at (trace_bytes es) (7 * k + at) 1 ≡ get_or (entry_bytes e) at 0
-  entry-byte at i = entry-part at 1 (omega arith) ∙ number-one (entry_bytes e) at
+  pub entry_byte : (at : ℕ) → at < 7 → number_at (trace_bytes es) (7 * k + at) 1 ≡ get_or (entry_bytes e) at 0
+  entry_byte at i = entry_part at 1 (omega arith) ∙ number-one (entry_bytes e) at
 
 -- entry k of a trace, whatever bytes follow: its node, kind and number
 module _ (es : List Entry) (rest : List ℕ) (k : ℕ) (h : k < length es) where
-  number-back : (at : ℕ) → at < 7 → number_at (trace_bytes es ++ rest) (7 * k + at) 1 ≡ get_or (entry_bytes (get_or es k (entry 0 0 0 0))) at 0
-  number-back at i = number-front (trace_bytes es) rest (7 * k + at) 1 (omega (arith, length-trace es)) ∙ entry-byte es k h at i
+  number_back : (at : ℕ) → at < 7 → number_at (trace_bytes es ++ rest) (7 * k + at) 1 ≡ get_or (entry_bytes (get_or es k (entry 0 0 0 0))) at 0
+  number_back at i = number_front (trace_bytes es) rest (7 * k + at) 1 (omega (arith, length-trace es)) ∙ entry_byte es k h at i
 
-  pub node-back : (entry_from (trace_bytes es ++ rest) k).node ≡ (get_or es k (entry 0 0 0 0)).node
-  node-back =
+  pub node_back : (entry_from (trace_bytes es ++ rest) k).node ≡ (get_or es k (entry 0 0 0 0)).node
+  node_back =
       let first : 7 * k ≡ 7 * k + 0 = omega arith in
-      ap (λ (p : ℕ). number_at (trace_bytes es ++ rest) p 1) first ∙ number-back 0 (omega arith)
+      ap (λ (p : ℕ). number_at (trace_bytes es ++ rest) p 1) first ∙ number_back 0 (omega arith)
 
-  pub kind-back : (entry_from (trace_bytes es ++ rest) k).kind ≡ (get_or es k (entry 0 0 0 0)).kind
-  kind-back = number-back 1 (omega arith)
+  pub kind_back : (entry_from (trace_bytes es ++ rest) k).kind ≡ (get_or es k (entry 0 0 0 0)).kind
+  kind_back = number_back 1 (omega arith)
 
-  pub number-of-back : (entry_from (trace_bytes es ++ rest) k).number ≡ (get_or es k (entry 0 0 0 0)).number
-  number-of-back = number-back 2 (omega arith)
+  pub number_of_back : (entry_from (trace_bytes es ++ rest) k).number ≡ (get_or es k (entry 0 0 0 0)).number
+  number_of_back = number_back 2 (omega arith)

@@ -7,7 +7,7 @@ use lib.ListN.{length}
 use Rattle.writing.specs.Writing.{joined}
 use Rattle.writing.proofs.Putting.{same_first}
 use Rattle.output.specs.Finding.{waiting_in, next_part, part_at}
-use Rattle.output.proofs.Rereading.{number-front}
+use Rattle.output.proofs.Rereading.{number_front}
 use Rattle.lines.specs.Lines.{entry_line, message_in, messages_at, node_line, part_line, variable_line, node_lines}
 use Rattle.lines.specs.Lines.{snapshot_lines, run_lines}
 use Rattle.lines.proofs.Parts.{part-inside}
@@ -19,10 +19,10 @@ module _ (xs ys : List ℕ) where
   unfolding entry_line
   entry-front k h =
       rw (
-        number-front xs ys (7 * k) 1 (omega arith),
-        number-front xs ys (7 * k + 1) 1 (omega arith),
-        number-front xs ys (7 * k + 2) 1 (omega arith),
-        number-front xs ys (7 * k + 3) 4 (omega arith),
+        number_front xs ys (7 * k) 1 (omega arith),
+        number_front xs ys (7 * k + 1) 1 (omega arith),
+        number_front xs ys (7 * k + 2) 1 (omega arith),
+        number_front xs ys (7 * k + 3) 4 (omega arith),
       )
 
   pub entries-front : (n : ℕ) → 7 * n ≤ length xs → joined (entry_line (xs ++ ys)) n ≡ joined (entry_line xs) n
@@ -34,29 +34,29 @@ module _ (xs ys : List ℕ) where
   part-front zero h = refl
   part-front (suc n) h =
       let same = part-front n (omega arith) in
-      rw (same, number-front xs ys (part_at xs n + 9) 1 (omega arith))
+      rw (same, number_front xs ys (part_at xs n + 9) 1 (omega arith))
 
   messages-front : (place count : ℕ) → place + 5 * count ≤ length xs → messages_at (xs ++ ys) place count ≡ messages_at xs place count
   unfolding messages_at
   messages-front place count h =
       same_first (message_in (xs ++ ys) place) (message_in xs place) count
       (λ k i.
-      ap₂ (λ (v n : ℕ). v ∷ n ∷ []) (number-front xs ys (place + 5 * k) 4 (omega arith)) (number-front xs ys (place + 5 * k + 4) 1 (omega arith)))
+      ap₂ (λ (v n : ℕ). v ∷ n ∷ []) (number_front xs ys (place + 5 * k) 4 (omega arith)) (number_front xs ys (place + 5 * k + 4) 1 (omega arith)))
 
   node-front : (place n : ℕ) → next_part xs place ≤ length xs → node_line (xs ++ ys) place n ≡ node_line xs place n
   unfolding node_line
   node-front place n h =
       rw (
-        number-front xs ys place 1 (omega arith),
-        number-front xs ys (place + 1) 4 (omega arith),
-        number-front xs ys (place + 5) 4 (omega arith),
-        number-front xs ys (place + 9) 1 (omega arith),
+        number_front xs ys place 1 (omega arith),
+        number_front xs ys (place + 1) 4 (omega arith),
+        number_front xs ys (place + 5) 4 (omega arith),
+        number_front xs ys (place + 9) 1 (omega arith),
         messages-front (place + 10) (waiting_in xs place) (omega arith),
       )
 
   variable-front : (place x : ℕ) → place + 4 * x + 4 ≤ length xs → variable_line (xs ++ ys) place x ≡ variable_line xs place x
   unfolding variable_line
-  variable-front place x h = rw (number-front xs ys (place + 4 * x) 4 (omega arith))
+  variable-front place x h = rw (number_front xs ys (place + 4 * x) 4 (omega arith))
 
   module _ (nodes variables : ℕ) (fits : part_at xs nodes + 4 * variables ≤ length xs) where
     parts-front : (n : ℕ) → n < nodes → part_line (xs ++ ys) n ≡ part_line xs n

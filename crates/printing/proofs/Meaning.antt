@@ -8,8 +8,8 @@ use lib.Seq.{get_or-append_seam}
 use Rattle.writing.specs.Writing.{joined}
 use Rattle.writing.proofs.Putting.{first_shift, same_first}
 use Rattle.output.specs.Finding.{waiting_in}
-use Rattle.output.proofs.Finding.{parts-of}
-use Rattle.output.proofs.Rereading.{number-front, number_past, element, entry-part, entry-byte}
+use Rattle.output.proofs.Finding.{parts_of}
+use Rattle.output.proofs.Rereading.{number_front, number_past, element, entry_part, entry_byte}
 use Rattle.tally.specs.Tallies.{tally_in}
 use Rattle.tally.proofs.Filed.{filed_alone_holds}
 use Rattle.lines.specs.Lines.{entry_line, message_in, messages_at, node_line, variable_line, node_lines, snapshot_lines, run_lines, tally_line}
@@ -45,7 +45,7 @@ word_past : (xs ys : List ℕ) (at v : ℕ) → at ≡ length xs → v < 2 ^ 32 
 word_past xs ys at v e h =
     let here : at ≡ length xs + 0 = omega arith in
     ap (λ (p : ℕ). number_at (xs ++ (bytes4 v ++ ys)) p 4) here
-    ∙ number_past xs (bytes4 v ++ ys) 0 4 ∙ number-front (bytes4 v) ys 0 4 (omega arith) ∙ bytes_spell v h
+    ∙ number_past xs (bytes4 v ++ ys) 0 4 ∙ number_front (bytes4 v) ys 0 4 (omega arith) ∙ bytes_spell v h
 
 -- an entry
 module _ (es : List Entry) (k : ℕ) (h : k < length es) where
@@ -57,10 +57,10 @@ module _ (es : List Entry) (k : ℕ) (h : k < length es) where
   entry_read small =
       let first : 7 * k ≡ 7 * k + 0 = omega arith in
       entry-same (trace_bytes es) k e.node e.kind e.number e.value
-      (sym (ap (λ (p : ℕ). number_at (trace_bytes es) p 1) first ∙ entry-byte es k h 0 (omega arith)))
-      (sym (entry-byte es k h 1 (omega arith)))
-      (sym (entry-byte es k h 2 (omega arith)))
-      (sym (entry-part es k h 3 4 (omega arith) ∙ word_past (e.node ∷ e.kind ∷ e.number ∷ []) [] 3 e.value refl small))
+      (sym (ap (λ (p : ℕ). number_at (trace_bytes es) p 1) first ∙ entry_byte es k h 0 (omega arith)))
+      (sym (entry_byte es k h 1 (omega arith)))
+      (sym (entry_byte es k h 2 (omega arith)))
+      (sym (entry_part es k h 3 4 (omega arith) ∙ word_past (e.node ∷ e.kind ∷ e.number ∷ []) [] 3 e.value refl small))
 
 -- a node
 messages_cons : (m : Message) (ms : List Message) → messages_bytes (m ∷ ms) ≡ bytes4 m.value ++ (m.sender ∷ []) ++ messages_bytes ms
@@ -93,7 +93,7 @@ messages-read xs q rest place e small =
         at w
     part i h at w l =
         number_past xs (messages_bytes q ++ rest) (5 * i + at) w
-        ∙ number-front (messages_bytes q) rest (5 * i + at) w (omega (arith, length-messages q))
+        ∙ number_front (messages_bytes q) rest (5 * i + at) w (omega (arith, length-messages q))
         ∙ element no_message 5 (λ m. bytes4 m.value ++ (m.sender ∷ [])) (λ m. refl) messages_bytes messages_cons q i h at w l
 
     value : (i : ℕ) → i < length q → number_at all (place + 5 * i) 4 ≡ (get_or q i no_message).value
@@ -144,7 +144,8 @@ module _ (s : State) (fits : Fits s) where
   nodes-read (suc k) rest =
       let nodes = nodes_bytes s k in
       let last = node_bytes s k ++ rest in
-      rw (append_assoc nodes (node_bytes s k) rest, nodes-read k last, parts-of s k last, node-read nodes rest k)
+      subst (λ (l : List ℕ). node_lines l (suc k) ≡ joined (line_of_node s) (suc k)) (sym (append_assoc nodes (node_bytes s k) rest))
+      (rw (nodes-read k last, parts_of s k last, node-read nodes rest k))
 
   -- a variable
   module _ (xs : List ℕ) where
@@ -166,7 +167,9 @@ module _ (s : State) (fits : Fits s) where
     variables-read zero rest = refl
     variables-read (suc k) rest =
         let last = bytes4 (variable_at s k) ++ rest in
-        rw (append_assoc (variables_bytes s k) (bytes4 (variable_at s k)) rest, variables-read k last, variable-read k rest)
+        subst (λ (l : List ℕ). joined (variable_line (xs ++ l) (length xs)) (suc k) ≡ joined (line_of_variable s) (suc k))
+        (sym (append_assoc (variables_bytes s k) (bytes4 (variable_at s k)) rest))
+        (rw (variables-read k last, variable-read k rest))
 
   -- a state
   state-read : (P : Program) → snapshot_lines (snapshot_bytes P s) P.nodes P.variables ≡ lines_of_state P s
@@ -174,7 +177,7 @@ module _ (s : State) (fits : Fits s) where
   state-read P =
       let nodes = nodes_bytes s P.nodes in
       let variables = variables_bytes s P.variables in
-      rw (nodes-read P.nodes variables, parts-of s P.nodes variables, ← append-nil variables, variables-read nodes P.variables [])
+      rw (nodes-read P.nodes variables, parts_of s P.nodes variables, ← append-nil variables, variables-read nodes P.variables [])
 
 -- a run whose values are below 2^32
 pub record Readable (r : Run) : Type 0 where

@@ -11,7 +11,7 @@ use Rattle.run.specs.Answers.{handed_for, Delivers}
 use Rattle.writing.specs.Writing.{Writes, placed}
 use Rattle.writing.proofs.Placing.{length-placed}
 use Rattle.output.specs.Finding.{part_at}
-use Rattle.output.proofs.Finding.{parts-of}
+use Rattle.output.proofs.Finding.{parts_of}
 use Rattle.writing.proofs.Putting.{same_first}
 use Rattle.tally.proofs.Filed.{filed_holds, filed_alone_holds}
 use Rattle.lines.specs.Lines.{run_lines, tally_line, refused_line}
@@ -153,7 +153,7 @@ module _ (past : List Command) (s : State) where
   parts_fit =
       let nodes = nodes_bytes s (count_of NODE past) in
       let variables = variables_bytes s (count_of VAR past) in
-      omega (arith, parts-of s (count_of NODE past) variables, length-append nodes variables, length-variables s (count_of VAR past))
+      omega (arith, parts_of s (count_of NODE past) variables, length-append nodes variables, length-variables s (count_of VAR past))
 
 -- bytes after those of a run change no line
 tallies_front :

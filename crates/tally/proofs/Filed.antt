@@ -16,8 +16,8 @@ use Rattle.model.proofs.Counting.{count-agree}
 use Rattle.model.proofs.Bounds.{length-trace}
 use Rattle.writing.proofs.Putting.{same_first}
 use Rattle.output.specs.Finding.{entry_from}
-use Rattle.output.proofs.Finding.{waiting-found}
-use Rattle.output.proofs.Rereading.{node-back, kind-back, number-of-back}
+use Rattle.output.proofs.Finding.{waiting_found}
+use Rattle.output.proofs.Rereading.{node_back, kind_back, number_of_back}
 use Rattle.tally.specs.Tallies.{entries_held, tally_in}
 use Rattle.tally.specs.Filed.{filed_tally, FiledHolds, FiledAloneHolds, LeftHolds}
 
@@ -36,13 +36,13 @@ module _ (P : Program) (r : Run) (more rest : List ℕ) where
   reaches-back n k h =
       let es = entries_of r.steps in
       let i : k < length es = omega (arith, entries) in
-      rw (node-back es more k i, kind-back es more k i, number-of-back es more k i)
+      rw (node_back es more k i, kind_back es more k i, number_of_back es more k i)
 
   takes_back : (n k : ℕ) → k < steps → takes n (entry_from trace k) ≡ takes n (entry_at r k)
   takes_back n k h =
       let es = entries_of r.steps in
       let i : k < length es = omega (arith, entries) in
-      rw (node-back es more k i, kind-back es more k i)
+      rw (node_back es more k i, kind_back es more k i)
 
   -- so the counts are those of the run, if as many entries are held
   counts-back : (turns n : ℕ) → entries_held turns trace ≡ steps → n < P.nodes
@@ -52,7 +52,7 @@ module _ (P : Program) (r : Run) (more rest : List ℕ) where
         held,
         count-agree (λ j. reaches P n (entry_from trace j)) (λ j. reaches P n (entry_at r j)) steps (reaches-back n),
         count-agree (λ j. takes n (entry_from trace j)) (λ j. takes n (entry_at r j)) steps (takes_back n),
-        waiting-found P r.final rest n h,
+        waiting_found P r.final rest n h,
       )
 
   size : length (trace_in r) ≡ 7 * steps

@@ -1,7 +1,7 @@
 -- `conformance::buffers::size_of` meets its contract. The place is where the part of the next node begins; a part has at most 1,285 bytes.
 use Rattle.std.proofs.Common.{◌≡◌, ◌-◌, ◌*◌, ◌≤◌, sym, ap, arith, rules}
 use Rattle.output.specs.Finding.{part_at}
-use Rattle.output.proofs.Finding.{part-first}
+use Rattle.output.proofs.Finding.{part_first}
 use Rattle.conformance.proofs.buffers.size_of.Statement.{statement}
 use Rattle.conformance.proofs.buffers.size_of.Tie as tie
 
@@ -12,7 +12,7 @@ abbrev decreases-loop : tie.decreases-loop
 decreases-loop snapshot nodes variables place₀ n₀ place n = nodes - n
 
 loop-holds : tie.Need-loop-init invariant-loop decreases-loop
-loop-holds c = (search rules, sym (part-first c.before.args.snapshot.now), search rules)
+loop-holds c = (search rules, sym (part_first c.before.args.snapshot.now), search rules)
 
 cast-next-part : tie.Need-overflow-cast-next-part invariant-loop decreases-loop
 cast-next-part c = search rules

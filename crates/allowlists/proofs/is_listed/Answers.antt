@@ -1,0 +1,8 @@
+use mathlib.Core.Path.{◌∙◌}
+use borrow.Author.Rules.{rules}
+use Rattle.items.proofs.Searching.{found-there}
+use Rattle.allowlists.proofs.is_listed.Goals as goal
+
+pub returns : goal.returns
+returns c = rw c.last_range.ensures at
+    (c.is_found.ensures ∙ found-there _ _ _ c.find.result c.find.ensures)

@@ -1,0 +1,20 @@
+use borrow.Author.Rules.{rules}
+use Rattle.model.proofs.Reading.{number-four, number-one}
+use Rattle.command.proofs.Shaped.{width-none}
+use Rattle.command.proofs.read.operand.Goals as goal
+
+pub returns-then-width-eq4 : goal.returns-then-width-eq4
+returns-then-width-eq4 c = rw (
+  c.if-width-eq4.true,
+  number-four,
+  c.wide-a.ensures.0,
+  c.wide-b.ensures.0,
+  c.wide-c.ensures.0,
+  c.wide-d.ensures.0,
+)
+
+pub returns-then-width-eq1 : goal.returns-then-width-eq1
+returns-then-width-eq1 c = rw (c.if-width-eq1.true, number-one) c.wide.ensures.0
+
+pub returns : goal.returns
+returns c = width-none _ _ _ c.requires.1 c.if-width-eq4.false c.if-width-eq1.false

@@ -1,0 +1,7 @@
+use mathlib.Core.Path.{ap, ◌∙◌}
+use Rattle.model.specs.Declared.{is_there}
+use borrow.Author.Rules.{rules}
+use Rattle.declared.proofs.has_reply.Goals as goal
+
+pub returns : goal.returns
+returns c = c.is_found.ensures ∙ ap is_there c.reply_to.ensures

@@ -1,0 +1,5 @@
+use borrow.Author.Rules.{rules}
+use Rattle.declared.proofs.is_shared.Goals as goal
+
+pub returns : goal.returns
+returns c = rw c.entry-scope.ensures

@@ -1,0 +1,5 @@
+use borrow.Author.Rules.{rules}
+use Rattle.declared.proofs.is_wired.Goals as goal
+
+pub returns : goal.returns
+returns c = rw c.marked-wire.ensures

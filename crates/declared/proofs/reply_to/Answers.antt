@@ -1,0 +1,11 @@
+use mathlib.Core.Path.{sym, ap, ◌∙◌}
+use Rattle.tables.specs.Items.{second_of}
+use Rattle.items.proofs.Searching.{found_none}
+use borrow.Author.Rules.{rules}
+use Rattle.declared.proofs.reply_to.Goals as goal
+
+pub returns-then-last-eq0 : goal.returns-then-last-eq0
+returns-then-last-eq0 c = sym (ap second_of (found_none _ _ _ (sym c.last_reply-last.ensures ∙ c.if-last-eq0.true)))
+
+pub returns : goal.returns
+returns c = rw c.last_reply-last.ensures at c.find.ensures

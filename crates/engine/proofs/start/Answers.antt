@@ -1,0 +1,7 @@
+use borrow.Author.Rules.{rules}
+use Rattle.engine.proofs.Starting.{started}
+use Rattle.engine.proofs.start.Goals as goal
+
+pub returns : goal.returns
+returns c = started _ _ _ _ c.count_of-nodes.result _ c.fill_queues.ensures.1.1 c.fill_queues.ensures.0 c.fill_queues.ensures.1.0 c.fill_variables.ensures c.count_of-nodes.ensures
+    c.count_ready-ready.ensures

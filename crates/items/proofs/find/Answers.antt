@@ -1,0 +1,34 @@
+use mathlib.Core.Path.{◌≡◌, sym, ap, ◌∙◌}
+use native.Mathlib.Omega.{arith}
+use borrow.Author.Rules.{rules}
+use Rattle.tables.specs.Items.{found_item, second_of}
+use Rattle.tables.specs.Tables.{chain_in}
+use Rattle.items.specs.Asking.{asked}
+use Rattle.items.proofs.Searching.{found_hit, found_miss, found_none, goes_back}
+use Rattle.items.proofs.find.Goals as goal
+
+pub returns-then-fits : goal.returns-then-fits
+returns-then-fits c = let h = rw (
+      c.fits.ensures,
+      c.entry-second.ensures,
+      c.entry-first.ensures,
+      c.entry-link.ensures,
+    ) at c.if-fits.true in
+    rw c.entry-second.ensures
+    (sym (ap second_of (c.loop-at.invariant ∙ found_hit _ _ c.loop-at.at c.loop-at-test.true h)))
+
+pub loop-at-smaller : goal.loop-at-smaller
+loop-at-smaller c = goes_back _ _ _ c.loop-at-test.true c.go_back-at.ensures
+
+pub loop-at-preserved : goal.loop-at-preserved
+loop-at-preserved c = let h = rw (
+      c.fits.ensures,
+      c.entry-second.ensures,
+      c.entry-first.ensures,
+      c.entry-link.ensures,
+    ) at c.if-fits.false in
+    c.loop-at.invariant ∙ found_miss _ _ c.loop-at.at c.loop-at-test.true h _
+    (c.go_back-at.ensures ∙ rw c.entry-link.ensures)
+
+pub returns : goal.returns
+returns c = sym (ap second_of (c.loop-at.invariant ∙ found_none _ _ c.loop-at.at (omega arith)))

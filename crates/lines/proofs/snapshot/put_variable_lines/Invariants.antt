@@ -1,0 +1,16 @@
+use Prim.Native.Nat.{◌-◌, ◌≤◌}
+use mathlib.Core.Path.{refl}
+use mathlib.Core.Logic.{inl}
+use native.Mathlib.Omega.{arith}
+use borrow.Author.Rules.{rules}
+use Rattle.writing.proofs.Putting.{Put, none-put, room, one-put, all-put}
+use Rattle.lines.specs.Lines.{variable_line}
+use Rattle.lines.proofs.Texts.{variable-same}
+use Rattle.lines.proofs.snapshot.put_variable_lines.Given as goal
+
+abbrev pub invariant-loop-x : goal.invariant-loop-x
+invariant-loop-x l = (x ≤ l.variables) × Put
+    (variable_line l.snapshot l.place) l.initial.text l.at x l.next l.x
+
+abbrev pub decreases-loop-x : goal.decreases-loop-x
+decreases-loop-x l = l.variables - x

@@ -1,0 +1,13 @@
+use Prim.Native.Nat.{◌-◌, ◌≤◌}
+use native.Mathlib.Omega.{arith}
+use borrow.Author.Rules.{rules}
+use Rattle.writing.proofs.Putting.{Put, none-put, room, one-put, all-put}
+use Rattle.lines.specs.Lines.{tally_line, four_at}
+use Rattle.lines.proofs.Texts.{tally-same}
+use Rattle.lines.proofs.tallies.put_tally_lines.Given as goal
+
+abbrev pub invariant-loop-n : goal.invariant-loop-n
+invariant-loop-n l = (n ≤ l.nodes) × Put (λ k. tally_line k (four_at l.counts k)) l.initial.text l.at n l.next l.n
+
+abbrev pub decreases-loop-n : goal.decreases-loop-n
+decreases-loop-n l = l.nodes - n

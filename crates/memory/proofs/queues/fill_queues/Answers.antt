@@ -1,0 +1,36 @@
+use Prim.Native.Nat.{ℕ, ◌*◌, ◌-◌}
+use mathlib.Core.Path.{sym, ap, ◌∙◌}
+use mathlib.Core.List.{List, map}
+use mathlib.Core.Logic.{⊎_elim}
+use native.Mathlib.Omega.{arith}
+use lib.ListN.{get_or, length-map}
+use borrow.Author.Rules.{rules}
+use Rattle.model.specs.State.{start_sender, message_from}
+use Rattle.tables.specs.Tables.{firsts_in}
+use Rattle.memory.specs.Queues.{BringsOnly}
+use Rattle.memory.proofs.Pairing.{map-set}
+use Rattle.memory.proofs.Waiting.{brings-set}
+use Rattle.memory.proofs.Filled.{Queued, queued_none, queued_one, queued_empty, queued_all}
+use Rattle.memory.proofs.queues.fill_queues.Goals as goal
+
+pub loop-n-init : goal.loop-n-init
+loop-n-init c = (queued_none _ _ _ (length-map c.args.queue.now (message_from start_sender) ∙ c.requires.0) c.requires.1, λ test own all. all)
+
+pub loop-n-preserved : goal.loop-n-preserved
+loop-n-preserved c = ⊎_elim
+    (λ w.
+    let first = rw w.1.given.1 at c.first_message-first.ensures in
+    rw (w.3, w.4, map-set start_sender c.loop-n.queue (c.loop-n.n * 16) w.1.given.0.0) (
+      queued_one c.loop-n.invariant.0 _ (omega arith) (ap (map (message_from start_sender)) first),
+      brings-set (λ k. message_from start_sender (get_or (firsts_in c.args.tables.now k) 0 0)) (map (message_from start_sender) c.args.queue.now)
+          (map (message_from start_sender) c.loop-n.queue) _ _ c.loop-n.n (ap (λ (m : List ℕ). message_from start_sender (get_or m 0 0)) first) c.loop-n.invariant.1,
+    ))
+    (λ w. rw (w.2, w.3) (queued_empty c.loop-n.invariant.0 (omega arith) (ap (map (message_from start_sender)) (rw w.1.given.1 at c.first_message-first.ensures)), c.loop-n.invariant.1))
+    c.match-first.branch
+
+pub returns : goal.returns
+returns c = record {
+      queues = queued_all c.loop-n.invariant.0 (omega arith);
+      slots = c.loop-n.invariant.1;
+      size = sym (length-map c.loop-n.queue (message_from start_sender)) ∙ c.loop-n.invariant.0.places;
+    }

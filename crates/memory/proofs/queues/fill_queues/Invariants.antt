@@ -1,0 +1,22 @@
+use Prim.Native.Nat.{ℕ, ◌*◌, ◌-◌}
+use mathlib.Core.Path.{sym, ap, ◌∙◌}
+use mathlib.Core.List.{List, map}
+use mathlib.Core.Logic.{⊎_elim}
+use native.Mathlib.Omega.{arith}
+use lib.ListN.{get_or, length-map}
+use borrow.Author.Rules.{rules}
+use Rattle.model.specs.State.{start_sender, message_from}
+use Rattle.tables.specs.Tables.{firsts_in}
+use Rattle.memory.specs.Queues.{BringsOnly}
+use Rattle.memory.proofs.Pairing.{map-set}
+use Rattle.memory.proofs.Waiting.{brings-set}
+use Rattle.memory.proofs.Filled.{Queued, queued_none, queued_one, queued_empty, queued_all}
+use Rattle.memory.proofs.queues.fill_queues.Given as goal
+
+abbrev pub invariant-loop-n : goal.invariant-loop-n
+invariant-loop-n l = Queued (λ k. map (message_from start_sender) (firsts_in l.tables k)) l.n l.waiting (map (message_from start_sender) l.queue)
+    × BringsOnly (λ k. message_from start_sender (get_or (firsts_in l.tables k) 0 0)) (map (message_from start_sender) l.initial.queue)
+    (map (message_from start_sender) l.queue)
+
+abbrev pub decreases-loop-n : goal.decreases-loop-n
+decreases-loop-n l = 32 - l.n

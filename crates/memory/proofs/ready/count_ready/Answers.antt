@@ -1,0 +1,24 @@
+use Prim.Native.Nat.{◌-◌, ◌≤◌}
+use mathlib.Core.Path.{◌≡◌, sym, ◌∙◌}
+use mathlib.Core.Logic.{⊎_elim}
+use native.Mathlib.Omega.{arith}
+use borrow.Author.Rules.{rules}
+use Rattle.model.proofs.Counting.{count_nothing, count-passes, count-fails, count_most}
+use Rattle.memory.specs.Ready.{ready_in, ready_count_in}
+use Rattle.memory.proofs.ready.count_ready.Goals as goal
+
+pub loop-n-init : goal.loop-n-init
+loop-n-init c = (omega arith, sym (count_nothing _))
+
+pub overflow_add-count : goal.overflow_add-count
+overflow_add-count c = omega (arith, count_most (ready_in c.args.position.now c.args.waiting.now) c.loop-n.n, c.loop-n.invariant.1)
+
+pub loop-n-preserved : goal.loop-n-preserved
+loop-n-preserved c = let test = ready_in c.args.position.now c.args.waiting.now in
+    ⊎_elim (λ w. (omega arith, rw w.1 (count-passes test c.loop-n.n c.loop-n.count c.loop-n.invariant.1 (sym c.is_ready.ensures ∙ w.0.taken))))
+    (λ w. (omega arith, rw w.1 (count-fails test c.loop-n.n c.loop-n.count c.loop-n.invariant.1 (sym c.is_ready.ensures ∙ w.0.left))))
+    c.if-is_ready.branch
+
+pub returns : goal.returns
+returns c = let e : c.loop-n.n ≡ c.args.nodes = omega (arith, c.loop-n.invariant.0, c.loop-n-test.false) in
+    rw (← e) c.loop-n.invariant.1

@@ -1,0 +1,12 @@
+use Prim.Native.Nat.{◌<◌}
+use mathlib.Core.Logic.{⊎_elim}
+use native.Mathlib.Omega.{arith}
+use borrow.Author.Rules.{rules}
+use Rattle.memory.proofs.Readying.{Waking, waking_none, waking_inside, waking_one, waking_other, waking_all}
+use Rattle.memory.proofs.ready.woken.Given as goal
+
+abbrev pub invariant-loop-targets : goal.invariant-loop-targets
+invariant-loop-targets l = Waking l.initial.targets l.position l.waiting l.target l.targets l.count
+
+abbrev pub decreases-loop-targets : goal.decreases-loop-targets
+decreases-loop-targets l = l.targets

@@ -1,0 +1,6 @@
+use mathlib.Core.Path.{◌∙◌}
+use borrow.Author.Rules.{rules}
+use Rattle.notes.proofs.commands.note_body.Goals as goal
+
+pub returns : goal.returns
+returns c = c.put-2.ensures ∙ rw c.put.ensures

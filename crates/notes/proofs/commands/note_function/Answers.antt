@@ -1,0 +1,6 @@
+use mathlib.Core.Path.{◌∙◌}
+use borrow.Author.Rules.{rules}
+use Rattle.notes.proofs.commands.note_function.Goals as goal
+
+pub returns : goal.returns
+returns c = c.put.ensures ∙ rw c.count_of-functions.ensures

@@ -1,0 +1,7 @@
+use mathlib.Core.Path.{◌∙◌}
+use borrow.Author.Rules.{rules}
+use Rattle.notes.proofs.commands.note_node.Goals as goal
+
+pub returns : goal.returns
+returns c = c.put.ensures
+    ∙ rw (c.one_less.ensures, c.count_of-nodes.ensures, c.count_of-flows.ensures)

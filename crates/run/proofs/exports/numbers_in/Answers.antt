@@ -1,0 +1,8 @@
+use borrow.Author.Rules.{rules}
+use Rattle.run.proofs.exports.numbers_in.Goals as goal
+
+pub returns-in-Refused : goal.returns-in-Refused
+returns-in-Refused c = rw c.in-Refused.is
+
+pub returns-in-Ended : goal.returns-in-Ended
+returns-in-Ended c = rw c.in-Ended.is

@@ -1,0 +1,36 @@
+use borrow.Author.Rules.{rules}
+use Rattle.job.proofs.Judged.{is-accepted, is-refused}
+use Rattle.run.specs.Answers.{buffers}
+use Rattle.run.proofs.Delivering.{reports_refused, reports_ran}
+use Rattle.run.proofs.run.Goals as goal
+
+pub run_accepted-made-requires : goal.run_accepted-made-requires
+run_accepted-made-requires c = let a = is-accepted _ _ _ c.judge-verdict.ensures.judged
+    c.in-Accepted.is in
+    record { past = a.past; decoded = a.decoded; stands = a.stands }
+
+pub returns-in-Refused : goal.returns-in-Refused
+returns-in-Refused c = let d = reports_refused c.args.schedule c.args.monitored c.args.job.now (buffers c.args.trace.now c.args.snapshot.now c.args.work.now) _
+    (is-refused _ _ _ _ c.judge-verdict.ensures.judged c.in-Refused.is) in
+    let l = d.delivers.left in
+    record {
+      told = d.delivers.told;
+      examined = d.examined;
+      trace = l.trace;
+      snapshot = l.snapshot;
+      work = l.work;
+    }
+
+pub returns-in-Accepted : goal.returns-in-Accepted
+returns-in-Accepted c = let a = is-accepted _ _ _ c.judge-verdict.ensures.judged c.in-Accepted.is in
+    let d = reports_ran c.args.schedule c.args.monitored c.args.job.now (buffers c.args.trace.now c.args.snapshot.now c.args.work.now)
+    (buffers _ _ _) _
+    a.past a.decoded c.run_accepted-made.ensures in
+    let l = d.delivers.left in
+    record {
+      told = d.delivers.told;
+      examined = d.examined;
+      trace = l.trace;
+      snapshot = l.snapshot;
+      work = l.work;
+    }

@@ -1,0 +1,19 @@
+use Prim.Native.Nat.{◌-◌, ◌^◌, ◌≤◌, ◌<◌}
+use mathlib.Core.Path.{◌≡◌}
+use mathlib.Core.List.{[]}
+use native.Mathlib.Omega.{arith}
+use lib.ListN.{length}
+use borrow.Author.Rules.{rules}
+use Rattle.model.specs.Tally.{reaches, takes, received, taken}
+use Rattle.tables.specs.Programs.{Handlers, program_in}
+use Rattle.output.specs.Finding.{entry_from}
+use Rattle.tally.specs.Counted.{Numbered}
+use Rattle.tally.proofs.Adding.{counts-first, counts-next, counts-room}
+use Rattle.tally.proofs.counting.count_entries.Given as goal
+
+abbrev pub invariant-loop-k : goal.invariant-loop-k
+invariant-loop-k l = ((hs : Handlers) → Numbered (received (program_in l.tables hs) (entry_from l.trace) l.k) l.arrivals) × Numbered (taken (entry_from l.trace) l.k) l.takings
+    × (l.k ≤ l.turns)
+
+abbrev pub decreases-loop-k : goal.decreases-loop-k
+decreases-loop-k l = l.turns - l.k

@@ -1,0 +1,21 @@
+use Prim.Native.Nat.{ℕ, ◌+◌, ◌-◌, ◌*◌, ◌≤◌}
+use mathlib.Core.Path.{◌≡◌, refl, sym, ap, ◌∙◌}
+use mathlib.Core.List.{List, []}
+use native.Mathlib.Omega.{arith}
+use lib.ListN.{length}
+use borrow.Author.Rules.{rules}
+use Rattle.writing.specs.Writing.{Writes, joined}
+use Rattle.writing.proofs.Putting.{Put, none-put, room, one-put, all-put}
+use Rattle.tables.specs.Programs.{Handlers, program_in}
+use Rattle.output.specs.Finding.{waiting_in, part_at}
+use Rattle.output.proofs.Finding.{part_first}
+use Rattle.tally.specs.Counted.{tally_by}
+use Rattle.tally.proofs.Fours.{length_fours}
+use Rattle.tally.proofs.nodes.put_nodes.Given as goal
+
+abbrev pub invariant-loop-n : goal.invariant-loop-n
+invariant-loop-n l = (l.n ≤ l.nodes) × (l.place ≡ part_at l.snapshot l.n) × (l.place ≤ 1285 * l.n)
+    × ((hs : Handlers) → Put (tally_by (program_in l.tables hs) l.arrivals l.takings l.snapshot) l.initial.counts 0 l.n l.counts l.at)
+
+abbrev pub decreases-loop-n : goal.decreases-loop-n
+decreases-loop-n l = l.nodes - l.n

@@ -1,0 +1,23 @@
+use borrow.Author.Rules.{rules}
+use Rattle.run.specs.Answers.{buffers, call, Monitored, Unmonitored}
+use Rattle.transparency.proofs.Claims.{transparency}
+use Rattle.transparency.proofs.run_both.Goals as goal
+
+pub returns : goal.returns
+returns c = let m = call (buffers c.args.trace.now c.args.snapshot.now c.args.work.now) (buffers _ _ _) _ in
+    let u = call (buffers c.args.unmonitored-trace.now c.args.unmonitored-snapshot.now c.args.unmonitored-work.now) (buffers _ _ _) _ in
+    let gm : Monitored c.args.job.now m = record {
+      told = c.run_monitored-monitored.ensures.0;
+      left = record
+          { trace = c.run_monitored-monitored.ensures.1.0; snapshot = c.run_monitored-monitored.ensures.1.1.0; work = c.run_monitored-monitored.ensures.1.1.1 };
+    } in
+    let gu : Unmonitored c.args.job.now u = record {
+      told = c.run_unmonitored-unmonitored.ensures.0;
+      left = record
+          { trace = c.run_unmonitored-unmonitored.ensures.1.0; snapshot = c.run_unmonitored-unmonitored.ensures.1.1.0; work = c.run_unmonitored-unmonitored.ensures.1.1.1 };
+    } in
+    record {
+      monitored = gm;
+      unmonitored = gu;
+      compared = transparency c.args.job.now m u gm gu;
+    }
