@@ -40,15 +40,12 @@ module _ (t : List ℕ) (hs : Handlers) (s : State) (n : ℕ) (x : VarNum) where
       (is_shared (program_in t hs) x.0) (entry n 4 x.0 (accumulator_at s n)) (entry n 0 0 0)
   write-left a h = rw (← h, shared_by t hs x.0) (accessed (shared_in t x.0) 4 (accumulator_at s n) (e.Write x (accumulator_at s n)) refl)
 
--- the commands that leave kind 0, the events that need no permission, and those that a stop shows as they are
+-- the commands that leave kind 0, and the events that need no permission
 abbrev pub plain : List ℕ
 plain = 0 ∷ 1 ∷ 4 ∷ 6 ∷ 7 ∷ 10 ∷ []
 
 abbrev pub free : List ℕ
 free = 0 ∷ 1 ∷ 2 ∷ 6 ∷ []
-
-abbrev pub shown : List ℕ
-shown = 0 ∷ 1 ∷ 2 ∷ 4 ∷ 5 ∷ 6 ∷ []
 
 pub plain-left : (P : Program) (s : State) (n : ℕ) (k : Instruction) → OneOf plain (tag_of command k)
     → entry n 0 0 0 ≡ entry_of P s n (instruction_of k)
@@ -73,11 +70,11 @@ free-permitted P n (e.Write x v) h = absurd (one_of free 4 h)
 free-permitted P n (e.Call f v) h = absurd (one_of free 5 h)
 free-permitted P n (e.Send port v) h = refl
 
-pub shown-same : (n : ℕ) (x : Event) → OneOf shown (tag_of event x) → entry_for n x ≡ redacted (entry_for n x)
+pub shown-same : (n : ℕ) (x : Event) → ((y : VarNum) (v : ℕ) → ¬ (x ≡ e.Read y v)) → entry_for n x ≡ redacted (entry_for n x)
 shown-same n e.Other h = refl
 shown-same n (e.Begin sender v) h = refl
 shown-same n e.Finish h = refl
-shown-same n (e.Read x v) h = absurd (one_of shown 3 h)
+shown-same n (e.Read x v) h = absurd (h x v refl)
 shown-same n (e.Write x v) h = refl
 shown-same n (e.Call f v) h = refl
 shown-same n (e.Send port v) h = refl

@@ -12,29 +12,26 @@ use Rattle.memory.specs.Changes.{slots_after, counts_after, variables_after}
 use Rattle.memory.specs.Ready.{woken_by}
 use Rattle.memory.specs.contracts.Change.{the_type}
 
--- the changes that no message takes part in, those that send none, and those that do not store
-abbrev silent : List ℕ
-silent = 0 ∷ 3 ∷ []
-
+-- the changes that send no message, and those that do not store
 abbrev sendless : List ℕ
 sendless = 0 ∷ 1 ∷ 3 ∷ []
 
 abbrev storeless : List ℕ
 storeless = 0 ∷ 1 ∷ 2 ∷ []
 
-pub slots-left : (wired : ℕ → ℕ → Bool) (n x : ℕ) (ws slots : List ℕ) (y : Change) → OneOf silent (tag_of the_type y)
+pub slots-left : (wired : ℕ → ℕ → Bool) (n x : ℕ) (ws slots : List ℕ) (y : Change) → ¬ (y ≡ k.Take) → ((port : ℕ) → ¬ (y ≡ k.Send port))
     → slots ≡ slots_after wired n x ws slots y
-slots-left wired n x ws slots k.Nothing h = refl
-slots-left wired n x ws slots k.Take h = absurd (one_of silent 1 h)
-slots-left wired n x ws slots (k.Send port) h = absurd (one_of silent 2 h)
-slots-left wired n x ws slots (k.Store y) h = refl
+slots-left wired n x ws slots k.Nothing t s = refl
+slots-left wired n x ws slots k.Take t s = absurd (t refl)
+slots-left wired n x ws slots (k.Send port) t s = absurd (s port refl)
+slots-left wired n x ws slots (k.Store y) t s = refl
 
-pub counts-left : (wired : ℕ → ℕ → Bool) (n : ℕ) (ws : List ℕ) (y : Change) → OneOf silent (tag_of the_type y)
+pub counts-left : (wired : ℕ → ℕ → Bool) (n : ℕ) (ws : List ℕ) (y : Change) → ¬ (y ≡ k.Take) → ((port : ℕ) → ¬ (y ≡ k.Send port))
     → ws ≡ counts_after wired n ws y
-counts-left wired n ws k.Nothing h = refl
-counts-left wired n ws k.Take h = absurd (one_of silent 1 h)
-counts-left wired n ws (k.Send port) h = absurd (one_of silent 2 h)
-counts-left wired n ws (k.Store y) h = refl
+counts-left wired n ws k.Nothing t s = refl
+counts-left wired n ws k.Take t s = absurd (t refl)
+counts-left wired n ws (k.Send port) t s = absurd (s port refl)
+counts-left wired n ws (k.Store y) t s = refl
 
 pub woken_none : (wired : ℕ → ℕ → Bool) (position ws : List ℕ) (y : Change) → OneOf sendless (tag_of the_type y)
     → woken_by wired position ws y ≡ 0

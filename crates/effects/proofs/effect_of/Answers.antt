@@ -28,12 +28,12 @@ returns-in-Put c = rw c.in-Put.is (nexts _ _ _ _ _ _ c.continue_at-in-Put.ensure
 pub returns-in-Add : goal.returns-in-Add
 returns-in-Add c = rw c.in-Add.is
     (adds _ c.args.own _ _ _ c.continue_at-in-Add.ensures _
-    c.wrapping_add_u32.ensures)
+    c.wrapping_add_u32.ensures.value)
 
 pub returns-in-Plus : goal.returns-in-Plus
 returns-in-Plus c = rw c.in-Plus.is
     (pluses _ c.args.own _ _ _ c.continue_at-in-Plus.ensures _ _
-    c.variable_at-value.ensures c.wrapping_add_u32-in-Plus.ensures)
+    c.variable_at-value.ensures c.wrapping_add_u32-in-Plus.ensures.value)
 
 pub returns-else-a-eq0 : goal.returns-else-a-eq0
 returns-else-a-eq0 c = rw c.in-JumpZero.is

@@ -1,3 +1,4 @@
+use borrow.Enum.Refused.{opened}
 use mathlib.Core.Path.{◌∙◌, ap}
 use borrow.Author.Rules.{rules}
 use Rattle.tables.specs.Programs.{program_in}
@@ -28,4 +29,4 @@ returns-in-Call c hs s n a v = rw (c.in-Call.is, a)
 
 pub returns-in_default : goal.returns-in_default
 returns-in_default c hs s n a v = plain-left (program_in c.args.tables.now hs) s n
-    c.args.instruction c.in_default.in_default-own.keys6
+    c.args.instruction (opened c.in_default.in_default-own.keys6)

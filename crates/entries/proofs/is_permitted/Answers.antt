@@ -1,3 +1,4 @@
+use borrow.Enum.Refused.{opened}
 use mathlib.Core.Path.{◌∙◌, sym}
 use borrow.Author.Rules.{rules}
 use Rattle.tables.specs.Programs.{program_in}
@@ -18,4 +19,4 @@ returns-in-Call c hs = rw c.in-Call.is (c.may_call.ensures
     ∙ sym (call_by c.args.tables.now hs _ _ _))
 
 pub returns-in_default : goal.returns-in_default
-returns-in_default c hs = free-permitted (program_in c.args.tables.now hs) _ c.args.event c.in_default.in_default-own.keys4
+returns-in_default c hs = free-permitted (program_in c.args.tables.now hs) _ c.args.event (opened c.in_default.in_default-own.keys4)

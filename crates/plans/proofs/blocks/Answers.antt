@@ -1,3 +1,4 @@
+use borrow.Enum.Refused.{opened}
 use mathlib.Core.Path.{◌∙◌}
 use borrow.Author.Rules.{rules}
 use Rattle.tables.specs.Programs.{program_in}
@@ -11,4 +12,4 @@ returns-in-Send c hs s h = rw c.in-Send.is
 
 pub returns-in_default : goal.returns-in_default
 returns-in_default c hs s h = silent-goes (program_in c.args.tables.now hs) s _ c.args.instruction
-    c.in_default.keys2
+    (opened c.in_default.in_default-own.keys2)

@@ -17,19 +17,19 @@ use borrow.Author.Rules.{rules}
 use Rattle.printing.proofs.run_to_text.Goals as goal
 
 pub returns-then-not-has_room : goal.returns-then-not-has_room
-returns-then-not-has_room c = let full = sym c.has_room.ensures ∙ not-true _ c.if-not-has_room.true in
+returns-then-not-has_room c = let full = sym c.has_room.ensures ∙ c.if-not-has_room.true in
     (omega arith, rw full (refl, (refl, (refl, (refl, refl)))))
 
 pub put_refusal-next-requires : goal.put_refusal-next-requires
-put_refusal-next-requires c = let room = sym c.has_room.ensures ∙ not-false _ c.if-not-has_room.false in
+put_refusal-next-requires c = let room = sym c.has_room.ensures ∙ c.if-not-has_room.false in
     let large = leb-true (c.args.at + text_size) (length c.args.text.now) room in
     omega (arith, large, refused-short c.in-Refused.refusal.number c.in-Refused.refusal.place)
 
 pub put_ended-end-requires : goal.put_ended-end-requires
 put_ended-end-requires c = let before = buffers c.args.trace.now c.args.snapshot.now c.args.work.now in
     let h = handed_for c.args.schedule c.args.monitored c.args.job.now (sizes_of before) in
-    let d = delivers_by h.result before (buffers _ _ _) c.run-handed.result.answer c.run-handed.ensures.0 c.run-handed.ensures.1.1.0 c.run-handed.ensures.1.1.1.0 c.run-handed.ensures.1.1.1.1 in
-    let room = sym c.has_room.ensures ∙ not-false _ c.if-not-has_room.false in
+    let d = delivers_by h.result before (buffers _ _ _) c.run-handed.result.answer c.run-handed.ensures.told c.run-handed.ensures.trace c.run-handed.ensures.snapshot c.run-handed.ensures.work in
+    let room = sym c.has_room.ensures ∙ c.if-not-has_room.false in
     let large = leb-true (c.args.at + text_size) (length c.args.text.now) room in
     let e = ended_as c.args.schedule c.args.monitored c.args.job.now before _ _ _ d c.answer-in-Ended-1.given.1 in
     let short = lines-short _ _ _ _ _ _ e (λ i. omega (
@@ -49,8 +49,8 @@ put_ended-end-requires c = let before = buffers c.args.trace.now c.args.snapshot
 pub put_total-next-requires : goal.put_total-next-requires
 put_total-next-requires c = let before = buffers c.args.trace.now c.args.snapshot.now c.args.work.now in
     let h = handed_for c.args.schedule c.args.monitored c.args.job.now (sizes_of before) in
-    let d = delivers_by h.result before (buffers _ _ _) c.run-handed.result.answer c.run-handed.ensures.0 c.run-handed.ensures.1.1.0 c.run-handed.ensures.1.1.1.0 c.run-handed.ensures.1.1.1.1 in
-    let room = sym c.has_room.ensures ∙ not-false _ c.if-not-has_room.false in
+    let d = delivers_by h.result before (buffers _ _ _) c.run-handed.result.answer c.run-handed.ensures.told c.run-handed.ensures.trace c.run-handed.ensures.snapshot c.run-handed.ensures.work in
+    let room = sym c.has_room.ensures ∙ c.if-not-has_room.false in
     let large = leb-true (c.args.at + text_size) (length c.args.text.now) room in
     let e = ended_as c.args.schedule c.args.monitored c.args.job.now before _ _ _ d c.answer-in-Ended-1.given.1 in
     let short = lines-short _ _ _ _ _ _ e (λ i. omega (
@@ -72,8 +72,8 @@ put_total-next-requires c = let before = buffers c.args.trace.now c.args.snapsho
 pub returns-in-Refused : goal.returns-in-Refused
 returns-in-Refused c = let before = buffers c.args.trace.now c.args.snapshot.now c.args.work.now in
     let h = handed_for c.args.schedule c.args.monitored c.args.job.now (sizes_of before) in
-    let d = delivers_by h.result before (buffers _ _ _) c.run-handed.result.answer c.run-handed.ensures.0 c.run-handed.ensures.1.1.0 c.run-handed.ensures.1.1.1.0 c.run-handed.ensures.1.1.1.1 in
-    let room = sym c.has_room.ensures ∙ not-false _ c.if-not-has_room.false in
+    let d = delivers_by h.result before (buffers _ _ _) c.run-handed.result.answer c.run-handed.ensures.told c.run-handed.ensures.trace c.run-handed.ensures.snapshot c.run-handed.ensures.work in
+    let room = sym c.has_room.ensures ∙ c.if-not-has_room.false in
     let same = refused-same c.args.schedule c.args.job.now h (refusal_of c.answer-1.given.0.0) (refused-result _ _ _ _ _ d c.answer-1.given.1) in
     let puts = rw same at c.put_refusal-next.ensures in
     let run = rw c.answer-1.given.1 at d in (
@@ -84,8 +84,8 @@ returns-in-Refused c = let before = buffers c.args.trace.now c.args.snapshot.now
 pub returns-in-Ended : goal.returns-in-Ended
 returns-in-Ended c = let before = buffers c.args.trace.now c.args.snapshot.now c.args.work.now in
     let h = handed_for c.args.schedule c.args.monitored c.args.job.now (sizes_of before) in
-    let d = delivers_by h.result before (buffers _ _ _) c.run-handed.result.answer c.run-handed.ensures.0 c.run-handed.ensures.1.1.0 c.run-handed.ensures.1.1.1.0 c.run-handed.ensures.1.1.1.1 in
-    let room = sym c.has_room.ensures ∙ not-false _ c.if-not-has_room.false in
+    let d = delivers_by h.result before (buffers _ _ _) c.run-handed.result.answer c.run-handed.ensures.told c.run-handed.ensures.trace c.run-handed.ensures.snapshot c.run-handed.ensures.work in
+    let room = sym c.has_room.ensures ∙ c.if-not-has_room.false in
     let large = leb-true (c.args.at + text_size) (length c.args.text.now) room in
     let e = ended_as c.args.schedule c.args.monitored c.args.job.now before _ _ _ d c.answer-in-Ended-1.given.1 in
     let short = lines-short _ _ _ _ _ _ e (λ i. omega (
@@ -97,7 +97,7 @@ returns-in-Ended c = let before = buffers c.args.trace.now c.args.snapshot.now c
     )) in
     let more = total-short c.args.schedule c.run-handed.result.examined in
     let both = writes-on _ _ _ _ _ _ _ _ (omega (arith, large, short, more)) c.put_ended-end.ensures c.put_total-next.ensures in
-    let puts = rw (lines_same _ _ _ _ _ _ e c.run-handed.result.examined c.run-handed.ensures.1.0) at both in
+    let puts = rw (lines_same _ _ _ _ _ _ e c.run-handed.result.examined c.run-handed.ensures.examined) at both in
     let run = rw c.answer-in-Ended-1.given.1 at d in (
       omega (arith, c.put_ended-end.ensures.place, c.put_total-next.ensures.place, short, more),
       put_as _ c.args.schedule c.args.job.now _ _ _ _ h before _ (a.Ended c.answer-in-Ended-1.given.0.0) room puts run,

@@ -14,7 +14,7 @@ count_entries-requires c = record {
 pub put_nodes-requires : goal.put_nodes-requires
 put_nodes-requires c = record {
       nodes_le_max_nodes = (c.requires, search (rules, arith, c.put_nodes-arg-1.given));
-      arrivals_len = ((c.count_entries.ensures.0 (λ n. [])).size, c.count_entries.ensures.1.size);
+      arrivals_len = ((c.count_entries.ensures.received (λ n. [])).size, c.count_entries.ensures.taken.size);
     }
 
 pub returns : goal.returns

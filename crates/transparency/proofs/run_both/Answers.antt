@@ -7,14 +7,14 @@ pub returns : goal.returns
 returns c = let m = call (buffers c.args.trace.now c.args.snapshot.now c.args.work.now) (buffers _ _ _) _ in
     let u = call (buffers c.args.unmonitored-trace.now c.args.unmonitored-snapshot.now c.args.unmonitored-work.now) (buffers _ _ _) _ in
     let gm : Monitored c.args.job.now m = record {
-      told = c.run_monitored-monitored.ensures.0;
+      told = c.run_monitored-monitored.ensures.told;
       left = record
-          { trace = c.run_monitored-monitored.ensures.1.0; snapshot = c.run_monitored-monitored.ensures.1.1.0; work = c.run_monitored-monitored.ensures.1.1.1 };
+          { trace = c.run_monitored-monitored.ensures.trace; snapshot = c.run_monitored-monitored.ensures.snapshot; work = c.run_monitored-monitored.ensures.work };
     } in
     let gu : Unmonitored c.args.job.now u = record {
-      told = c.run_unmonitored-unmonitored.ensures.0;
+      told = c.run_unmonitored-unmonitored.ensures.told;
       left = record
-          { trace = c.run_unmonitored-unmonitored.ensures.1.0; snapshot = c.run_unmonitored-unmonitored.ensures.1.1.0; work = c.run_unmonitored-unmonitored.ensures.1.1.1 };
+          { trace = c.run_unmonitored-unmonitored.ensures.trace; snapshot = c.run_unmonitored-unmonitored.ensures.snapshot; work = c.run_unmonitored-unmonitored.ensures.work };
     } in
     record {
       monitored = gm;

@@ -1,6 +1,7 @@
 use mathlib.Core.Path.{sym}
 use borrow.Author.Rules.{rules}
 use Rattle.violations.proofs.Judging.{names_none}
+use Rattle.violations.specs.Tests.{counts_as}
 use Rattle.violations.proofs.names_nothing.Goals as goal
 
 pub returns-in-1 : goal.returns-in-1
@@ -25,5 +26,5 @@ pub returns-in-7 : goal.returns-in-7
 returns-in-7 c = rw c.in-7.is
 
 pub returns-in_default : goal.returns-in_default
-returns-in_default c = sym (names_none _ _ _ _ c.in_default.in_default-own.rest.0.0.0.0.0.0.1 c.in_default.in_default-own.rest.0.0.0.0.0.1 c.in_default.in_default-own.rest.0.0.0.0.1
+returns-in_default c = sym (names_none (counts_as c.args.d) c.args.scope c.args.kind c.args.x c.in_default.in_default-own.rest.0.0.0.0.0.0.1 c.in_default.in_default-own.rest.0.0.0.0.0.1 c.in_default.in_default-own.rest.0.0.0.0.1
     c.in_default.in_default-own.rest.0.0.0.1 c.in_default.in_default-own.rest.0.0.1 c.in_default.in_default-own.rest.0.1 c.in_default.in_default-own.rest.1)

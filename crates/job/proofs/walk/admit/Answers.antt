@@ -8,17 +8,17 @@ use Rattle.job.proofs.walk.admit.Goals as goal
 
 pub returns-then-number-ne0 : goal.returns-then-number-ne0
 returns-then-number-ne0 c = λ past stands uses valid short.
-    let plain = read_plain _ _ c.requires.0.0 past c.args.c _ c.requires.1.0 in
-    step-refused _ _ c.requires.0.0 past c.args.c _ c.requires.1.0 _ (c.violation_of-number.ensures past stands plain)
+    let plain = read_plain _ _ c.requires.at_in_bounds.0 past c.args.c _ c.requires.at_value.0 in
+    step-refused _ _ c.requires.at_in_bounds.0 past c.args.c _ c.requires.at_value.0 _ (c.violation_of-number.ensures past stands plain)
     c.if-number-ne0.true
 
 pub returns : goal.returns
 returns c = λ past stands uses valid short.
-    let plain = read_plain _ _ c.requires.0.0 past c.args.c _ c.requires.1.0 in
-    let more = step-valid _ _ c.requires.0.0 past c.args.c _ c.requires.1.0 _ (c.violation_of-number.ensures past stands plain)
+    let plain = read_plain _ _ c.requires.at_in_bounds.0 past c.args.c _ c.requires.at_value.0 in
+    let more = step-valid _ _ c.requires.at_in_bounds.0 past c.args.c _ c.requires.at_value.0 _ (c.violation_of-number.ensures past stands plain)
     c.if-number-ne0.false valid in
-    step-on _ _ c.requires.0.0 past c.args.c _ c.requires.1.0 _ _
-    (c.note.ensures past c.requires.1.1.group stands more (omega (arith, c.requires.0.0, c.requires.0.1, short)))
+    step-on _ _ c.requires.at_in_bounds.0 past c.args.c _ c.requires.at_value.0 _ _
+    (c.note.ensures past c.requires.at_value.1.group stands more (omega (arith, c.requires.at_in_bounds.0, c.requires.at_in_bounds.1, short)))
     (uses-noted _ past (command_of c.args.c) uses more _ _ (c.open_node-opened.ensures ∙ stands.opened)
     c.note_use.ensures)
     more

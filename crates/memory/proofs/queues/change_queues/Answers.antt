@@ -15,13 +15,13 @@ deliver-requires c = record {
     }
 
 pub returns-in-Take : goal.returns-in-Take
-returns-in-Take c = rw c.in-Take.is (c.shift.ensures, refl)
+returns-in-Take c = rw c.in-Take.is (record { slots = c.shift.ensures; counts = refl })
 
 pub returns-in-Send : goal.returns-in-Send
-returns-in-Send c = rw c.in-Send.is (c.deliver.ensures.slots, c.deliver.ensures.counts)
+returns-in-Send c = rw c.in-Send.is (record { slots = c.deliver.ensures.slots; counts = c.deliver.ensures.counts })
 
 pub returns-in_default : goal.returns-in_default
 returns-in_default c = record {
-      slots = slots-left _ _ _ _ _ c.args.change c.in_default.keys3;
-      counts = counts-left _ _ _ c.args.change c.in_default.keys3;
+      slots = slots-left _ _ _ _ _ c.args.change c.in_default.not-Take c.in_default.not-Send;
+      counts = counts-left _ _ _ c.args.change c.in_default.not-Take c.in_default.not-Send;
     }

@@ -11,13 +11,7 @@ use Rattle.memory.proofs.Sending.{ahead-one, ahead-other, ahead_none, counted_ta
 use Rattle.memory.proofs.Sending.{counted-all, Storing, storing_none, storing_room, storing_counted, storing_target, storing_other}
 use Rattle.memory.proofs.Sending.{storing_all}
 use Rattle.memory.proofs.queues.deliver.Goals as goal
-
--- at a target: its number, and how many messages wait there
-here : (c : lts.After-w (targets-of-reads.Asked, targets-of-reads.Learnt) reads.Pre reads.Post invariant-loop decreases-loop)
-    → (c.before.before.before.loop.target < 32) × (get_or c.before.before.before.loop.waiting c.before.before.before.loop.target 0 < 16)
-here c =
-    let l = c.before.before.before.loop in
-    storing_counted l.invariant.0 (omega (arith, c.before.before.loop-test.true)) c.before.if1.true l.waiting l.invariant.1
+use Rattle.memory.proofs.queues.deliver.Goals.{then-targets-eq1, else-targets-eq1}
 
 pub loop-targets-init : goal.loop-targets-init
 unfolding counted
@@ -32,25 +26,32 @@ bounds-waiting-target c = let h = storing_room c.loop-targets.invariant.0 (omega
     search rules
 
 pub overflow_mul-at : goal.overflow_mul-at
-overflow_mul-at c = let h = here c in omega (arith, h.0, h.1)
+overflow_mul-at c = let h = storing_counted c.loop-targets.invariant.0 (omega (arith, c.loop-targets-test.true)) c.if-targets-eq1.true c.loop-targets.waiting c.loop-targets.invariant.1 in
+    omega (arith, h.0, h.1)
 
 pub overflow_cast-at : goal.overflow_cast-at
-overflow_cast-at c = let h = here c in omega (arith, h.0, h.1)
+overflow_cast-at c = let h = storing_counted c.loop-targets.invariant.0 (omega (arith, c.loop-targets-test.true)) c.if-targets-eq1.true c.loop-targets.waiting c.loop-targets.invariant.1 in
+    omega (arith, h.0, h.1)
 
 pub overflow_add-at : goal.overflow_add-at
-overflow_add-at c = let h = here c in omega (arith, h.0, h.1)
+overflow_add-at c = let h = storing_counted c.loop-targets.invariant.0 (omega (arith, c.loop-targets-test.true)) c.if-targets-eq1.true c.loop-targets.waiting c.loop-targets.invariant.1 in
+    omega (arith, h.0, h.1)
 
 pub offset_bounds-queue-at : goal.offset_bounds-queue-at
-offset_bounds-queue-at c = let h = here c in omega (arith, h.0, h.1)
+offset_bounds-queue-at c = let h = storing_counted c.loop-targets.invariant.0 (omega (arith, c.loop-targets-test.true)) c.if-targets-eq1.true c.loop-targets.waiting c.loop-targets.invariant.1 in
+    omega (arith, h.0, h.1)
 
 pub bounds-queue-at : goal.bounds-queue-at
-bounds-queue-at c = let h = here c in omega (arith, h.0, h.1)
+bounds-queue-at c = let h = storing_counted c.loop-targets.invariant.0 (omega (arith, c.loop-targets-test.true)) c.if-targets-eq1.true c.loop-targets.waiting c.loop-targets.invariant.1 in
+    omega (arith, h.0, h.1)
 
 pub overflow_add-waiting : goal.overflow_add-waiting
-overflow_add-waiting c = let h = here c in omega (arith, h.0, h.1)
+overflow_add-waiting c = let h = storing_counted c.loop-targets.invariant.0 (omega (arith, c.loop-targets-test.true)) c.if-targets-eq1.true c.loop-targets.waiting c.loop-targets.invariant.1 in
+    omega (arith, h.0, h.1)
 
 pub bounds-waiting-target-then-targets-eq1 : goal.bounds-waiting-target-then-targets-eq1
-bounds-waiting-target-then-targets-eq1 c = let h = here c in search rules
+bounds-waiting-target-then-targets-eq1 c = let h = storing_counted c.loop-targets.invariant.0 (omega (arith, c.loop-targets-test.true)) c.if-targets-eq1.true c.loop-targets.waiting c.loop-targets.invariant.1 in
+    search rules
 
 pub overflow_add-target : goal.overflow_add-target
 overflow_add-target c = omega (arith, c.loop-targets.invariant.0.ahead.inside)
@@ -59,14 +60,14 @@ pub loop-targets-preserved : goal.loop-targets-preserved
 loop-targets-preserved c = let more : 0 < c.loop-targets.targets = omega (arith, c.loop-targets-test.true) in
     let count : get_or c.loop-targets.waiting c.loop-targets.target 0 ≡ get_or c.args.waiting.now c.loop-targets.target 0 =
     rw c.loop-targets.invariant.1 (counted-later (bit_of c.targets_of-targets.result) c.args.waiting.now c.loop-targets.target c.loop-targets.target (omega arith)) in
-    ⊎_elim
-    (λ w.
-    rw (w.2, w.3, count)
-    (storing_target c.loop-targets.invariant.0 more w.0.taken, rw c.loop-targets.invariant.1 (counted_target (bit_of c.targets_of-targets.result) c.args.waiting.now c.loop-targets.target (ahead-one c.loop-targets.invariant.0.ahead w.0.taken))))
-    (λ w.
-    rw (w.1, w.2)
-    (storing_other c.loop-targets.invariant.0 more w.0.left, c.loop-targets.invariant.1 ∙ counted-other (bit_of c.targets_of-targets.result) c.args.waiting.now c.loop-targets.target (ahead-other c.loop-targets.invariant.0.ahead w.0.left)))
-    c.if-targets-eq1.branch
+    elim c.if-targets-eq1.branch [
+      then-targets-eq1 w ↦
+        rw (w.queue-is, w.waiting-is, count)
+        (storing_target c.loop-targets.invariant.0 more w.if-targets-eq1.true, rw c.loop-targets.invariant.1 (counted_target (bit_of c.targets_of-targets.result) c.args.waiting.now c.loop-targets.target (ahead-one c.loop-targets.invariant.0.ahead w.if-targets-eq1.true)))
+    | else-targets-eq1 w ↦
+        rw (w.queue-is, w.waiting-is)
+        (storing_other c.loop-targets.invariant.0 more w.if-targets-eq1.false, c.loop-targets.invariant.1 ∙ counted-other (bit_of c.targets_of-targets.result) c.args.waiting.now c.loop-targets.target (ahead-other c.loop-targets.invariant.0.ahead w.if-targets-eq1.false))
+    ]
 
 pub returns : goal.returns
 returns c = let target = wired_in c.args.tables.now c.args.n.0 c.args.port in

@@ -12,21 +12,22 @@ use Rattle.memory.proofs.Pairing.{map-set}
 use Rattle.memory.proofs.Waiting.{brings-set}
 use Rattle.memory.proofs.Filled.{Queued, queued_none, queued_one, queued_empty, queued_all}
 use Rattle.memory.proofs.queues.fill_queues.Goals as goal
+use Rattle.memory.proofs.queues.fill_queues.Goals.{in-Message, in_default}
 
 pub loop-n-init : goal.loop-n-init
 loop-n-init c = (queued_none _ _ _ (length-map c.args.queue.now (message_from start_sender) ∙ c.requires.0) c.requires.1, λ test own all. all)
 
 pub loop-n-preserved : goal.loop-n-preserved
-loop-n-preserved c = ⊎_elim
-    (λ w.
-    let first = rw w.1.given.1 at c.first_message-first.ensures in
-    rw (w.3, w.4, map-set start_sender c.loop-n.queue (c.loop-n.n * 16) w.1.given.0.0) (
+loop-n-preserved c = elim c.match-first.branch [
+      in-Message w ↦
+    let first = w.in-Message.ensures in
+    rw (w.queue-is, w.waiting-is, map-set start_sender c.loop-n.queue (c.loop-n.n * 16) w.in-Message.value) (
       queued_one c.loop-n.invariant.0 _ (omega arith) (ap (map (message_from start_sender)) first),
       brings-set (λ k. message_from start_sender (get_or (firsts_in c.args.tables.now k) 0 0)) (map (message_from start_sender) c.args.queue.now)
           (map (message_from start_sender) c.loop-n.queue) _ _ c.loop-n.n (ap (λ (m : List ℕ). message_from start_sender (get_or m 0 0)) first) c.loop-n.invariant.1,
-    ))
-    (λ w. rw (w.2, w.3) (queued_empty c.loop-n.invariant.0 (omega arith) (ap (map (message_from start_sender)) (rw w.1.given.1 at c.first_message-first.ensures)), c.loop-n.invariant.1))
-    c.match-first.branch
+    )
+    | in_default w ↦ rw (w.queue-is, w.waiting-is) (queued_empty c.loop-n.invariant.0 (omega arith) (ap (map (message_from start_sender)) w.in_default.ensures), c.loop-n.invariant.1)
+    ]
 
 pub returns : goal.returns
 returns c = record {

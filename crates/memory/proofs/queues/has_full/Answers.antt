@@ -12,6 +12,7 @@ use Rattle.model.proofs.Turns.{some-found, some_more}
 use Rattle.tables.specs.Tables.{wired_in}
 use Rattle.memory.proofs.Sending.{held}
 use Rattle.memory.proofs.queues.has_full.Goals as goal
+use Rattle.memory.proofs.queues.has_full.Goals.{then-waiting-k-ge16+else-is_wired, else-waiting-k-ge16}
 
 pub loop-k-init : goal.loop-k-init
 unfolding some_below
@@ -26,10 +27,10 @@ returns-then-is_wired c = let target = wired_in c.args.tables.now c.args.n.0 c.a
 pub loop-k-preserved : goal.loop-k-preserved
 loop-k-preserved c = let target = wired_in c.args.tables.now c.args.n.0 c.args.port in
     let room : held target c.args.waiting.now c.loop-k.k ≡ false =
-    ⊎_elim
-    (λ w. let apart : target c.loop-k.k ≡ false = sym w.1.ensures ∙ w.2.left in rw apart)
-    (λ w. let few : get_or c.args.waiting.now c.loop-k.k 0 < 16 = omega (arith, w.left) in rw (lt-leb 16 (get_or c.args.waiting.now c.loop-k.k 0) few) (and-false (target c.loop-k.k)))
-    c.if-waiting-k-ge16.branch in
+    elim c.if-waiting-k-ge16.branch [
+      then-waiting-k-ge16+else-is_wired w ↦ let apart : target c.loop-k.k ≡ false = sym w.is_wired.ensures ∙ w.if-is_wired.false in rw apart
+    | else-waiting-k-ge16 w ↦ let few : get_or c.args.waiting.now c.loop-k.k 0 < 16 = omega (arith, w.if-waiting-k-ge16.false) in rw (lt-leb 16 (get_or c.args.waiting.now c.loop-k.k 0) few) (and-false (target c.loop-k.k))
+    ] in
     (omega arith, rw (add-one c.loop-k.k) (some_more (held target c.args.waiting.now) c.loop-k.k c.loop-k.invariant.1 room))
 
 pub returns : goal.returns

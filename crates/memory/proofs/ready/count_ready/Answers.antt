@@ -6,6 +6,7 @@ use borrow.Author.Rules.{rules}
 use Rattle.model.proofs.Counting.{count_nothing, count-passes, count-fails, count_most}
 use Rattle.memory.specs.Ready.{ready_in, ready_count_in}
 use Rattle.memory.proofs.ready.count_ready.Goals as goal
+use Rattle.memory.proofs.ready.count_ready.Goals.{then-is_ready, else-is_ready}
 
 pub loop-n-init : goal.loop-n-init
 loop-n-init c = (omega arith, sym (count_nothing _))
@@ -15,9 +16,10 @@ overflow_add-count c = omega (arith, count_most (ready_in c.args.position.now c.
 
 pub loop-n-preserved : goal.loop-n-preserved
 loop-n-preserved c = let test = ready_in c.args.position.now c.args.waiting.now in
-    ⊎_elim (λ w. (omega arith, rw w.1 (count-passes test c.loop-n.n c.loop-n.count c.loop-n.invariant.1 (sym c.is_ready.ensures ∙ w.0.taken))))
-    (λ w. (omega arith, rw w.1 (count-fails test c.loop-n.n c.loop-n.count c.loop-n.invariant.1 (sym c.is_ready.ensures ∙ w.0.left))))
-    c.if-is_ready.branch
+    elim c.if-is_ready.branch [
+      then-is_ready w ↦ (omega arith, rw w.count-is (count-passes test c.loop-n.n c.loop-n.count c.loop-n.invariant.1 (sym c.is_ready.ensures ∙ w.if-is_ready.true)))
+    | else-is_ready w ↦ (omega arith, rw w.count-is (count-fails test c.loop-n.n c.loop-n.count c.loop-n.invariant.1 (sym c.is_ready.ensures ∙ w.if-is_ready.false)))
+    ]
 
 pub returns : goal.returns
 returns c = let e : c.loop-n.n ≡ c.args.nodes = omega (arith, c.loop-n.invariant.0, c.loop-n-test.false) in

@@ -1,3 +1,4 @@
+use borrow.Enum.Refused.{opened}
 use Prim.Native.Nat.{◌≤◌}
 use native.Mathlib.Omega.{arith}
 use borrow.Author.Rules.{rules}
@@ -14,4 +15,4 @@ pub returns-in-Send : goal.returns-in-Send
 returns-in-Send c = rw c.in-Send.is (omega (arith, c.woken.ensures))
 
 pub returns : goal.returns
-returns c = omega (arith, woken_none (wired_in c.args.tables.now c.args.n.0) c.args.position.now c.args.waiting.now c.args.change c.in_default.keys2)
+returns c = omega (arith, woken_none (wired_in c.args.tables.now c.args.n.0) c.args.position.now c.args.waiting.now c.args.change (opened c.in_default.in_default-own.keys2))

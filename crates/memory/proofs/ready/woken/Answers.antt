@@ -4,6 +4,7 @@ use native.Mathlib.Omega.{arith}
 use borrow.Author.Rules.{rules}
 use Rattle.memory.proofs.Readying.{Waking, waking_none, waking_inside, waking_one, waking_other, waking_all}
 use Rattle.memory.proofs.ready.woken.Goals as goal
+use Rattle.memory.proofs.ready.woken.Goals.{then-targets-ready, else-targets-ready}
 
 pub loop-targets-init : goal.loop-targets-init
 loop-targets-init c = waking_none _ _ _ (search rules)
@@ -19,9 +20,10 @@ overflow_add-target c = omega (arith, c.loop-targets.invariant.ahead.inside)
 
 pub loop-targets-preserved : goal.loop-targets-preserved
 loop-targets-preserved c = let more : 0 < c.loop-targets.targets = omega (arith, c.loop-targets-test.true) in
-    ⊎_elim (λ w. rw w.1 (waking_one c.loop-targets.invariant more (rw (← c.is_ready-ready.ensures) w.0.taken)))
-    (λ w. rw w.1 (waking_other c.loop-targets.invariant more (rw (← c.is_ready-ready.ensures) w.0.left)))
-    c.if-targets-ready.branch
+    elim c.if-targets-ready.branch [
+      then-targets-ready w ↦ rw w.count-is (waking_one c.loop-targets.invariant more (rw (← c.is_ready-ready.ensures) w.if-targets-ready.true))
+    | else-targets-ready w ↦ rw w.count-is (waking_other c.loop-targets.invariant more (rw (← c.is_ready-ready.ensures) w.if-targets-ready.false))
+    ]
 
 pub returns : goal.returns
 returns c = waking_all c.loop-targets.invariant _ c.targets_of-targets.ensures (omega (arith, c.loop-targets-test.false))

@@ -16,4 +16,4 @@ pub returns-in-Send : goal.returns-in-Send
 returns-in-Send c = rw c.in-Send.is c.sign.ensures
 
 pub returns-in_default : goal.returns-in_default
-returns-in_default c = slots-left _ _ _ _ _ c.args.change c.in_default.keys3
+returns-in_default c = slots-left _ _ _ _ _ c.args.change c.in_default.not-Take c.in_default.not-Send

@@ -37,8 +37,8 @@ next_part-place-requires c = record {
 pub loop-n-preserved : goal.loop-n-preserved
 loop-n-preserved c = (
       omega (arith, c.loop-n-test.true),
-      c.next_part-place.ensures.0,
-      omega (arith, c.next_part-place.ensures.1, c.loop-n.invariant.2),
+      c.next_part-place.ensures.value,
+      omega (arith, c.next_part-place.ensures.upper_bound, c.loop-n.invariant.2),
       λ hs.
           let f = tally_by (program_in c.args.tables.now hs) c.args.arrivals.now c.args.takings.now c.args.snapshot.now in
           let waiting = c.waiting_in-waiting.ensures ∙ ap (waiting_in c.args.snapshot.now) c.loop-n.invariant.1 in

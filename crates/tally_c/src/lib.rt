@@ -1,0 +1,26 @@
+// The static library of the tally (S-12), for programs in C and Rust (include/leqsumir.h): it calls the function of the same name in the
+// crate tally, and promises what that one does.
+#![tactic(auto)]
+
+ghost use Rattle.std.specs.Prelude.{◌≡◌};
+ghost use Rattle.model.specs.Refusal.{decode_job};
+ghost use Rattle.tally.specs.Tallies.{tally_told, tallies_after};
+
+use tally::{COUNTS, exports};
+
+// The tally of a run of a job, by the number of its turns, its trace and its snapshot (01's "picture"): four counts a node.
+#[unsafe(no_mangle)]
+pub extern "C" fn leqsumir_tally(
+    job: &[u8],
+    turns: u64,
+    trace: &[u8],
+    snapshot: &[u8],
+    counts: &mut [u64; COUNTS],
+    answer: &mut [u64; 3],
+)
+    ensures told { answer.new ≡ tally_told (decode_job job.now) }
+    ensures counts { counts.new ≡ tallies_after (decode_job job.now) turns
+        trace.now snapshot.now counts.old }
+{
+    exports::leqsumir_tally(job, turns, trace, snapshot, counts, answer);
+}
