@@ -1,7 +1,7 @@
 // The bytes of the snapshot (01's "end picture"). The place of each part is carried along from part to part (S-3).
 ghost use Rattle.std.specs.Prelude.{◌≡◌, ◌+◌, ◌*◌, ◌≤◌, ◌<◌, length, take, drop};
 ghost use Rattle.model.specs.Table.{max_nodes, max_variables};
-ghost use Rattle.model.specs.State.{State, position_at};
+ghost use Rattle.model.specs.State.{position_at};
 ghost use Rattle.model.specs.Output.{messages_bytes, node_bytes, part_start, variables_bytes};
 ghost use Rattle.model.specs.Refusal.{snapshot_size};
 ghost use Rattle.writing.specs.Writing.{Writes};
@@ -51,13 +51,15 @@ fn put_node<'a>(
     variable: &'a [u32; 64],
     n: usize,
 ) -> usize
-    ghost s: { State }
-    requires variable_value { view_of position.now accumulator.now message.now waiting.now queue.now sender.now variable.now ≡ s }
-    requires at_value { at ≡ part_start s n }
+    requires at_value { let s = view_of position.now accumulator.now message.now waiting.now queue.now sender.now variable.now
+        in at ≡ part_start s n }
     requires n_lt_max_nodes { (n < max_nodes) × (at + 90 ≤ length snapshot.old) }
-    requires bounded_counts { BoundedCounts waiting.now × (position_at s n < 256) }
-    ensures part { Writes (node_bytes s n) snapshot.old (part_start s n) snapshot.new result }
-    ensures place { result ≡ part_start s (n + 1) }
+    requires bounded_counts { let s = view_of position.now accumulator.now message.now waiting.now queue.now sender.now variable.now
+        in BoundedCounts waiting.now × (position_at s n < 256) }
+    ensures part { let s = view_of position.now accumulator.now message.now waiting.now queue.now sender.now variable.now
+        in Writes (node_bytes s n) snapshot.old (part_start s n) snapshot.new result }
+    ensures place { let s = view_of position.now accumulator.now message.now waiting.now queue.now sender.now variable.now
+        in result ≡ part_start s (n + 1) }
 {
     let count = waiting[n];
     let second = put_byte(snapshot, at, (position[n] % 256) as u8);
@@ -82,12 +84,13 @@ fn put_variables<'a>(
     nodes: usize,
     variables: usize,
 ) -> usize
-    ghost s: { State }
-    requires variable_value { view_of position.now accumulator.now message.now waiting.now queue.now sender.now variable.now ≡ s }
-    requires at_value { at ≡ part_start s nodes }
+    requires at_value { let s = view_of position.now accumulator.now message.now waiting.now queue.now sender.now variable.now
+        in at ≡ part_start s nodes }
     requires variables_le_max_variables { (variables ≤ max_variables) × (at + 4 * variables ≤ length snapshot.old) }
-    ensures part { Writes (variables_bytes s variables) snapshot.old (part_start s nodes) snapshot.new result }
-    ensures place { result ≡ length (shown_bytes s nodes variables) }
+    ensures part { let s = view_of position.now accumulator.now message.now waiting.now queue.now sender.now variable.now
+        in Writes (variables_bytes s variables) snapshot.old (part_start s nodes) snapshot.new result }
+    ensures place { let s = view_of position.now accumulator.now message.now waiting.now queue.now sender.now variable.now
+        in result ≡ length (shown_bytes s nodes variables) }
 {
     put_words(snapshot, at, variable, variables)
 }
@@ -105,12 +108,12 @@ pub fn put_snapshot<'a>(
     nodes: usize,
     variables: usize,
 ) -> usize
-    ghost s: { State }
-    requires variable_value { view_of position.now accumulator.now message.now waiting.now queue.now sender.now variable.now ≡ s }
     requires snapshot_size_in_bounds { (snapshot_size ≤ length snapshot.old) × (nodes ≤ max_nodes) × (variables ≤ max_variables) }
     requires bounded_counts { BoundedCounts waiting.now }
-    requires narrow_positions { NarrowPositions s }
-    ensures { Writes (shown_bytes s nodes variables) snapshot.old 0 snapshot.new result }
+    requires narrow_positions { NarrowPositions
+        (view_of position.now accumulator.now message.now waiting.now queue.now sender.now variable.now) }
+    ensures { let s = view_of position.now accumulator.now message.now waiting.now queue.now sender.now variable.now
+        in Writes (shown_bytes s nodes variables) snapshot.old 0 snapshot.new result }
 {
     let mut at: usize = 0;
     let mut n: usize = 0;

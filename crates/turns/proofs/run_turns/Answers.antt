@@ -136,8 +136,9 @@ loop-k-preserved c = λ ready.
     (underway_stopped c.args.schedule c.args.monitored c.args.job.now c.args.tables.now c.args.work.now ready c.requires.schedule_value _ c.loop-k.s c.loop-k.trace c.loop-k.examined c.loop-k.from c.loop-k.at c.loop-k.k (underway ‹place After-known_told4› ready) (more ‹place After-known_told4› ready) _ _ (rw c.in-Chosen.is at c.choice_of-choice.ensures) c.fetch-fetched.result c.fetch-fetched.ensures.fetched c.turn-turned.result c.turn-turned.ensures _ c.in-Stopped.is)
 
 pub put_snapshot-requires : goal.put_snapshot-requires
-put_snapshot-requires c = let o = (c.loop-k.invariant c.requires.loaded).ended (omega (arith, c.loop-k-test.false)) _ c.ending_of-ending.ensures in (
-      (
+put_snapshot-requires c = let o = (c.loop-k.invariant c.requires.loaded).ended (omega (arith, c.loop-k-test.false)) _ c.ending_of-ending.ensures in
+    record {
+      snapshot_size_in_bounds = (
         c.requires.tables_in_bounds.1,
         omega (
           arith,
@@ -150,9 +151,10 @@ put_snapshot-requires c = let o = (c.loop-k.invariant c.requires.loaded).ended (
           c.count_of-variables.ensures,
           variables-few c.args.schedule c.args.monitored c.args.job.now c.args.tables.now c.args.work.now c.requires.loaded c.requires.schedule_value,
         ),
-      ),
-      (o.bounded, o.positions),
-    )
+      );
+      bounded_counts = o.bounded;
+      narrow_positions = o.positions;
+    }
 
 pub returns : goal.returns
 returns c past e = let same : c.requires.loaded.past ≡ past = cc in
