@@ -12,17 +12,16 @@ use Rattle.turns.proofs.Running.{Underway, Reached, underway_none, from_low, cou
 use Rattle.turns.proofs.Running.{node-inside, node-among, chosen-few, made_narrow, underway_next, underway_stopped, reached, halted, turns_by_lem, turns-few}
 use Rattle.turns.proofs.Running.{nodes-few, variables-few, runs_as}
 use Rattle.turns.proofs.run_turns.Goals as goal
+use Rattle.turns.proofs.run_turns.Goals.{In-loop-k}
 
 -- in the loop there is a turn more, and the run is underway
-module _ (i : tie.In-loop invariant-loop decreases-loop) (ready : Loaded i.before.before.before.before.before.before.before.before.before.args.job.now i.before.before.before.before.before.before.before.before.before.args.tables.now i.before.before.before.before.before.before.before.before.before.args.work.now) where
-  more : i.before.loop.k < turns_for i.before.before.before.before.before.before.before.before.before.args.schedule
-      ready.past
-  more = omega (arith, i.loop-test.true, (i.before.loop.invariant ready).all i.loop-test.true)
+module _ (i : In-loop-k) (ready : Loaded i.args.job.now i.args.tables.now i.args.work.now) where
+  more : i.loop-k.k < turns_for i.args.schedule ready.past
+  more = omega (arith, i.loop-k-test.true, (i.loop-k.invariant ready).all i.loop-k-test.true)
 
-  underway : Underway i.before.before.before.before.before.before.before.before.before.args.schedule i.before.before.before.before.before.before.before.before.before.args.monitored i.before.before.before.before.before.before.before.before.before.args.job.now i.before.before.before.before.before.before.before.before.before.args.tables.now
-      i.before.before.before.before.before.before.before.before.before.args.work.now ready.past i.before.before.before.before.before.before.before.before.before.args.trace.now i.before.loop.s i.before.loop.trace
-      i.before.loop.examined i.before.loop.from i.before.loop.at i.before.loop.k
-  underway = (i.before.loop.inv ready).going i.loop-test.taken
+  underway : Underway i.args.schedule i.args.monitored i.args.job.now i.args.tables.now i.args.work.now ready.past i.args.trace.now i.loop-k.s
+      i.loop-k.trace i.loop-k.examined i.loop-k.from i.loop-k.at i.loop-k.k
+  underway = (i.loop-k.invariant ready).going i.loop-k-test.true
 
 pub start-s-requires : goal.start-s-requires
 start-s-requires c = nodes-few c.args.schedule c.args.monitored c.args.job.now c.args.tables.now c.args.work.now c.requires.loaded c.requires.schedule_value
@@ -36,18 +35,18 @@ loop-k-init c = λ ready.
 pub choice_of-choice-requires : goal.choice_of-choice-requires
 choice_of-choice-requires c = record {
       tables_bound = nodes-few c.args.schedule c.args.monitored c.args.job.now c.args.tables.now c.args.work.now c.requires.loaded c.requires.schedule_value;
-      from_bound = from_low c.args.schedule c.args.monitored c.args.job.now c.args.tables.now c.args.work.now c.requires.loaded c.requires.schedule_value _ c.loop-k.s c.loop-k.trace c.loop-k.examined c.loop-k.from c.loop-k.at c.loop-k.k (underway ‹place After-choice_of-arg2› c.requires.loaded) (more ‹place After-choice_of-arg2› c.requires.loaded);
-      ready_value = ready-counted c.args.schedule c.args.monitored c.args.job.now c.args.tables.now c.args.work.now c.requires.loaded c.requires.schedule_value _ c.loop-k.s c.loop-k.trace c.loop-k.examined c.loop-k.from c.loop-k.at c.loop-k.k (underway ‹place After-choice_of-arg2› c.requires.loaded) (more ‹place After-choice_of-arg2› c.requires.loaded);
+      from_bound = from_low c.args.schedule c.args.monitored c.args.job.now c.args.tables.now c.args.work.now c.requires.loaded c.requires.schedule_value _ c.loop-k.s c.loop-k.trace c.loop-k.examined c.loop-k.from c.loop-k.at c.loop-k.k (underway (goal.at.choice_of-choice-requires c).In-loop-k c.requires.loaded) (more (goal.at.choice_of-choice-requires c).In-loop-k c.requires.loaded);
+      ready_value = ready-counted c.args.schedule c.args.monitored c.args.job.now c.args.tables.now c.args.work.now c.requires.loaded c.requires.schedule_value _ c.loop-k.s c.loop-k.trace c.loop-k.examined c.loop-k.from c.loop-k.at c.loop-k.k (underway (goal.at.choice_of-choice-requires c).In-loop-k c.requires.loaded) (more (goal.at.choice_of-choice-requires c).In-loop-k c.requires.loaded);
     }
 
 pub overflow_add-examined : goal.overflow_add-examined
 overflow_add-examined c = let few = nobody-few c.args.schedule c.args.monitored c.args.job.now c.args.tables.now c.args.work.now c.requires.loaded
-    c.requires.schedule_value _ c.loop-k.s c.loop-k.trace c.loop-k.examined c.loop-k.from c.loop-k.at c.loop-k.k (underway ‹place After-known_told› c.requires.loaded) (more ‹place After-known_told› c.requires.loaded) _ (rw c.in-Nobody.is at c.choice_of-choice.ensures) in
+    c.requires.schedule_value _ c.loop-k.s c.loop-k.trace c.loop-k.examined c.loop-k.from c.loop-k.at c.loop-k.k (underway (goal.at.overflow_add-examined c).In-loop-k c.requires.loaded) (more (goal.at.overflow_add-examined c).In-loop-k c.requires.loaded) _ (rw c.in-Nobody.is at c.choice_of-choice.ensures) in
     omega (
       arith,
       few,
-      (underway ‹place After-known_told› c.requires.loaded).few,
-      more ‹place After-known_told› c.requires.loaded,
+      (underway (goal.at.overflow_add-examined c).In-loop-k c.requires.loaded).few,
+      more (goal.at.overflow_add-examined c).In-loop-k c.requires.loaded,
       turns-few c.args.schedule c.args.monitored c.args.job.now c.args.tables.now c.args.work.now c.requires.loaded c.requires.schedule_value,
     )
 
@@ -57,16 +56,16 @@ loop-k-smaller-in-Nobody c = omega (arith, c.loop-k-test.true)
 pub loop-k-preserved-in-Nobody : goal.loop-k-preserved-in-Nobody
 loop-k-preserved-in-Nobody c = λ ready.
     halted c.args.schedule c.args.monitored _ _ _ _ _ _ _ _ _ _ _ _ (c.loop-k.invariant ready).size
-    (underway_nobody c.args.schedule c.args.monitored c.args.job.now c.args.tables.now c.args.work.now ready c.requires.schedule_value _ c.loop-k.s c.loop-k.trace c.loop-k.examined c.loop-k.from c.loop-k.at c.loop-k.k (underway ‹place After-known_told› ready) (more ‹place After-known_told› ready) _ (rw c.in-Nobody.is at c.choice_of-choice.ensures))
+    (underway_nobody c.args.schedule c.args.monitored c.args.job.now c.args.tables.now c.args.work.now ready c.requires.schedule_value _ c.loop-k.s c.loop-k.trace c.loop-k.examined c.loop-k.from c.loop-k.at c.loop-k.k (underway (goal.at.loop-k-preserved-in-Nobody c).In-loop-k ready) (more (goal.at.loop-k-preserved-in-Nobody c).In-loop-k ready) _ (rw c.in-Nobody.is at c.choice_of-choice.ensures))
 
 pub overflow_add-examined-in-Chosen : goal.overflow_add-examined-in-Chosen
 overflow_add-examined-in-Chosen c = let few = chosen-few c.args.schedule c.args.monitored c.args.job.now c.args.tables.now c.args.work.now c.requires.loaded
-    c.requires.schedule_value _ c.loop-k.s c.loop-k.trace c.loop-k.examined c.loop-k.from c.loop-k.at c.loop-k.k (underway ‹place After-known_told2› c.requires.loaded) (more ‹place After-known_told2› c.requires.loaded) _ _ (rw c.in-Chosen.is at c.choice_of-choice.ensures) in
+    c.requires.schedule_value _ c.loop-k.s c.loop-k.trace c.loop-k.examined c.loop-k.from c.loop-k.at c.loop-k.k (underway (goal.at.overflow_add-examined-in-Chosen c).In-loop-k c.requires.loaded) (more (goal.at.overflow_add-examined-in-Chosen c).In-loop-k c.requires.loaded) _ _ (rw c.in-Chosen.is at c.choice_of-choice.ensures) in
     omega (
       arith,
       few,
-      (underway ‹place After-known_told2› c.requires.loaded).few,
-      more ‹place After-known_told2› c.requires.loaded,
+      (underway (goal.at.overflow_add-examined-in-Chosen c).In-loop-k c.requires.loaded).few,
+      more (goal.at.overflow_add-examined-in-Chosen c).In-loop-k c.requires.loaded,
       turns-few c.args.schedule c.args.monitored c.args.job.now c.args.tables.now c.args.work.now c.requires.loaded c.requires.schedule_value,
     )
 
@@ -74,44 +73,44 @@ pub overflow_add-from : goal.overflow_add-from
 overflow_add-from c = omega (
       arith,
       node-inside c.args.schedule c.args.monitored c.args.job.now c.args.tables.now c.args.work.now
-          c.requires.loaded c.requires.schedule_value _ c.loop-k.s c.loop-k.trace c.loop-k.examined c.loop-k.from c.loop-k.at c.loop-k.k (underway ‹place After-struct_known› c.requires.loaded) (more ‹place After-struct_known› c.requires.loaded) _ _ (rw c.in-Chosen.is at c.choice_of-choice.ensures),
+          c.requires.loaded c.requires.schedule_value _ c.loop-k.s c.loop-k.trace c.loop-k.examined c.loop-k.from c.loop-k.at c.loop-k.k (underway (goal.at.overflow_add-from c).In-loop-k c.requires.loaded) (more (goal.at.overflow_add-from c).In-loop-k c.requires.loaded) _ _ (rw c.in-Chosen.is at c.choice_of-choice.ensures),
     )
 
 pub bounds-s-i : goal.bounds-s-i
 bounds-s-i c = omega (
       arith,
       node-inside c.args.schedule c.args.monitored c.args.job.now c.args.tables.now c.args.work.now
-          c.requires.loaded c.requires.schedule_value _ c.loop-k.s c.loop-k.trace c.loop-k.examined c.loop-k.from c.loop-k.at c.loop-k.k (underway ‹place After-struct_known2› c.requires.loaded) (more ‹place After-struct_known2› c.requires.loaded) _ _ (rw c.in-Chosen.is at c.choice_of-choice.ensures),
+          c.requires.loaded c.requires.schedule_value _ c.loop-k.s c.loop-k.trace c.loop-k.examined c.loop-k.from c.loop-k.at c.loop-k.k (underway (goal.at.bounds-s-i c).In-loop-k c.requires.loaded) (more (goal.at.bounds-s-i c).In-loop-k c.requires.loaded) _ _ (rw c.in-Chosen.is at c.choice_of-choice.ensures),
     )
 
 pub turn-turned-requires : goal.turn-turned-requires
 turn-turned-requires c = record {
-      bounded_counts = (underway ‹place After-fetch› c.requires.loaded).bounded;
-      among = node-among c.args.schedule c.args.monitored c.args.job.now c.args.tables.now c.args.work.now c.requires.loaded c.requires.schedule_value _ c.loop-k.s c.loop-k.trace c.loop-k.examined c.loop-k.from c.loop-k.at c.loop-k.k (underway ‹place After-fetch› c.requires.loaded) (more ‹place After-fetch› c.requires.loaded) _ _
+      bounded_counts = (underway (goal.at.turn-turned-requires c).In-loop-k c.requires.loaded).bounded;
+      among = node-among c.args.schedule c.args.monitored c.args.job.now c.args.tables.now c.args.work.now c.requires.loaded c.requires.schedule_value _ c.loop-k.s c.loop-k.trace c.loop-k.examined c.loop-k.from c.loop-k.at c.loop-k.k (underway (goal.at.turn-turned-requires c).In-loop-k c.requires.loaded) (more (goal.at.turn-turned-requires c).In-loop-k c.requires.loaded) _ _
             (rw c.in-Chosen.is at c.choice_of-choice.ensures);
       fact = c.fetch-fetched.ensures.countable;
-      counts_ready = counts-ready c.args.schedule c.args.monitored c.args.job.now c.args.tables.now c.args.work.now c.requires.loaded c.requires.schedule_value _ c.loop-k.s c.loop-k.trace c.loop-k.examined c.loop-k.from c.loop-k.at c.loop-k.k (underway ‹place After-fetch› c.requires.loaded) (more ‹place After-fetch› c.requires.loaded);
+      counts_ready = counts-ready c.args.schedule c.args.monitored c.args.job.now c.args.tables.now c.args.work.now c.requires.loaded c.requires.schedule_value _ c.loop-k.s c.loop-k.trace c.loop-k.examined c.loop-k.from c.loop-k.at c.loop-k.k (underway (goal.at.turn-turned-requires c).In-loop-k c.requires.loaded) (more (goal.at.turn-turned-requires c).In-loop-k c.requires.loaded);
     }
 
 pub put_entry-at-requires : goal.put_entry-at-requires
 put_entry-at-requires c = (
       omega (
         arith,
-        more ‹place After-numbers_of› c.requires.loaded,
-        (underway ‹place After-numbers_of› c.requires.loaded).place,
-        (underway ‹place After-numbers_of› c.requires.loaded).size,
+        more (goal.at.put_entry-at-requires c).In-loop-k c.requires.loaded,
+        (underway (goal.at.put_entry-at-requires c).In-loop-k c.requires.loaded).place,
+        (underway (goal.at.put_entry-at-requires c).In-loop-k c.requires.loaded).size,
         c.requires.tables_in_bounds.0,
         turns_by_lem c.args.schedule c.args.monitored c.args.job.now c.args.tables.now c.args.work.now c.requires.loaded c.requires.schedule_value,
       ),
       subst Narrow (sym c.numbers_of.ensures)
           (made_narrow c.args.schedule c.args.monitored c.args.job.now c.args.tables.now c.args.work.now c.requires.loaded
-          c.requires.schedule_value _ c.loop-k.s c.loop-k.trace c.loop-k.examined c.loop-k.from c.loop-k.at c.loop-k.k (underway ‹place After-numbers_of› c.requires.loaded) (more ‹place After-numbers_of› c.requires.loaded) _ _ (rw c.in-Chosen.is at c.choice_of-choice.ensures) c.fetch-fetched.result c.fetch-fetched.ensures.fetched c.turn-turned.result c.turn-turned.ensures _ c.in-Made.is),
+          c.requires.schedule_value _ c.loop-k.s c.loop-k.trace c.loop-k.examined c.loop-k.from c.loop-k.at c.loop-k.k (underway (goal.at.put_entry-at-requires c).In-loop-k c.requires.loaded) (more (goal.at.put_entry-at-requires c).In-loop-k c.requires.loaded) _ _ (rw c.in-Chosen.is at c.choice_of-choice.ensures) c.fetch-fetched.result c.fetch-fetched.ensures.fetched c.turn-turned.result c.turn-turned.ensures _ c.in-Made.is),
     )
 
 pub overflow_add-k : goal.overflow_add-k
 overflow_add-k c = omega (
       arith,
-      more ‹place After-slice_known3› c.requires.loaded,
+      more (goal.at.overflow_add-k c).In-loop-k c.requires.loaded,
       turns-few c.args.schedule c.args.monitored c.args.job.now c.args.tables.now c.args.work.now c.requires.loaded c.requires.schedule_value,
     )
 
@@ -120,10 +119,10 @@ loop-k-smaller-in-Made c = omega (arith, c.loop-k-test.true)
 
 pub loop-k-preserved-in-Made : goal.loop-k-preserved-in-Made
 loop-k-preserved-in-Made c = λ ready.
-    let r = c.loop-k.inv ready in
+    let r = c.loop-k.invariant ready in
     reached c.args.schedule c.args.monitored c.args.job.now c.args.tables.now c.args.work.now ready c.requires.schedule_value _ _ _ _ _ _ _ c.loop-k.last (r.all c.loop-k-test.true)
-    (omega (arith, more ‹place After-slice_known3› ready))
-    (underway_next c.args.schedule c.args.monitored c.args.job.now c.args.tables.now c.args.work.now ready c.requires.schedule_value _ c.loop-k.s c.loop-k.trace c.loop-k.examined c.loop-k.from c.loop-k.at c.loop-k.k (underway ‹place After-slice_known3› ready) (more ‹place After-slice_known3› ready) _ _ (rw c.in-Chosen.is at c.choice_of-choice.ensures) c.fetch-fetched.result c.fetch-fetched.ensures.fetched c.turn-turned.result c.turn-turned.ensures _ c.in-Made.is
+    (omega (arith, more (goal.at.loop-k-preserved-in-Made c).In-loop-k ready))
+    (underway_next c.args.schedule c.args.monitored c.args.job.now c.args.tables.now c.args.work.now ready c.requires.schedule_value _ c.loop-k.s c.loop-k.trace c.loop-k.examined c.loop-k.from c.loop-k.at c.loop-k.k (underway (goal.at.loop-k-preserved-in-Made c).In-loop-k ready) (more (goal.at.loop-k-preserved-in-Made c).In-loop-k ready) _ _ (rw c.in-Chosen.is at c.choice_of-choice.ensures) c.fetch-fetched.result c.fetch-fetched.ensures.fetched c.turn-turned.result c.turn-turned.ensures _ c.in-Made.is
     (entry_with c.numbers_of.result) c.numbers_of.ensures _ _ (rw (← turns_by_lem c.args.schedule c.args.monitored c.args.job.now c.args.tables.now c.args.work.now ready c.requires.schedule_value) c.requires.tables_in_bounds.0)
     (search rules) c.put_entry-at.ensures) _ (r.never c.loop-k-test.true)
 
@@ -132,8 +131,8 @@ loop-k-smaller c = omega (arith, c.loop-k-test.true)
 
 pub loop-k-preserved : goal.loop-k-preserved
 loop-k-preserved c = λ ready.
-    halted c.args.schedule c.args.monitored _ _ _ _ _ _ _ _ _ _ _ _ (c.loop-k.inv ready).size
-    (underway_stopped c.args.schedule c.args.monitored c.args.job.now c.args.tables.now c.args.work.now ready c.requires.schedule_value _ c.loop-k.s c.loop-k.trace c.loop-k.examined c.loop-k.from c.loop-k.at c.loop-k.k (underway ‹place After-known_told4› ready) (more ‹place After-known_told4› ready) _ _ (rw c.in-Chosen.is at c.choice_of-choice.ensures) c.fetch-fetched.result c.fetch-fetched.ensures.fetched c.turn-turned.result c.turn-turned.ensures _ c.in-Stopped.is)
+    halted c.args.schedule c.args.monitored _ _ _ _ _ _ _ _ _ _ _ _ (c.loop-k.invariant ready).size
+    (underway_stopped c.args.schedule c.args.monitored c.args.job.now c.args.tables.now c.args.work.now ready c.requires.schedule_value _ c.loop-k.s c.loop-k.trace c.loop-k.examined c.loop-k.from c.loop-k.at c.loop-k.k (underway (goal.at.loop-k-preserved c).In-loop-k ready) (more (goal.at.loop-k-preserved c).In-loop-k ready) _ _ (rw c.in-Chosen.is at c.choice_of-choice.ensures) c.fetch-fetched.result c.fetch-fetched.ensures.fetched c.turn-turned.result c.turn-turned.ensures _ c.in-Stopped.is)
 
 pub put_snapshot-requires : goal.put_snapshot-requires
 put_snapshot-requires c = let o = (c.loop-k.invariant c.requires.loaded).ended (omega (arith, c.loop-k-test.false)) _ c.ending_of-ending.ensures in
@@ -159,7 +158,7 @@ put_snapshot-requires c = let o = (c.loop-k.invariant c.requires.loaded).ended (
 pub returns : goal.returns
 returns c past e = let same : c.requires.loaded.past ≡ past = cc in
     subst (λ (x : List Command). RunsAs (program_of x) (run_of c.args.schedule c.args.monitored x) c.args.trace.now c.args.snapshot.now c.loop-k.trace
-    c.put_snapshot.new.0 (record { ending = c.ending_of-ending.result; examined = c.loop-k.examined })) same
+    c.put_snapshot.new.snapshot (record { ending = c.ending_of-ending.result; examined = c.loop-k.examined })) same
     (runs_as c.args.schedule c.args.monitored c.args.job.now c.args.tables.now c.args.work.now c.requires.loaded c.requires.schedule_value _ _ c.loop-k.s _ c.loop-k.examined
     ((c.loop-k.invariant c.requires.loaded).ended (omega (arith, c.loop-k-test.false)) _ c.ending_of-ending.ensures) _ _ _
     (rw (

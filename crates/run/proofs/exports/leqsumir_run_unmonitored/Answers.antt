@@ -4,4 +4,9 @@ use Rattle.run.specs.Exported.{numbers_in}
 use Rattle.run.proofs.exports.leqsumir_run_unmonitored.Goals as goal
 
 pub returns : goal.returns
-returns c = (c.numbers_in.ensures ∙ ap numbers_in c.run_unmonitored.ensures.told, c.run_unmonitored.ensures.1)
+returns c = record {
+      told = c.numbers_in.ensures ∙ ap numbers_in c.run_unmonitored.ensures.told;
+      trace = c.run_unmonitored.ensures.trace;
+      snapshot = c.run_unmonitored.ensures.snapshot;
+      work = c.run_unmonitored.ensures.work;
+    }
