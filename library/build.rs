@@ -1,4 +1,4 @@
-//! Links the proved static libraries, which `rt staticlib run` and `rt staticlib tally` write.
+//! Links the proved static libraries, which `tools/staticlibs` makes.
 
 use std::path::Path;
 

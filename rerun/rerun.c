@@ -1,8 +1,7 @@
 /* Reruns a job file through the proved static libraries, monitored and unmonitored, counts the messages of each node and says where the two
  * part. With a budget both runs are dispatched.
  * At the repository's root:
- *     rt staticlib run
- *     rt staticlib tally
+ *     tools/staticlibs
  *     gcc -O2 -Wall -Wextra -Iinclude -o target/rerun rerun/rerun.c target/staticlib/librun.a target/staticlib/libtally.a
  *     target/rerun examples/k2.job
  *     target/rerun examples/email-dispatched.job 12 */

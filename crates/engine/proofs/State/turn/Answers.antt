@@ -9,81 +9,70 @@ use Rattle.memory.specs.Ready.{ReadyCounted}
 use Rattle.memory.proofs.Readying.{among_below}
 use Rattle.engine.proofs.Carried.{Lengths, ready-counted, can_change, carried_out}
 use Rattle.engine.proofs.State.turn.Goals as goal
+use Rattle.engine.proofs.State.turn.Goals.{Start, After-plan_turn-plan}
 
 -- the lengths of the arrays, and that the node is below 32
-lengths : (z : tie.Start) → Lengths z.args.t1
-lengths z =
-    let s = z.args.t1 in
-    let known = z.well-formed.0.1.1 in
-    record {
-      positions = length_unmapped ℕ s.position 32 known.0.1.0.1;
-      counts = length_unmapped ℕ s.waiting 32 known.1.1.1.0.1.0.1;
-      places = length_unmapped ℕ s.queue 512 known.1.1.1.1.0.1.0.1;
-      beside = length_unmapped ℕ s.sender 512 known.1.1.1.1.1.0.1.0.1;
-    }
+lengths : (z : Start) → Lengths z.args.self
+lengths z = record { positions = search rules; counts = search rules; places = search rules; beside = search rules }
 
-inside : (z : tie.Start) → z.args.n.0 < 32
-inside z = among_below z.requires.1.0
+inside : (z : Start) → z.args.n.0 < 32
+inside z = among_below z.requires.among
 
 -- the ready count before the turn
-before : (z : tie.Start) → ReadyCounted z.args.tables.now z.args.n.0 z.args.t1.position z.args.t1.waiting z.args.t1.ready
+before : (z : Start) → ReadyCounted z.args.tables.now z.args.n.0 z.args.self.position z.args.self.waiting z.args.self.ready
 before z =
     let a = z.args in
-    ready-counted a.tables.now a.fetched a.t1 a.n a.monitored z.requires.0 (lengths z) z.requires.1.0 z.requires.1.1.1
+    ready-counted a.tables.now a.fetched a.self a.n a.monitored z.requires.bounded_counts (lengths z) z.requires.among z.requires.counts_ready
 
 -- the planned change can be carried out
-can : (p : tie.After-plan-turn) → Possible (wired_in p.before.before.before.before.before.before.before.before.before.before.before.before.before.args.tables.now p.before.before.before.before.before.before.before.before.before.before.before.before.before.args.n.0) p.before.before.before.before.before.before.before.before.before.before.before.before.before.args.n.0
-    (count_at p.before.before.before.before.before.before.before.before.before.before.before.before.before.args.t1.waiting) p.plan-turn.result.change
+can : (p : After-plan_turn-plan) → Possible (wired_in p.args.tables.now p.args.n.0) p.args.n.0 (count_at p.args.self.waiting)
+    p.plan_turn-plan.result.change
 can p =
-    let z = p.before.before.before.before.before.before.before.before.before.before.before.before.before in
-    let a = z.args in
-    can_change a.tables.now a.fetched a.t1 a.n a.monitored z.requires.0 (lengths z) p.plan-turn.result
-    p.plan-turn.ensures.0 (inside z)
-
--- the node is below 32 where its registers are written
-below : (c : tie.After-change-variable) → c.before.before.before.before.before.before.before.before.before.before.before.before.before.before.before.before.before.before.before.before.before.before.before.args.n.0 < 32
-below c = inside c.before.before.before.before.before.before.before.before.before.before.before.before.before.before.before.before.before.before.before.before.before.before.before
+    let a = p.args in
+    let known : Lengths a.self = record { positions = search rules; counts = search rules; places = search rules; beside = search rules } in
+    can_change a.tables.now a.fetched a.self a.n a.monitored p.requires.bounded_counts known p.plan_turn-plan.result
+    p.plan_turn-plan.ensures.plans_turn (among_below p.requires.among)
 
 pub plan_turn-plan-requires : goal.plan_turn-plan-requires
 plan_turn-plan-requires c = record {
       fact = c.requires.fact;
-      ready_counted = before ‹place After-plan_turn-arg4›;
+      ready_counted = before (goal.at.plan_turn-plan-requires c).Start;
       position_value = refl;
     }
 
 pub change_senders-requires : goal.change_senders-requires
 change_senders-requires c = record {
-      sender_len = ((lengths ‹place After-waiting2›).beside, (lengths ‹place After-waiting2›).counts);
-      n_bound = inside ‹place After-waiting2›;
-      possible = can ‹place After-waiting2›;
+      sender_len = ((lengths (goal.at.change_senders-requires c).Start).beside, (lengths (goal.at.change_senders-requires c).Start).counts);
+      n_bound = inside (goal.at.change_senders-requires c).Start;
+      possible = can (goal.at.change_senders-requires c).After-plan_turn-plan;
     }
 
 pub change_queues-requires : goal.change_queues-requires
 change_queues-requires c = record {
-      queue_len = ((lengths ‹place After-waiting3›).places, (lengths ‹place After-waiting3›).counts);
-      n_bound = inside ‹place After-waiting3›;
-      possible = can ‹place After-waiting3›;
+      queue_len = ((lengths (goal.at.change_queues-requires c).Start).places, (lengths (goal.at.change_queues-requires c).Start).counts);
+      n_bound = inside (goal.at.change_queues-requires c).Start;
+      possible = can (goal.at.change_queues-requires c).After-plan_turn-plan;
     }
 
 pub offset_bounds-self-i-6 : goal.offset_bounds-self-i-6
-offset_bounds-self-i-6 c = let h = below c in omega arith
+offset_bounds-self-i-6 c = let h = inside (goal.at.offset_bounds-self-i-6 c).Start in omega arith
 
 pub bounds-self-i-6 : goal.bounds-self-i-6
-bounds-self-i-6 c = let h = below c in omega arith
+bounds-self-i-6 c = let h = inside (goal.at.bounds-self-i-6 c).Start in omega arith
 
 pub offset_bounds-self-i-7 : goal.offset_bounds-self-i-7
-offset_bounds-self-i-7 c = let h = below c in omega arith
+offset_bounds-self-i-7 c = let h = inside (goal.at.offset_bounds-self-i-7 c).Start in omega arith
 
 pub bounds-self-i-7 : goal.bounds-self-i-7
-bounds-self-i-7 c = let h = below c in omega arith
+bounds-self-i-7 c = let h = inside (goal.at.bounds-self-i-7 c).Start in omega arith
 
 pub offset_bounds-self-i-8 : goal.offset_bounds-self-i-8
-offset_bounds-self-i-8 c = let h = below c in omega arith
+offset_bounds-self-i-8 c = let h = inside (goal.at.offset_bounds-self-i-8 c).Start in omega arith
 
 pub bounds-self-i-8 : goal.bounds-self-i-8
-bounds-self-i-8 c = let h = below c in omega arith
+bounds-self-i-8 c = let h = inside (goal.at.bounds-self-i-8 c).Start in omega arith
 
 pub returns : goal.returns
-returns c = carried_out c.args.tables.now c.args.fetched c.args.t1 c.args.n c.args.monitored c.requires.bounded_counts (lengths ‹place After-change_variable›) c.plan_turn-plan.result
-    c.plan_turn-plan.ensures.plans_turn (inside ‹place After-change_variable›) _ _ _ _ c.change_senders.ensures
-    c.change_queues.ensures c.change_variable.ensures (before ‹place After-change_variable›) c.plan_turn-plan.ensures.ready
+returns c = carried_out c.args.tables.now c.args.fetched c.args.self c.args.n c.args.monitored c.requires.bounded_counts (lengths (goal.at.returns c).Start) c.plan_turn-plan.result
+    c.plan_turn-plan.ensures.plans_turn (inside (goal.at.returns c).Start) _ _ _ _ c.change_senders.ensures
+    (c.change_queues.ensures.slots, c.change_queues.ensures.counts) c.change_variable.ensures (before (goal.at.returns c).Start) c.plan_turn-plan.ensures.ready
