@@ -18,7 +18,14 @@ use Rattle.printing.proofs.run_to_text.Goals as goal
 
 pub returns-then-not-has_room : goal.returns-then-not-has_room
 returns-then-not-has_room c = let full = sym c.has_room.ensures ∙ c.if-not-has_room.true in
-    (omega arith, rw full (refl, (refl, (refl, (refl, refl)))))
+    record {
+      end = omega arith;
+      answer = rw full;
+      text = rw full;
+      trace = rw full;
+      snapshot = rw full;
+      work = rw full;
+    }
 
 pub put_refusal-next-requires : goal.put_refusal-next-requires
 put_refusal-next-requires c = let room = sym c.has_room.ensures ∙ c.if-not-has_room.false in
@@ -31,7 +38,7 @@ put_ended-end-requires c = let before = buffers c.args.trace.now c.args.snapshot
     let d = delivers_by h.result before (buffers _ _ _) c.run-handed.result.answer c.run-handed.ensures.told c.run-handed.ensures.trace c.run-handed.ensures.snapshot c.run-handed.ensures.work in
     let room = sym c.has_room.ensures ∙ c.if-not-has_room.false in
     let large = leb-true (c.args.at + text_size) (length c.args.text.now) room in
-    let e = ended_as c.args.schedule c.args.monitored c.args.job.now before _ _ _ d c.answer-in-Ended-1.given.1 in
+    let e = ended_as c.args.schedule c.args.monitored c.args.job.now before _ _ _ d c.in-Ended.is in
     let short = lines-short _ _ _ _ _ _ e (λ i. omega (
       arith,
       c.slice_known-5-1.given i,
@@ -52,7 +59,7 @@ put_total-next-requires c = let before = buffers c.args.trace.now c.args.snapsho
     let d = delivers_by h.result before (buffers _ _ _) c.run-handed.result.answer c.run-handed.ensures.told c.run-handed.ensures.trace c.run-handed.ensures.snapshot c.run-handed.ensures.work in
     let room = sym c.has_room.ensures ∙ c.if-not-has_room.false in
     let large = leb-true (c.args.at + text_size) (length c.args.text.now) room in
-    let e = ended_as c.args.schedule c.args.monitored c.args.job.now before _ _ _ d c.answer-in-Ended-1.given.1 in
+    let e = ended_as c.args.schedule c.args.monitored c.args.job.now before _ _ _ d c.in-Ended.is in
     let short = lines-short _ _ _ _ _ _ e (λ i. omega (
       arith,
       c.slice_known-5-1.given i,
@@ -74,12 +81,18 @@ returns-in-Refused c = let before = buffers c.args.trace.now c.args.snapshot.now
     let h = handed_for c.args.schedule c.args.monitored c.args.job.now (sizes_of before) in
     let d = delivers_by h.result before (buffers _ _ _) c.run-handed.result.answer c.run-handed.ensures.told c.run-handed.ensures.trace c.run-handed.ensures.snapshot c.run-handed.ensures.work in
     let room = sym c.has_room.ensures ∙ c.if-not-has_room.false in
-    let same = refused-same c.args.schedule c.args.job.now h (refusal_of c.answer-1.given.0.0) (refused-result _ _ _ _ _ d c.answer-1.given.1) in
+    let same = refused-same c.args.schedule c.args.job.now h (refusal_of c.in-Refused.refusal) (refused-result _ _ _ _ _ d c.in-Refused.is) in
     let puts = rw same at c.put_refusal-next.ensures in
-    let run = rw c.answer-1.given.1 at d in (
-      omega (arith, c.put_refusal-next.ensures.place, refused-short c.answer-1.given.0.0.number c.answer-1.given.0.0.place),
-      put_as _ c.args.schedule c.args.job.now _ _ _ _ h before _ (a.Refused c.answer-1.given.0.0) room puts run,
-    )
+    let run = rw c.in-Refused.is at d in
+    let puts_all = put_as _ c.args.schedule c.args.job.now _ _ _ _ h before _ (a.Refused c.in-Refused.refusal) room puts run in
+    record {
+      end = omega (arith, c.put_refusal-next.ensures.place, refused-short c.in-Refused.refusal.number c.in-Refused.refusal.place);
+      answer = puts_all.0;
+      text = puts_all.1.0;
+      trace = puts_all.1.1.0;
+      snapshot = puts_all.1.1.1.0;
+      work = puts_all.1.1.1.1;
+    }
 
 pub returns-in-Ended : goal.returns-in-Ended
 returns-in-Ended c = let before = buffers c.args.trace.now c.args.snapshot.now c.args.work.now in
@@ -87,7 +100,7 @@ returns-in-Ended c = let before = buffers c.args.trace.now c.args.snapshot.now c
     let d = delivers_by h.result before (buffers _ _ _) c.run-handed.result.answer c.run-handed.ensures.told c.run-handed.ensures.trace c.run-handed.ensures.snapshot c.run-handed.ensures.work in
     let room = sym c.has_room.ensures ∙ c.if-not-has_room.false in
     let large = leb-true (c.args.at + text_size) (length c.args.text.now) room in
-    let e = ended_as c.args.schedule c.args.monitored c.args.job.now before _ _ _ d c.answer-in-Ended-1.given.1 in
+    let e = ended_as c.args.schedule c.args.monitored c.args.job.now before _ _ _ d c.in-Ended.is in
     let short = lines-short _ _ _ _ _ _ e (λ i. omega (
       arith,
       c.slice_known-5-1.given i,
@@ -98,7 +111,13 @@ returns-in-Ended c = let before = buffers c.args.trace.now c.args.snapshot.now c
     let more = total-short c.args.schedule c.run-handed.result.examined in
     let both = writes-on _ _ _ _ _ _ _ _ (omega (arith, large, short, more)) c.put_ended-end.ensures c.put_total-next.ensures in
     let puts = rw (lines_same _ _ _ _ _ _ e c.run-handed.result.examined c.run-handed.ensures.examined) at both in
-    let run = rw c.answer-in-Ended-1.given.1 at d in (
-      omega (arith, c.put_ended-end.ensures.place, c.put_total-next.ensures.place, short, more),
-      put_as _ c.args.schedule c.args.job.now _ _ _ _ h before _ (a.Ended c.answer-in-Ended-1.given.0.0) room puts run,
-    )
+    let run = rw c.in-Ended.is at d in
+    let puts_all = put_as _ c.args.schedule c.args.job.now _ _ _ _ h before _ (a.Ended c.in-Ended.ending) room puts run in
+    record {
+      end = omega (arith, c.put_ended-end.ensures.place, c.put_total-next.ensures.place, short, more);
+      answer = puts_all.0;
+      text = puts_all.1.0;
+      trace = puts_all.1.1.0;
+      snapshot = puts_all.1.1.1.0;
+      work = puts_all.1.1.1.1;
+    }

@@ -19,5 +19,5 @@ put_nodes-requires c = record {
 
 pub returns : goal.returns
 returns c hs = let e = rw c.entries_held-held.ensures at c.count_entries.ensures in
-    let same = same-counts (program_in c.args.tables.now hs) c.args.turns c.args.trace.now c.args.snapshot.now _ _ (e.0 hs) e.1 c.args.nodes c.requires in
+    let same = same-counts (program_in c.args.tables.now hs) c.args.turns c.args.trace.now c.args.snapshot.now _ _ (e.received hs) e.taken c.args.nodes c.requires in
     rw same at (c.put_nodes.ensures hs)

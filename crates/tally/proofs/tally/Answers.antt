@@ -18,7 +18,7 @@ put_counts-requires c = let job = is-accepted _ _ _ c.decode-verdict.ensures.jud
 
 pub returns-in-Refused : goal.returns-in-Refused
 returns-in-Refused c = let same = is-refused _ _ _ _ c.decode-verdict.ensures.judged c.in-Refused.is in
-    rw same (refl, refl)
+    rw same (record { told = refl; counts = refl })
 
 pub returns-in-Accepted : goal.returns-in-Accepted
 returns-in-Accepted c = let job = is-accepted _ _ _ c.decode-verdict.ensures.judged c.in-Accepted.is in

@@ -5,7 +5,7 @@ use Rattle.transparency.proofs.run_both.Goals as goal
 
 pub returns : goal.returns
 returns c = let m = call (buffers c.args.trace.now c.args.snapshot.now c.args.work.now) (buffers _ _ _) _ in
-    let u = call (buffers c.args.unmonitored-trace.now c.args.unmonitored-snapshot.now c.args.unmonitored-work.now) (buffers _ _ _) _ in
+    let u = call (buffers c.args.unmonitored_trace.now c.args.unmonitored_snapshot.now c.args.unmonitored_work.now) (buffers _ _ _) _ in
     let gm : Monitored c.args.job.now m = record {
       told = c.run_monitored-monitored.ensures.told;
       left = record

@@ -9,8 +9,8 @@ use Rattle.lines.proofs.Texts.{variable-same}
 use Rattle.lines.proofs.snapshot.put_variable_lines.Given as goal
 
 abbrev pub invariant-loop-x : goal.invariant-loop-x
-invariant-loop-x l = (x ≤ l.variables) × Put
-    (variable_line l.snapshot l.place) l.initial.text l.at x l.next l.x
+invariant-loop-x l = (l.x ≤ l.variables) × Put
+    (variable_line l.snapshot l.place) l.initial.text l.at l.x l.text l.next
 
 abbrev pub decreases-loop-x : goal.decreases-loop-x
-decreases-loop-x l = l.variables - x
+decreases-loop-x l = l.variables - l.x

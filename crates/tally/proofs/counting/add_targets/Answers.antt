@@ -10,48 +10,48 @@ use Rattle.memory.proofs.Sending.{Ahead, ahead-first, ahead-inside, ahead-one, a
 use Rattle.memory.proofs.Sending.{counted-later}
 use Rattle.tally.proofs.Adding.{adds_targets}
 use Rattle.tally.proofs.counting.add_targets.Goals as goal
+use Rattle.tally.proofs.counting.add_targets.Goals.{In-loop-ahead, then-ahead-eq1, else-ahead-eq1}
 
 -- while one is ahead: its number, and the count there
-here : (c : lts.In-loop reads.Pre reads.Post invariant-loop decreases-loop)
-    → (c.before.loop.target < 32) × (get_or c.before.loop.counts c.before.loop.target 0 < 2 ^ 63)
+here : (c : In-loop-ahead) → (c.loop-ahead.target < 32) × (get_or c.loop-ahead.counts c.loop-ahead.target 0 < 2 ^ 63)
 here c =
-    let z = c.before.before in
-    let l = c.before.loop in
-    let inside = ahead-inside l.invariant.0 (omega (arith, c.loop-test.true)) in
-    let same = counted-later (bit_of z.args.targets) z.args.counts.now l.target l.target (omega arith) in
-    (inside, rw (l.invariant.1, same) (z.requires.1 l.target inside))
+    let l = c.loop-ahead in
+    let inside = ahead-inside l.invariant.0 (omega (arith, c.loop-ahead-test.true)) in
+    let same = counted-later (bit_of c.args.targets) c.args.counts.now l.target l.target (omega arith) in
+    (inside, rw (l.invariant.1, same) (c.requires.by_index l.target inside))
 
 pub loop-ahead-init : goal.loop-ahead-init
 unfolding counted
 loop-ahead-init c = (ahead-first c.args.targets (search rules), refl)
 
 pub offset_bounds-counts-target : goal.offset_bounds-counts-target
-offset_bounds-counts-target c = let h = here ‹place Then1› in search rules
+offset_bounds-counts-target c = let h = here (goal.at.offset_bounds-counts-target c).In-loop-ahead in search rules
 
 pub bounds-counts-target : goal.bounds-counts-target
-bounds-counts-target c = let h = here ‹place After-way_told› in search rules
+bounds-counts-target c = let h = here (goal.at.bounds-counts-target c).In-loop-ahead in search rules
 
 pub overflow_add-counts : goal.overflow_add-counts
-overflow_add-counts c = let h = here ‹place After-count› in omega (arith, h.1)
+overflow_add-counts c = let h = here (goal.at.overflow_add-counts c).In-loop-ahead in omega (arith, h.1)
 
 pub offset_bounds-counts-target-then-ahead-eq1 : goal.offset_bounds-counts-target-then-ahead-eq1
-offset_bounds-counts-target-then-ahead-eq1 c = let h = here ‹place After-count› in search rules
+offset_bounds-counts-target-then-ahead-eq1 c = let h = here (goal.at.offset_bounds-counts-target-then-ahead-eq1 c).In-loop-ahead in search rules
 
 pub bounds-counts-target-then-ahead-eq1 : goal.bounds-counts-target-then-ahead-eq1
-bounds-counts-target-then-ahead-eq1 c = let h = here ‹place After-count› in search rules
+bounds-counts-target-then-ahead-eq1 c = let h = here (goal.at.bounds-counts-target-then-ahead-eq1 c).In-loop-ahead in search rules
 
 pub overflow_add-target : goal.overflow_add-target
-overflow_add-target c = let h = here ‹place Joined1› in omega (arith, h.0)
+overflow_add-target c = let h = here (goal.at.overflow_add-target c).In-loop-ahead in omega (arith, h.0)
 
 pub loop-ahead-preserved : goal.loop-ahead-preserved
-loop-ahead-preserved c = let inside = (here ‹place Joined1›).0 in
+loop-ahead-preserved c = let inside = (here (goal.at.loop-ahead-preserved c).In-loop-ahead).0 in
     let count : get_or c.loop-ahead.counts c.loop-ahead.target 0 ≡ get_or c.args.counts.now c.loop-ahead.target 0 =
     rw c.loop-ahead.invariant.1 (counted-later (bit_of c.args.targets) c.args.counts.now c.loop-ahead.target c.loop-ahead.target (omega arith)) in
-    ⊎_elim
-    (λ w.
-    rw (w.2, count) (ahead-next c.loop-ahead.invariant.0 inside, rw c.loop-ahead.invariant.1 (counted_target (bit_of c.args.targets) c.args.counts.now c.loop-ahead.target (ahead-one c.loop-ahead.invariant.0 w.0.taken))))
-    (λ w. rw w.1 (ahead-next c.loop-ahead.invariant.0 inside, c.loop-ahead.invariant.1 ∙ counted-other (bit_of c.args.targets) c.args.counts.now c.loop-ahead.target (ahead-other c.loop-ahead.invariant.0 w.0.left)))
-    c.if-ahead-eq1.branch
+    elim c.if-ahead-eq1.branch [
+      then-ahead-eq1 w ↦
+        rw (w.counts-is, count) (ahead-next c.loop-ahead.invariant.0 inside, rw c.loop-ahead.invariant.1 (counted_target (bit_of c.args.targets) c.args.counts.now c.loop-ahead.target (ahead-one c.loop-ahead.invariant.0 w.if-ahead-eq1.true)))
+    | else-ahead-eq1 w ↦
+        rw w.counts-is (ahead-next c.loop-ahead.invariant.0 inside, c.loop-ahead.invariant.1 ∙ counted-other (bit_of c.args.targets) c.args.counts.now c.loop-ahead.target (ahead-other c.loop-ahead.invariant.0 w.if-ahead-eq1.false))
+    ]
 
 pub returns : goal.returns
 returns c = adds_targets c.args.targets c.loop-ahead.target c.loop-ahead.ahead c.args.counts.now c.loop-ahead.counts c.requires.counts_len c.loop-ahead.invariant.0

@@ -46,4 +46,4 @@ loop-k-preserved c = let entries = entry_from c.args.trace.now in (
 
 pub returns : goal.returns
 returns c = let all : c.loop-k.k ≡ c.args.turns = omega (arith, c.loop-k.invariant.2, c.loop-k-test.false) in
-    rw (← all) (c.loop-k.invariant.0, c.loop-k.invariant.1)
+    rw (← all) (record { received = c.loop-k.invariant.0; taken = c.loop-k.invariant.1 })
