@@ -17,17 +17,17 @@ overflow_add-examined c = omega (arith, c.loop-n.invariant.more, c.requires.node
 
 pub is_ready-requires : goal.is_ready-requires
 is_ready-requires c = omega (
-      arith,
-      searched_inside c.args.position.now c.args.waiting.now c.args.nodes c.args.from c.requires.nodes_bound.1 c.loop-n.n c.loop-n.examined c.loop-n.invariant,
-      c.requires.nodes_bound.0,
-    )
+  arith,
+  searched_inside c.args.position.now c.args.waiting.now c.args.nodes c.args.from c.requires.nodes_bound.1 c.loop-n.n c.loop-n.examined c.loop-n.invariant,
+  c.requires.nodes_bound.0,
+)
 
 pub overflow_add-n : goal.overflow_add-n
 overflow_add-n c = omega (
-      arith,
-      searched_inside c.args.position.now c.args.waiting.now c.args.nodes c.args.from c.requires.nodes_bound.1 c.loop-n.n c.loop-n.examined c.loop-n.invariant,
-      c.requires.nodes_bound.0,
-    )
+  arith,
+  searched_inside c.args.position.now c.args.waiting.now c.args.nodes c.args.from c.requires.nodes_bound.1 c.loop-n.n c.loop-n.examined c.loop-n.invariant,
+  c.requires.nodes_bound.0,
+)
 
 pub loop-n-smaller : goal.loop-n-smaller
 loop-n-smaller c = omega (arith, c.loop-n.invariant.more)

@@ -5,9 +5,9 @@ use Rattle.job.proofs.judge_commands.Goals as goal
 
 pub walk-walked-requires : goal.walk-walked-requires
 walk-walked-requires c = record {
-      tables_len = c.requires;
-      uses = uses-none;
-    }
+  tables_len = c.requires;
+  uses = uses-none;
+}
 
 pub returns-in-Refused : goal.returns-in-Refused
 returns-in-Refused c = refused-early _ _ _ (is-refused _ _ _ _ c.walk-walked.ensures.verdicts c.in-Refused.is)

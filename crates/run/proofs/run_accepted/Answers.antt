@@ -9,10 +9,10 @@ load-requires c = may_load _ _ _ _ c.requires
 
 pub run_turns-made-requires : goal.run_turns-made-requires
 run_turns-made-requires c = record {
-      loaded = is-ready _ _ _ _ c.requires c.args.work.now _ (work-fits _ _ _ _ c.requires) c.load.ensures;
-      schedule_value = good-budget _ _ _ _ c.requires;
-      tables_in_bounds = (trace-fits _ _ _ _ c.requires, snapshot-fits _ _ _ _ c.requires);
-    }
+  loaded = is-ready _ _ _ _ c.requires c.args.work.now _ (work-fits _ _ _ _ c.requires) c.load.ensures;
+  schedule_value = good-budget _ _ _ _ c.requires;
+  tables_in_bounds = (trace-fits _ _ _ _ c.requires, snapshot-fits _ _ _ _ c.requires);
+}
 
 pub put_zeros-requires : goal.put_zeros-requires
 put_zeros-requires c = omega (arith, work-fits _ _ _ _ c.requires)

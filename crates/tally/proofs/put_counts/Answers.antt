@@ -7,15 +7,15 @@ use Rattle.tally.proofs.put_counts.Goals as goal
 
 pub count_entries-requires : goal.count_entries-requires
 count_entries-requires c = record {
-      turns_in_bounds = omega (arith, c.entries_held-held.ensures, held_fits c.args.turns c.args.trace.now);
-      numbered = (counts_zeros, counts_zeros);
-    }
+  turns_in_bounds = omega (arith, c.entries_held-held.ensures, held_fits c.args.turns c.args.trace.now);
+  numbered = (counts_zeros, counts_zeros);
+}
 
 pub put_nodes-requires : goal.put_nodes-requires
 put_nodes-requires c = record {
-      nodes_le_max_nodes = (c.requires, search (rules, arith, c.put_nodes-arg-1.given));
-      arrivals_len = ((c.count_entries.ensures.received (λ n. [])).size, c.count_entries.ensures.taken.size);
-    }
+  nodes_le_max_nodes = (c.requires, search (rules, arith, c.put_nodes-arg-1.given));
+  arrivals_len = ((c.count_entries.ensures.received (λ n. [])).size, c.count_entries.ensures.taken.size);
+}
 
 pub returns : goal.returns
 returns c hs = let e = rw c.entries_held-held.ensures at c.count_entries.ensures in

@@ -34,10 +34,10 @@ loop-k-init c = λ ready.
 
 pub choice_of-choice-requires : goal.choice_of-choice-requires
 choice_of-choice-requires c = record {
-      tables_bound = nodes-few c.args.schedule c.args.monitored c.args.job.now c.args.tables.now c.args.work.now c.requires.loaded c.requires.schedule_value;
-      from_bound = from_low c.args.schedule c.args.monitored c.args.job.now c.args.tables.now c.args.work.now c.requires.loaded c.requires.schedule_value _ c.loop-k.s c.loop-k.trace c.loop-k.examined c.loop-k.from c.loop-k.at c.loop-k.k (underway (goal.at.choice_of-choice-requires c).In-loop-k c.requires.loaded) (more (goal.at.choice_of-choice-requires c).In-loop-k c.requires.loaded);
-      ready_value = ready-counted c.args.schedule c.args.monitored c.args.job.now c.args.tables.now c.args.work.now c.requires.loaded c.requires.schedule_value _ c.loop-k.s c.loop-k.trace c.loop-k.examined c.loop-k.from c.loop-k.at c.loop-k.k (underway (goal.at.choice_of-choice-requires c).In-loop-k c.requires.loaded) (more (goal.at.choice_of-choice-requires c).In-loop-k c.requires.loaded);
-    }
+  tables_bound = nodes-few c.args.schedule c.args.monitored c.args.job.now c.args.tables.now c.args.work.now c.requires.loaded c.requires.schedule_value;
+  from_bound = from_low c.args.schedule c.args.monitored c.args.job.now c.args.tables.now c.args.work.now c.requires.loaded c.requires.schedule_value _ c.loop-k.s c.loop-k.trace c.loop-k.examined c.loop-k.from c.loop-k.at c.loop-k.k (underway (goal.at.choice_of-choice-requires c).In-loop-k c.requires.loaded) (more (goal.at.choice_of-choice-requires c).In-loop-k c.requires.loaded);
+  ready_value = ready-counted c.args.schedule c.args.monitored c.args.job.now c.args.tables.now c.args.work.now c.requires.loaded c.requires.schedule_value _ c.loop-k.s c.loop-k.trace c.loop-k.examined c.loop-k.from c.loop-k.at c.loop-k.k (underway (goal.at.choice_of-choice-requires c).In-loop-k c.requires.loaded) (more (goal.at.choice_of-choice-requires c).In-loop-k c.requires.loaded);
+}
 
 pub overflow_add-examined : goal.overflow_add-examined
 overflow_add-examined c = let few = nobody-few c.args.schedule c.args.monitored c.args.job.now c.args.tables.now c.args.work.now c.requires.loaded
@@ -71,48 +71,48 @@ overflow_add-examined-in-Chosen c = let few = chosen-few c.args.schedule c.args.
 
 pub overflow_add-from : goal.overflow_add-from
 overflow_add-from c = omega (
-      arith,
-      node-inside c.args.schedule c.args.monitored c.args.job.now c.args.tables.now c.args.work.now
-          c.requires.loaded c.requires.schedule_value _ c.loop-k.s c.loop-k.trace c.loop-k.examined c.loop-k.from c.loop-k.at c.loop-k.k (underway (goal.at.overflow_add-from c).In-loop-k c.requires.loaded) (more (goal.at.overflow_add-from c).In-loop-k c.requires.loaded) _ _ (rw c.in-Chosen.is at c.choice_of-choice.ensures),
-    )
+  arith,
+  node-inside c.args.schedule c.args.monitored c.args.job.now c.args.tables.now c.args.work.now
+      c.requires.loaded c.requires.schedule_value _ c.loop-k.s c.loop-k.trace c.loop-k.examined c.loop-k.from c.loop-k.at c.loop-k.k (underway (goal.at.overflow_add-from c).In-loop-k c.requires.loaded) (more (goal.at.overflow_add-from c).In-loop-k c.requires.loaded) _ _ (rw c.in-Chosen.is at c.choice_of-choice.ensures),
+)
 
 pub bounds-s-i : goal.bounds-s-i
 bounds-s-i c = omega (
-      arith,
-      node-inside c.args.schedule c.args.monitored c.args.job.now c.args.tables.now c.args.work.now
-          c.requires.loaded c.requires.schedule_value _ c.loop-k.s c.loop-k.trace c.loop-k.examined c.loop-k.from c.loop-k.at c.loop-k.k (underway (goal.at.bounds-s-i c).In-loop-k c.requires.loaded) (more (goal.at.bounds-s-i c).In-loop-k c.requires.loaded) _ _ (rw c.in-Chosen.is at c.choice_of-choice.ensures),
-    )
+  arith,
+  node-inside c.args.schedule c.args.monitored c.args.job.now c.args.tables.now c.args.work.now
+      c.requires.loaded c.requires.schedule_value _ c.loop-k.s c.loop-k.trace c.loop-k.examined c.loop-k.from c.loop-k.at c.loop-k.k (underway (goal.at.bounds-s-i c).In-loop-k c.requires.loaded) (more (goal.at.bounds-s-i c).In-loop-k c.requires.loaded) _ _ (rw c.in-Chosen.is at c.choice_of-choice.ensures),
+)
 
 pub turn-turned-requires : goal.turn-turned-requires
 turn-turned-requires c = record {
-      bounded_counts = (underway (goal.at.turn-turned-requires c).In-loop-k c.requires.loaded).bounded;
-      among = node-among c.args.schedule c.args.monitored c.args.job.now c.args.tables.now c.args.work.now c.requires.loaded c.requires.schedule_value _ c.loop-k.s c.loop-k.trace c.loop-k.examined c.loop-k.from c.loop-k.at c.loop-k.k (underway (goal.at.turn-turned-requires c).In-loop-k c.requires.loaded) (more (goal.at.turn-turned-requires c).In-loop-k c.requires.loaded) _ _
-            (rw c.in-Chosen.is at c.choice_of-choice.ensures);
-      fact = c.fetch-fetched.ensures.countable;
-      counts_ready = counts-ready c.args.schedule c.args.monitored c.args.job.now c.args.tables.now c.args.work.now c.requires.loaded c.requires.schedule_value _ c.loop-k.s c.loop-k.trace c.loop-k.examined c.loop-k.from c.loop-k.at c.loop-k.k (underway (goal.at.turn-turned-requires c).In-loop-k c.requires.loaded) (more (goal.at.turn-turned-requires c).In-loop-k c.requires.loaded);
-    }
+  bounded_counts = (underway (goal.at.turn-turned-requires c).In-loop-k c.requires.loaded).bounded;
+  among = node-among c.args.schedule c.args.monitored c.args.job.now c.args.tables.now c.args.work.now c.requires.loaded c.requires.schedule_value _ c.loop-k.s c.loop-k.trace c.loop-k.examined c.loop-k.from c.loop-k.at c.loop-k.k (underway (goal.at.turn-turned-requires c).In-loop-k c.requires.loaded) (more (goal.at.turn-turned-requires c).In-loop-k c.requires.loaded) _ _
+      (rw c.in-Chosen.is at c.choice_of-choice.ensures);
+  fact = c.fetch-fetched.ensures.countable;
+  counts_ready = counts-ready c.args.schedule c.args.monitored c.args.job.now c.args.tables.now c.args.work.now c.requires.loaded c.requires.schedule_value _ c.loop-k.s c.loop-k.trace c.loop-k.examined c.loop-k.from c.loop-k.at c.loop-k.k (underway (goal.at.turn-turned-requires c).In-loop-k c.requires.loaded) (more (goal.at.turn-turned-requires c).In-loop-k c.requires.loaded);
+}
 
 pub put_entry-at-requires : goal.put_entry-at-requires
 put_entry-at-requires c = (
-      omega (
-        arith,
-        more (goal.at.put_entry-at-requires c).In-loop-k c.requires.loaded,
-        (underway (goal.at.put_entry-at-requires c).In-loop-k c.requires.loaded).place,
-        (underway (goal.at.put_entry-at-requires c).In-loop-k c.requires.loaded).size,
-        c.requires.tables_in_bounds.0,
-        turns_by_lem c.args.schedule c.args.monitored c.args.job.now c.args.tables.now c.args.work.now c.requires.loaded c.requires.schedule_value,
-      ),
-      subst Narrow (sym c.numbers_of.ensures)
-          (made_narrow c.args.schedule c.args.monitored c.args.job.now c.args.tables.now c.args.work.now c.requires.loaded
-          c.requires.schedule_value _ c.loop-k.s c.loop-k.trace c.loop-k.examined c.loop-k.from c.loop-k.at c.loop-k.k (underway (goal.at.put_entry-at-requires c).In-loop-k c.requires.loaded) (more (goal.at.put_entry-at-requires c).In-loop-k c.requires.loaded) _ _ (rw c.in-Chosen.is at c.choice_of-choice.ensures) c.fetch-fetched.result c.fetch-fetched.ensures.fetched c.turn-turned.result c.turn-turned.ensures _ c.in-Made.is),
-    )
+  omega (
+    arith,
+    more (goal.at.put_entry-at-requires c).In-loop-k c.requires.loaded,
+    (underway (goal.at.put_entry-at-requires c).In-loop-k c.requires.loaded).place,
+    (underway (goal.at.put_entry-at-requires c).In-loop-k c.requires.loaded).size,
+    c.requires.tables_in_bounds.0,
+    turns_by_lem c.args.schedule c.args.monitored c.args.job.now c.args.tables.now c.args.work.now c.requires.loaded c.requires.schedule_value,
+  ),
+  subst Narrow (sym c.numbers_of.ensures)
+      (made_narrow c.args.schedule c.args.monitored c.args.job.now c.args.tables.now c.args.work.now c.requires.loaded
+      c.requires.schedule_value _ c.loop-k.s c.loop-k.trace c.loop-k.examined c.loop-k.from c.loop-k.at c.loop-k.k (underway (goal.at.put_entry-at-requires c).In-loop-k c.requires.loaded) (more (goal.at.put_entry-at-requires c).In-loop-k c.requires.loaded) _ _ (rw c.in-Chosen.is at c.choice_of-choice.ensures) c.fetch-fetched.result c.fetch-fetched.ensures.fetched c.turn-turned.result c.turn-turned.ensures _ c.in-Made.is),
+)
 
 pub overflow_add-k : goal.overflow_add-k
 overflow_add-k c = omega (
-      arith,
-      more (goal.at.overflow_add-k c).In-loop-k c.requires.loaded,
-      turns-few c.args.schedule c.args.monitored c.args.job.now c.args.tables.now c.args.work.now c.requires.loaded c.requires.schedule_value,
-    )
+  arith,
+  more (goal.at.overflow_add-k c).In-loop-k c.requires.loaded,
+  turns-few c.args.schedule c.args.monitored c.args.job.now c.args.tables.now c.args.work.now c.requires.loaded c.requires.schedule_value,
+)
 
 pub loop-k-smaller-in-Made : goal.loop-k-smaller-in-Made
 loop-k-smaller-in-Made c = omega (arith, c.loop-k-test.true)

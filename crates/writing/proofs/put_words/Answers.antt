@@ -10,12 +10,12 @@ loop-i-init c = (omega arith, none_written _ _ _)
 
 pub loop-i-preserved : goal.loop-i-preserved
 loop-i-preserved c = (
-      omega (arith, c.loop-i-test.true),
-      one_written _ _ _ c.loop-i.i c.loop-i.buffer c.loop-i.next _ _
-          (omega (arith, c.loop-i-test.true, c.requires.1))
-          (omega (arith, c.loop-i-test.true, c.requires.0)) (search rules) c.loop-i.invariant.1
-          c.put_word-next.ensures,
-    )
+  omega (arith, c.loop-i-test.true),
+  one_written _ _ _ c.loop-i.i c.loop-i.buffer c.loop-i.next _ _
+      (omega (arith, c.loop-i-test.true, c.requires.1))
+      (omega (arith, c.loop-i-test.true, c.requires.0)) (search rules) c.loop-i.invariant.1
+      c.put_word-next.ensures,
+)
 
 pub returns : goal.returns
 returns c = let e : c.loop-i.i ≡ c.args.count = omega (arith, c.loop-i.invariant.0, c.loop-i-test.false) in

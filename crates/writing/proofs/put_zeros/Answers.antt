@@ -15,14 +15,14 @@ loop-at-smaller c = omega (arith, c.put_byte-at.ensures.place, c.loop-at-test.tr
 
 pub loop-at-preserved : goal.loop-at-preserved
 loop-at-preserved c = (
-      omega (arith, c.put_byte-at.ensures.place, c.loop-at-test.true),
-      search rules,
-      zeros_on _ c.loop-at.at c.loop-at.buffer _ _ (omega (
-        arith,
-        c.loop-at-test.true,
-        c.requires,
-      )) c.loop-at.invariant.2 c.put_byte-at.ensures,
-    )
+  omega (arith, c.put_byte-at.ensures.place, c.loop-at-test.true),
+  search rules,
+  zeros_on _ c.loop-at.at c.loop-at.buffer _ _ (omega (
+    arith,
+    c.loop-at-test.true,
+    c.requires,
+  )) c.loop-at.invariant.2 c.put_byte-at.ensures,
+)
 
 pub returns : goal.returns
 returns c = let e : c.loop-at.at ≡ c.args.count = omega (arith, c.loop-at.invariant.0, c.loop-at-test.false) in

@@ -16,8 +16,7 @@ pub returns-in-Refused : goal.returns-in-Refused
 returns-in-Refused c = extends_refused _ _ _ _ c.extent_of-extent.ensures c.in-Refused.is
 
 pub returns-in-Whole : goal.returns-in-Whole
-returns-in-Whole c = let reach = extends_known _ _ _ _ _ c.extent_of-extent.ensures c.in-Whole.is in
-    (
-      read_all _ _ _ _ reach _ c.unpack-shape.ensures _ _ c.operand-first.ensures (c.read_others-others.ensures ∙ ap (others_at _ _) (sym c.unpack-shape.ensures)),
-      read_known _ _ _ _ reach _ c.unpack-shape.ensures _ c.read_others-others.result,
-    )
+returns-in-Whole c = let reach = extends_known _ _ _ _ _ c.extent_of-extent.ensures c.in-Whole.is in (
+  read_all _ _ _ _ reach _ c.unpack-shape.ensures _ _ c.operand-first.ensures (c.read_others-others.ensures ∙ ap (others_at _ _) (sym c.unpack-shape.ensures)),
+  read_known _ _ _ _ reach _ c.unpack-shape.ensures _ c.read_others-others.result,
+)

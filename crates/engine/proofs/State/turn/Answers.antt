@@ -35,24 +35,24 @@ can p =
 
 pub plan_turn-plan-requires : goal.plan_turn-plan-requires
 plan_turn-plan-requires c = record {
-      fact = c.requires.fact;
-      ready_counted = before (goal.at.plan_turn-plan-requires c).Start;
-      position_value = refl;
-    }
+  fact = c.requires.fact;
+  ready_counted = before (goal.at.plan_turn-plan-requires c).Start;
+  position_value = refl;
+}
 
 pub change_senders-requires : goal.change_senders-requires
 change_senders-requires c = record {
-      sender_len = ((lengths (goal.at.change_senders-requires c).Start).beside, (lengths (goal.at.change_senders-requires c).Start).counts);
-      n_bound = inside (goal.at.change_senders-requires c).Start;
-      possible = can (goal.at.change_senders-requires c).After-plan_turn-plan;
-    }
+  sender_len = ((lengths (goal.at.change_senders-requires c).Start).beside, (lengths (goal.at.change_senders-requires c).Start).counts);
+  n_bound = inside (goal.at.change_senders-requires c).Start;
+  possible = can (goal.at.change_senders-requires c).After-plan_turn-plan;
+}
 
 pub change_queues-requires : goal.change_queues-requires
 change_queues-requires c = record {
-      queue_len = ((lengths (goal.at.change_queues-requires c).Start).places, (lengths (goal.at.change_queues-requires c).Start).counts);
-      n_bound = inside (goal.at.change_queues-requires c).Start;
-      possible = can (goal.at.change_queues-requires c).After-plan_turn-plan;
-    }
+  queue_len = ((lengths (goal.at.change_queues-requires c).Start).places, (lengths (goal.at.change_queues-requires c).Start).counts);
+  n_bound = inside (goal.at.change_queues-requires c).Start;
+  possible = can (goal.at.change_queues-requires c).After-plan_turn-plan;
+}
 
 pub offset_bounds-self-i-6 : goal.offset_bounds-self-i-6
 offset_bounds-self-i-6 c = let h = inside (goal.at.offset_bounds-self-i-6 c).Start in omega arith

@@ -5,9 +5,9 @@ use Rattle.job.proofs.walk.advance.Goals as goal
 
 pub admit-requires : goal.admit-requires
 admit-requires c = record {
-      at_in_bounds = c.requires;
-      at_value = reads_whole _ _ _ _ _ c.read_command-read.ensures c.in-Whole.is;
-    }
+  at_in_bounds = c.requires;
+  at_value = reads_whole _ _ _ _ _ c.read_command-read.ensures c.in-Whole.is;
+}
 
 pub returns-in-Refused : goal.returns-in-Refused
 returns-in-Refused c = λ past stands uses valid short.

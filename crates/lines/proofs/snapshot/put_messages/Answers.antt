@@ -22,10 +22,10 @@ put_fields-next-requires c = rw (c.operand-message.ensures, c.operand-sender.ens
 
 pub loop-i-preserved : goal.loop-i-preserved
 loop-i-preserved c = (
-      search rules,
-      one-put _ _ _ _ (rw messages-each c.requires.count_in_bounds_2) c.loop-i.i c.loop-i-test.true _ _ c.loop-i.invariant.1 _ _
-          (rw (c.operand-message.ensures, c.operand-sender.ensures) at c.put_fields-next.ensures),
-    )
+  search rules,
+  one-put _ _ _ _ (rw messages-each c.requires.count_in_bounds_2) c.loop-i.i c.loop-i-test.true _ _ c.loop-i.invariant.1 _ _
+      (rw (c.operand-message.ensures, c.operand-sender.ensures) at c.put_fields-next.ensures),
+)
 
 pub returns : goal.returns
 returns c = rw messages-each at (all-put _ _ _ _ c.loop-i.i _ _ c.loop-i.invariant.0 c.loop-i-test.false c.loop-i.invariant.1)

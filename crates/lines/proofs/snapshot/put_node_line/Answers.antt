@@ -29,11 +29,11 @@ put_fields-messages-requires c = five-room c.args.snapshot.now c.args.place c.ar
 
 pub put_messages-end-requires : goal.put_messages-end-requires
 put_messages-end-requires c = record {
-      count_in_bounds = omega (arith, c.requires.place_in_bounds, c.operand-waiting.ensures);
-      count_in_bounds_2 = messages-room c.args.snapshot.now c.args.place c.args.n c.requires.place_value _ _ _ _
-          c.operand-position.ensures c.operand-accumulator.ensures c.operand-message.ensures c.operand-waiting.ensures c.args.text.now c.args.at
-          c.requires.n_in_bounds _ _ c.put-first.ensures _ _ c.put_fields-messages.ensures;
-    }
+  count_in_bounds = omega (arith, c.requires.place_in_bounds, c.operand-waiting.ensures);
+  count_in_bounds_2 = messages-room c.args.snapshot.now c.args.place c.args.n c.requires.place_value _ _ _ _
+      c.operand-position.ensures c.operand-accumulator.ensures c.operand-message.ensures c.operand-waiting.ensures c.args.text.now c.args.at
+      c.requires.n_in_bounds _ _ c.put-first.ensures _ _ c.put_fields-messages.ensures;
+}
 
 pub put_byte-requires : goal.put_byte-requires
 put_byte-requires c = end_room c.args.snapshot.now c.args.place c.args.n c.requires.place_value _ _ _ _

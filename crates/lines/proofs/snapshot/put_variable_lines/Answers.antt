@@ -21,10 +21,10 @@ put_line-next-requires c = rw (variable-same _ _ c.loop-x.x _ c.operand-value.en
 
 pub loop-x-preserved : goal.loop-x-preserved
 loop-x-preserved c = (
-      search rules,
-      one-put _ _ _ _ c.requires.variables_in_bounds_2 c.loop-x.x c.loop-x-test.true _ _ c.loop-x.invariant.1 _ _
-          (rw (variable-same _ _ c.loop-x.x _ c.operand-value.ensures) c.put_line-next.ensures),
-    )
+  search rules,
+  one-put _ _ _ _ c.requires.variables_in_bounds_2 c.loop-x.x c.loop-x-test.true _ _ c.loop-x.invariant.1 _ _
+      (rw (variable-same _ _ c.loop-x.x _ c.operand-value.ensures) c.put_line-next.ensures),
+)
 
 pub returns : goal.returns
 returns c = all-put _ _ _ _ c.loop-x.x _ _ c.loop-x.invariant.0 c.loop-x-test.false c.loop-x.invariant.1

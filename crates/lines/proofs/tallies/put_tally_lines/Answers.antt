@@ -15,10 +15,10 @@ put_line-next-requires c = rw (tally-same c.loop-n.n (four_at c.args.counts.now 
 
 pub loop-n-preserved : goal.loop-n-preserved
 loop-n-preserved c = (
-      search rules,
-      one-put _ _ _ _ c.requires.nodes_in_bounds_2 c.loop-n.n c.loop-n-test.true _ _ c.loop-n.invariant.1 _ _
-          (rw (tally-same c.loop-n.n (four_at c.args.counts.now c.loop-n.n)) c.put_line-next.ensures),
-    )
+  search rules,
+  one-put _ _ _ _ c.requires.nodes_in_bounds_2 c.loop-n.n c.loop-n-test.true _ _ c.loop-n.invariant.1 _ _
+      (rw (tally-same c.loop-n.n (four_at c.args.counts.now c.loop-n.n)) c.put_line-next.ensures),
+)
 
 pub returns : goal.returns
 returns c = all-put _ _ _ _ c.loop-n.n _ _ c.loop-n.invariant.0 c.loop-n-test.false c.loop-n.invariant.1

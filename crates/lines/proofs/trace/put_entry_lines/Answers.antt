@@ -10,17 +10,17 @@ loop-k-init c = (omega arith, none-put _ _ _)
 
 pub put_entry_line-next-requires : goal.put_entry_line-next-requires
 put_entry_line-next-requires c = record {
-      k_in_bounds = omega (arith, c.requires.turns_in_bounds, c.loop-k-test.true);
-      k_in_bounds_2 = room _ _ _ _
-          c.requires.turns_in_bounds_2 c.loop-k.k c.loop-k-test.true _ _ c.loop-k.invariant.1;
-    }
+  k_in_bounds = omega (arith, c.requires.turns_in_bounds, c.loop-k-test.true);
+  k_in_bounds_2 = room _ _ _ _
+      c.requires.turns_in_bounds_2 c.loop-k.k c.loop-k-test.true _ _ c.loop-k.invariant.1;
+}
 
 pub loop-k-preserved : goal.loop-k-preserved
 loop-k-preserved c = (
-      search rules,
-      one-put _ _ _ _ c.requires.turns_in_bounds_2 c.loop-k.k
-          c.loop-k-test.true _ _ c.loop-k.invariant.1 _ _ c.put_entry_line-next.ensures,
-    )
+  search rules,
+  one-put _ _ _ _ c.requires.turns_in_bounds_2 c.loop-k.k
+      c.loop-k-test.true _ _ c.loop-k.invariant.1 _ _ c.put_entry_line-next.ensures,
+)
 
 pub returns : goal.returns
 returns c = all-put _ _ _ _ c.loop-k.k _ _ c.loop-k.invariant.0 c.loop-k-test.false c.loop-k.invariant.1

@@ -16,10 +16,10 @@ use Rattle.memory.proofs.queues.deliver.Goals.{then-targets-eq1, else-targets-eq
 pub loop-targets-init : goal.loop-targets-init
 unfolding counted
 loop-targets-init c = (
-      storing_none (wired_in c.args.tables.now c.args.n.0 c.args.port) _ _ c.targets_of-targets.ensures _ _ (search rules)
-          c.requires.waiting_value,
-      refl,
-    )
+  storing_none (wired_in c.args.tables.now c.args.n.0 c.args.port) _ _ c.targets_of-targets.ensures _ _ (search rules)
+      c.requires.waiting_value,
+  refl,
+)
 
 pub bounds-waiting-target : goal.bounds-waiting-target
 bounds-waiting-target c = let h = storing_room c.loop-targets.invariant.0 (omega (arith, c.loop-targets-test.true)) c.if-targets-eq1.true in
@@ -61,12 +61,12 @@ loop-targets-preserved c = let more : 0 < c.loop-targets.targets = omega (arith,
     let count : get_or c.loop-targets.waiting c.loop-targets.target 0 ≡ get_or c.args.waiting.now c.loop-targets.target 0 =
     rw c.loop-targets.invariant.1 (counted-later (bit_of c.targets_of-targets.result) c.args.waiting.now c.loop-targets.target c.loop-targets.target (omega arith)) in
     elim c.if-targets-eq1.branch [
-      then-targets-eq1 w ↦
-        rw (w.queue-is, w.waiting-is, count)
-        (storing_target c.loop-targets.invariant.0 more w.if-targets-eq1.true, rw c.loop-targets.invariant.1 (counted_target (bit_of c.targets_of-targets.result) c.args.waiting.now c.loop-targets.target (ahead-one c.loop-targets.invariant.0.ahead w.if-targets-eq1.true)))
-    | else-targets-eq1 w ↦
-        rw (w.queue-is, w.waiting-is)
-        (storing_other c.loop-targets.invariant.0 more w.if-targets-eq1.false, c.loop-targets.invariant.1 ∙ counted-other (bit_of c.targets_of-targets.result) c.args.waiting.now c.loop-targets.target (ahead-other c.loop-targets.invariant.0.ahead w.if-targets-eq1.false))
+      | then-targets-eq1 w ↦
+          rw (w.queue-is, w.waiting-is, count)
+          (storing_target c.loop-targets.invariant.0 more w.if-targets-eq1.true, rw c.loop-targets.invariant.1 (counted_target (bit_of c.targets_of-targets.result) c.args.waiting.now c.loop-targets.target (ahead-one c.loop-targets.invariant.0.ahead w.if-targets-eq1.true)))
+      | else-targets-eq1 w ↦
+          rw (w.queue-is, w.waiting-is)
+          (storing_other c.loop-targets.invariant.0 more w.if-targets-eq1.false, c.loop-targets.invariant.1 ∙ counted-other (bit_of c.targets_of-targets.result) c.args.waiting.now c.loop-targets.target (ahead-other c.loop-targets.invariant.0.ahead w.if-targets-eq1.false))
     ]
 
 pub returns : goal.returns

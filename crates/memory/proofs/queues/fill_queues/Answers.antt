@@ -19,19 +19,19 @@ loop-n-init c = (queued_none _ _ _ (length-map c.args.queue.now (message_from st
 
 pub loop-n-preserved : goal.loop-n-preserved
 loop-n-preserved c = elim c.match-first.branch [
-      in-Message w ↦
-    let first = w.in-Message.ensures in
-    rw (w.queue-is, w.waiting-is, map-set start_sender c.loop-n.queue (c.loop-n.n * 16) w.in-Message.value) (
-      queued_one c.loop-n.invariant.0 _ (omega arith) (ap (map (message_from start_sender)) first),
-      brings-set (λ k. message_from start_sender (get_or (firsts_in c.args.tables.now k) 0 0)) (map (message_from start_sender) c.args.queue.now)
-          (map (message_from start_sender) c.loop-n.queue) _ _ c.loop-n.n (ap (λ (m : List ℕ). message_from start_sender (get_or m 0 0)) first) c.loop-n.invariant.1,
-    )
-    | in_default w ↦ rw (w.queue-is, w.waiting-is) (queued_empty c.loop-n.invariant.0 (omega arith) (ap (map (message_from start_sender)) w.in_default.ensures), c.loop-n.invariant.1)
-    ]
+  | in-Message w ↦
+      let first = w.in-Message.ensures in
+      rw (w.queue-is, w.waiting-is, map-set start_sender c.loop-n.queue (c.loop-n.n * 16) w.in-Message.value) (
+        queued_one c.loop-n.invariant.0 _ (omega arith) (ap (map (message_from start_sender)) first),
+        brings-set (λ k. message_from start_sender (get_or (firsts_in c.args.tables.now k) 0 0)) (map (message_from start_sender) c.args.queue.now)
+            (map (message_from start_sender) c.loop-n.queue) _ _ c.loop-n.n (ap (λ (m : List ℕ). message_from start_sender (get_or m 0 0)) first) c.loop-n.invariant.1,
+      )
+  | in_default w ↦ rw (w.queue-is, w.waiting-is) (queued_empty c.loop-n.invariant.0 (omega arith) (ap (map (message_from start_sender)) w.in_default.ensures), c.loop-n.invariant.1)
+]
 
 pub returns : goal.returns
 returns c = record {
-      queues = queued_all c.loop-n.invariant.0 (omega arith);
-      slots = c.loop-n.invariant.1;
-      size = sym (length-map c.loop-n.queue (message_from start_sender)) ∙ c.loop-n.invariant.0.places;
-    }
+  queues = queued_all c.loop-n.invariant.0 (omega arith);
+  slots = c.loop-n.invariant.1;
+  size = sym (length-map c.loop-n.queue (message_from start_sender)) ∙ c.loop-n.invariant.0.places;
+}

@@ -28,8 +28,8 @@ pub loop-k-preserved : goal.loop-k-preserved
 loop-k-preserved c = let target = wired_in c.args.tables.now c.args.n.0 c.args.port in
     let room : held target c.args.waiting.now c.loop-k.k ≡ false =
     elim c.if-waiting-k-ge16.branch [
-      then-waiting-k-ge16+else-is_wired w ↦ let apart : target c.loop-k.k ≡ false = sym w.is_wired.ensures ∙ w.if-is_wired.false in rw apart
-    | else-waiting-k-ge16 w ↦ let few : get_or c.args.waiting.now c.loop-k.k 0 < 16 = omega (arith, w.if-waiting-k-ge16.false) in rw (lt-leb 16 (get_or c.args.waiting.now c.loop-k.k 0) few) (and-false (target c.loop-k.k))
+      | then-waiting-k-ge16+else-is_wired w ↦ let apart : target c.loop-k.k ≡ false = sym w.is_wired.ensures ∙ w.if-is_wired.false in rw apart
+      | else-waiting-k-ge16 w ↦ let few : get_or c.args.waiting.now c.loop-k.k 0 < 16 = omega (arith, w.if-waiting-k-ge16.false) in rw (lt-leb 16 (get_or c.args.waiting.now c.loop-k.k 0) few) (and-false (target c.loop-k.k))
     ] in
     (omega arith, rw (add-one c.loop-k.k) (some_more (held target c.args.waiting.now) c.loop-k.k c.loop-k.invariant.1 room))
 

@@ -17,8 +17,8 @@ overflow_add-count c = omega (arith, count_most (ready_in c.args.position.now c.
 pub loop-n-preserved : goal.loop-n-preserved
 loop-n-preserved c = let test = ready_in c.args.position.now c.args.waiting.now in
     elim c.if-is_ready.branch [
-      then-is_ready w ↦ (omega arith, rw w.count-is (count-passes test c.loop-n.n c.loop-n.count c.loop-n.invariant.1 (sym c.is_ready.ensures ∙ w.if-is_ready.true)))
-    | else-is_ready w ↦ (omega arith, rw w.count-is (count-fails test c.loop-n.n c.loop-n.count c.loop-n.invariant.1 (sym c.is_ready.ensures ∙ w.if-is_ready.false)))
+      | then-is_ready w ↦ (omega arith, rw w.count-is (count-passes test c.loop-n.n c.loop-n.count c.loop-n.invariant.1 (sym c.is_ready.ensures ∙ w.if-is_ready.true)))
+      | else-is_ready w ↦ (omega arith, rw w.count-is (count-fails test c.loop-n.n c.loop-n.count c.loop-n.invariant.1 (sym c.is_ready.ensures ∙ w.if-is_ready.false)))
     ]
 
 pub returns : goal.returns

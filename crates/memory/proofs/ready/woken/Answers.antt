@@ -21,8 +21,8 @@ overflow_add-target c = omega (arith, c.loop-targets.invariant.ahead.inside)
 pub loop-targets-preserved : goal.loop-targets-preserved
 loop-targets-preserved c = let more : 0 < c.loop-targets.targets = omega (arith, c.loop-targets-test.true) in
     elim c.if-targets-ready.branch [
-      then-targets-ready w ↦ rw w.count-is (waking_one c.loop-targets.invariant more (rw (← c.is_ready-ready.ensures) w.if-targets-ready.true))
-    | else-targets-ready w ↦ rw w.count-is (waking_other c.loop-targets.invariant more (rw (← c.is_ready-ready.ensures) w.if-targets-ready.false))
+      | then-targets-ready w ↦ rw w.count-is (waking_one c.loop-targets.invariant more (rw (← c.is_ready-ready.ensures) w.if-targets-ready.true))
+      | else-targets-ready w ↦ rw w.count-is (waking_other c.loop-targets.invariant more (rw (← c.is_ready-ready.ensures) w.if-targets-ready.false))
     ]
 
 pub returns : goal.returns

@@ -4,10 +4,10 @@ use Rattle.memory.proofs.senders.change_senders.Goals as goal
 
 pub sign-requires : goal.sign-requires
 sign-requires c = record {
-      sender_len = c.requires.sender_len;
-      n_bound = c.requires.n_bound;
-      waiting_value = rw c.in-Send.is at c.requires.possible;
-    }
+  sender_len = c.requires.sender_len;
+  n_bound = c.requires.n_bound;
+  waiting_value = rw c.in-Send.is at c.requires.possible;
+}
 
 pub returns-in-Take : goal.returns-in-Take
 returns-in-Take c = rw c.in-Take.is c.shift.ensures

@@ -37,8 +37,8 @@ overflow_add-target c = omega (arith, c.loop-targets.invariant.ahead.inside)
 pub loop-targets-preserved : goal.loop-targets-preserved
 loop-targets-preserved c = let more : 0 < c.loop-targets.targets = omega (arith, c.loop-targets-test.true) in
     elim c.if-targets-eq1.branch [
-      then-targets-eq1 w ↦ rw w.sender-is (storing_target c.loop-targets.invariant more w.if-targets-eq1.true)
-    | else-targets-eq1 w ↦ rw w.sender-is (storing_other c.loop-targets.invariant more w.if-targets-eq1.false)
+      | then-targets-eq1 w ↦ rw w.sender-is (storing_target c.loop-targets.invariant more w.if-targets-eq1.true)
+      | else-targets-eq1 w ↦ rw w.sender-is (storing_other c.loop-targets.invariant more w.if-targets-eq1.false)
     ]
 
 pub returns : goal.returns

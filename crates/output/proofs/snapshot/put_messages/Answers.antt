@@ -10,10 +10,10 @@ loop-i-init c = (omega arith, none_written _ _ _ _ _)
 
 pub loop-i-preserved : goal.loop-i-preserved
 loop-i-preserved c = (
-      omega (arith, c.loop-i-test.true),
-      one_written _ _ _ _ _ c.loop-i.i c.loop-i.snapshot c.loop-i.next _ _ _ _ c.requires.count_in_bounds_2.1 (omega (arith, c.loop-i-test.true, c.requires.count_in_bounds_2.0)) (omega (arith, c.loop-i-test.true, c.requires.count_in_bounds))
-          (search rules) c.loop-i.invariant.1 c.put_word-behind.ensures c.put_byte-next.ensures,
-    )
+  omega (arith, c.loop-i-test.true),
+  one_written _ _ _ _ _ c.loop-i.i c.loop-i.snapshot c.loop-i.next _ _ _ _ c.requires.count_in_bounds_2.1 (omega (arith, c.loop-i-test.true, c.requires.count_in_bounds_2.0)) (omega (arith, c.loop-i-test.true, c.requires.count_in_bounds))
+      (search rules) c.loop-i.invariant.1 c.put_word-behind.ensures c.put_byte-next.ensures,
+)
 
 pub returns : goal.returns
 returns c = let e : c.loop-i.i ≡ c.args.count = omega (arith, c.loop-i.invariant.0, c.loop-i-test.false) in

@@ -11,15 +11,14 @@ loop-n-init c = (omega arith, none_shown _ _)
 
 pub put_node-at-requires : goal.put_node-at-requires
 put_node-at-requires c = record {
-      at_value = c.loop-n.invariant.1.place;
-      n_lt_max_nodes = (omega (arith, c.loop-n-test.true, c.requires.snapshot_size_in_bounds.1), omega (arith, c.loop-n-test.true, c.requires.snapshot_size_in_bounds.0, c.requires.snapshot_size_in_bounds.1, c.loop-n.invariant.1.short, c.loop-n.invariant.1.size));
-      bounded_counts = (c.requires.bounded_counts, c.requires.narrow_positions c.loop-n.n);
-    }
+  at_value = c.loop-n.invariant.1.place;
+  n_lt_max_nodes = (omega (arith, c.loop-n-test.true, c.requires.snapshot_size_in_bounds.1), omega (arith, c.loop-n-test.true, c.requires.snapshot_size_in_bounds.0, c.requires.snapshot_size_in_bounds.1, c.loop-n.invariant.1.short, c.loop-n.invariant.1.size));
+  bounded_counts = (c.requires.bounded_counts, c.requires.narrow_positions c.loop-n.n);
+}
 
 pub loop-n-preserved : goal.loop-n-preserved
 loop-n-preserved c = let few = view_bounded c.args.position.now c.args.accumulator.now c.args.message.now c.args.waiting.now c.args.queue.now
-    c.args.sender.now c.args.variable.now c.requires.bounded_counts in
-    (
+    c.args.sender.now c.args.variable.now c.requires.bounded_counts in (
       omega (arith, c.loop-n-test.true),
       one_shown _ few _ c.loop-n.n c.loop-n.snapshot c.loop-n.at _ _ (omega (arith, c.loop-n-test.true, c.requires.snapshot_size_in_bounds.0, c.requires.snapshot_size_in_bounds.1)) (search rules) c.loop-n.invariant.1
           (record { part = c.put_node-at.ensures.part; place = c.put_node-at.ensures.place }),

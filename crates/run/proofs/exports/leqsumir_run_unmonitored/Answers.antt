@@ -5,8 +5,8 @@ use Rattle.run.proofs.exports.leqsumir_run_unmonitored.Goals as goal
 
 pub returns : goal.returns
 returns c = record {
-      told = c.numbers_in.ensures ∙ ap numbers_in c.run_unmonitored.ensures.told;
-      trace = c.run_unmonitored.ensures.trace;
-      snapshot = c.run_unmonitored.ensures.snapshot;
-      work = c.run_unmonitored.ensures.work;
-    }
+  told = c.numbers_in.ensures ∙ ap numbers_in c.run_unmonitored.ensures.told;
+  trace = c.run_unmonitored.ensures.trace;
+  snapshot = c.run_unmonitored.ensures.snapshot;
+  work = c.run_unmonitored.ensures.work;
+}

@@ -47,10 +47,10 @@ loop-ahead-preserved c = let inside = (here (goal.at.loop-ahead-preserved c).In-
     let count : get_or c.loop-ahead.counts c.loop-ahead.target 0 ≡ get_or c.args.counts.now c.loop-ahead.target 0 =
     rw c.loop-ahead.invariant.1 (counted-later (bit_of c.args.targets) c.args.counts.now c.loop-ahead.target c.loop-ahead.target (omega arith)) in
     elim c.if-ahead-eq1.branch [
-      then-ahead-eq1 w ↦
-        rw (w.counts-is, count) (ahead-next c.loop-ahead.invariant.0 inside, rw c.loop-ahead.invariant.1 (counted_target (bit_of c.args.targets) c.args.counts.now c.loop-ahead.target (ahead-one c.loop-ahead.invariant.0 w.if-ahead-eq1.true)))
-    | else-ahead-eq1 w ↦
-        rw w.counts-is (ahead-next c.loop-ahead.invariant.0 inside, c.loop-ahead.invariant.1 ∙ counted-other (bit_of c.args.targets) c.args.counts.now c.loop-ahead.target (ahead-other c.loop-ahead.invariant.0 w.if-ahead-eq1.false))
+      | then-ahead-eq1 w ↦
+          rw (w.counts-is, count) (ahead-next c.loop-ahead.invariant.0 inside, rw c.loop-ahead.invariant.1 (counted_target (bit_of c.args.targets) c.args.counts.now c.loop-ahead.target (ahead-one c.loop-ahead.invariant.0 w.if-ahead-eq1.true)))
+      | else-ahead-eq1 w ↦
+          rw w.counts-is (ahead-next c.loop-ahead.invariant.0 inside, c.loop-ahead.invariant.1 ∙ counted-other (bit_of c.args.targets) c.args.counts.now c.loop-ahead.target (ahead-other c.loop-ahead.invariant.0 w.if-ahead-eq1.false))
     ]
 
 pub returns : goal.returns

@@ -13,10 +13,10 @@ use Rattle.tally.proofs.counting.count_entries.Goals as goal
 
 pub loop-k-init : goal.loop-k-init
 loop-k-init c = let entries = entry_from c.args.trace.now in (
-      (λ hs. counts-first (reaches (program_in c.args.tables.now hs)) entries _ c.requires.numbered.0),
-      counts-first takes entries _ c.requires.numbered.1,
-      omega arith,
-    )
+  (λ hs. counts-first (reaches (program_in c.args.tables.now hs)) entries _ c.requires.numbered.0),
+  counts-first takes entries _ c.requires.numbered.1,
+  omega arith,
+)
 
 pub add_sent-requires : goal.add_sent-requires
 add_sent-requires c = let a = c.loop-k.invariant.0 (λ n. []) in
@@ -39,10 +39,10 @@ add_taken-requires c = let entries = entry_from c.args.trace.now in
 
 pub loop-k-preserved : goal.loop-k-preserved
 loop-k-preserved c = let entries = entry_from c.args.trace.now in (
-      (λ hs. counts-next (reaches (program_in c.args.tables.now hs)) entries c.loop-k.k _ _ (c.loop-k.invariant.0 hs) (c.add_sent.ensures hs)),
-      counts-next takes entries c.loop-k.k _ _ c.loop-k.invariant.1 c.add_taken.ensures,
-      omega (arith, c.loop-k-test.true),
-    )
+  (λ hs. counts-next (reaches (program_in c.args.tables.now hs)) entries c.loop-k.k _ _ (c.loop-k.invariant.0 hs) (c.add_sent.ensures hs)),
+  counts-next takes entries c.loop-k.k _ _ c.loop-k.invariant.1 c.add_taken.ensures,
+  omega (arith, c.loop-k-test.true),
+)
 
 pub returns : goal.returns
 returns c = let all : c.loop-k.k ≡ c.args.turns = omega (arith, c.loop-k.invariant.2, c.loop-k-test.false) in

@@ -30,21 +30,21 @@ put_four-at-requires c = let hs : Handlers = λ n. [] in
 
 pub next_part-place-requires : goal.next_part-place-requires
 next_part-place-requires c = record {
-      place_value = c.loop-n.invariant.1;
-      place_bound = omega (arith, c.loop-n.invariant.0, c.loop-n.invariant.2, c.requires.nodes_le_max_nodes.0);
-    }
+  place_value = c.loop-n.invariant.1;
+  place_bound = omega (arith, c.loop-n.invariant.0, c.loop-n.invariant.2, c.requires.nodes_le_max_nodes.0);
+}
 
 pub loop-n-preserved : goal.loop-n-preserved
 loop-n-preserved c = (
-      omega (arith, c.loop-n-test.true),
-      c.next_part-place.ensures.value,
-      omega (arith, c.next_part-place.ensures.upper_bound, c.loop-n.invariant.2),
-      λ hs.
-          let f = tally_by (program_in c.args.tables.now hs) c.args.arrivals.now c.args.takings.now c.args.snapshot.now in
-          let waiting = c.waiting_in-waiting.ensures ∙ ap (waiting_in c.args.snapshot.now) c.loop-n.invariant.1 in
-          let four : Writes (f c.loop-n.n) _ _ _ _ = rw (c.count_started-started.ensures hs, waiting) at c.put_four-at.ensures in
-          one-put f _ 0 _ (fits f (λ n. refl) _ c.args.counts.now c.requires.nodes_le_max_nodes.1) c.loop-n.n c.loop-n-test.true _ _ (c.loop-n.invariant.3 hs) _ _ four,
-    )
+  omega (arith, c.loop-n-test.true),
+  c.next_part-place.ensures.value,
+  omega (arith, c.next_part-place.ensures.upper_bound, c.loop-n.invariant.2),
+  λ hs.
+      let f = tally_by (program_in c.args.tables.now hs) c.args.arrivals.now c.args.takings.now c.args.snapshot.now in
+      let waiting = c.waiting_in-waiting.ensures ∙ ap (waiting_in c.args.snapshot.now) c.loop-n.invariant.1 in
+      let four : Writes (f c.loop-n.n) _ _ _ _ = rw (c.count_started-started.ensures hs, waiting) at c.put_four-at.ensures in
+      one-put f _ 0 _ (fits f (λ n. refl) _ c.args.counts.now c.requires.nodes_le_max_nodes.1) c.loop-n.n c.loop-n-test.true _ _ (c.loop-n.invariant.3 hs) _ _ four,
+)
 
 pub returns : goal.returns
 returns c hs = all-put _ _ _ _ c.loop-n.n _ _ c.loop-n.invariant.0 c.loop-n-test.false (c.loop-n.invariant.3 hs)
