@@ -125,4 +125,4 @@ ReadyCountExamplesHold =
 
 -- every row holds
 abbrev pub DispatchExamplesHold : Type 0
-DispatchExamplesHold = DispatchRowsHold dispatch_rows
+DispatchExamplesHold = map dispatch_outcome dispatch_rows ≡ map (λ (e : DispatchExample). e.expected) dispatch_rows

@@ -1,5 +1,4 @@
 use mathlib.Core.Path.{◌∙◌}
-use borrow.Author.Rules.{rules}
 use Rattle.items.proofs.Searching.{found-there}
 use Rattle.allowlists.proofs.is_listed.Goals as goal
 

@@ -1,5 +1,4 @@
 use mathlib.Core.Path.{sym, ◌∙◌}
-use borrow.Author.Rules.{rules}
 use Rattle.items.proofs.Searching.{found-there}
 use Rattle.allowlists.proofs.may_call.Goals as goal
 

@@ -1,8 +1,6 @@
-use Prim.Native.Nat.{◌-◌}
 use native.Mathlib.Omega.{arith}
-use borrow.Author.Rules.{rules}
 use mathlib.Core.Path.{sym, ◌∙◌}
-use Rattle.chooser.proofs.Searching.{Searched, searched_nobody, searched_first, searched_inside, searched_found, searched_next}
+use Rattle.chooser.proofs.Searching.{searched_nobody, searched_first, searched_inside, searched_found, searched_next}
 use Rattle.chooser.proofs.choose.Goals as goal
 
 pub returns-then-ready-eq0 : goal.returns-then-ready-eq0

@@ -1,4 +1,3 @@
-use borrow.Author.Rules.{rules}
 use Rattle.declared.proofs.answer_of.Goals as goal
 
 pub returns-in-Second : goal.returns-in-Second

@@ -1,5 +1,4 @@
 use mathlib.Core.Path.{sym, ◌∙◌}
-use borrow.Author.Rules.{rules}
 use Rattle.declared.proofs.first_message.Goals as goal
 
 pub returns-then-flagged : goal.returns-then-flagged

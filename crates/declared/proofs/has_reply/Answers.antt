@@ -1,6 +1,5 @@
 use mathlib.Core.Path.{ap, ◌∙◌}
 use Rattle.model.specs.Declared.{is_there}
-use borrow.Author.Rules.{rules}
 use Rattle.declared.proofs.has_reply.Goals as goal
 
 pub returns : goal.returns

@@ -1,4 +1,3 @@
-use borrow.Author.Rules.{rules}
 use Rattle.declared.proofs.is_shared.Goals as goal
 
 pub returns : goal.returns

@@ -1,7 +1,6 @@
 use mathlib.Core.Path.{sym, ap, ◌∙◌}
 use Rattle.tables.specs.Items.{second_of}
 use Rattle.items.proofs.Searching.{found_none}
-use borrow.Author.Rules.{rules}
 use Rattle.declared.proofs.reply_to.Goals as goal
 
 pub returns-then-last-eq0 : goal.returns-then-last-eq0

@@ -1,4 +1,3 @@
-use borrow.Author.Rules.{rules}
 use borrow.Author.Tests.{lt-ltb, le-ltb}
 use Rattle.tables.proofs.Setting.{bit_zero}
 use Rattle.declared.proofs.targets_of.Goals as goal

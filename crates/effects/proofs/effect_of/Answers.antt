@@ -1,4 +1,4 @@
-use Rattle.std.proofs.Common.{◌+◌, sym, refl, ap, ◌∙◌, rules, eq-eqb, ne_eqb}
+use Rattle.std.proofs.Common.{◌+◌, sym, refl, ap, ◌∙◌, eq-eqb, ne_eqb}
 use Rattle.model.specs.State.{accumulator_at, with_position, with_accumulator}
 use Rattle.model.specs.Turn.{advanced}
 use Rattle.effects.proofs.Carrying.{nexts, gets, adds, pluses, calls, sets, jumps}

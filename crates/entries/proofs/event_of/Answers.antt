@@ -1,6 +1,5 @@
 use borrow.Enum.Refused.{opened}
 use mathlib.Core.Path.{◌∙◌, ap}
-use borrow.Author.Rules.{rules}
 use Rattle.tables.specs.Programs.{program_in}
 use Rattle.entries.specs.Entries.{entry_for}
 use Rattle.entries.proofs.Events.{read_left, write-left, plain-left}

@@ -1,6 +1,5 @@
 use borrow.Enum.Refused.{opened}
 use mathlib.Core.Path.{◌∙◌, sym}
-use borrow.Author.Rules.{rules}
 use Rattle.tables.specs.Programs.{program_in}
 use Rattle.entries.proofs.Names.{read_by, write_by, call_by}
 use Rattle.entries.proofs.Events.{free-permitted}

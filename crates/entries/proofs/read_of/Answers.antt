@@ -1,5 +1,4 @@
 use mathlib.Core.Path.{sym, ◌∙◌}
-use borrow.Author.Rules.{rules}
 use Rattle.entries.proofs.read_of.Goals as goal
 
 pub returns-then-is_shared : goal.returns-then-is_shared

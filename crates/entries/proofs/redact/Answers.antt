@@ -1,4 +1,3 @@
-use borrow.Author.Rules.{rules}
 use Rattle.entries.proofs.Events.{shown-same}
 use Rattle.entries.proofs.redact.Goals as goal
 

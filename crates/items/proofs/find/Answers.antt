@@ -1,9 +1,6 @@
-use mathlib.Core.Path.{◌≡◌, sym, ap, ◌∙◌}
+use mathlib.Core.Path.{sym, ap, ◌∙◌}
 use native.Mathlib.Omega.{arith}
-use borrow.Author.Rules.{rules}
-use Rattle.tables.specs.Items.{found_item, second_of}
-use Rattle.tables.specs.Tables.{chain_in}
-use Rattle.items.specs.Asking.{asked}
+use Rattle.tables.specs.Items.{second_of}
 use Rattle.items.proofs.Searching.{found_hit, found_miss, found_none, goes_back}
 use Rattle.items.proofs.find.Goals as goal
 

@@ -1,10 +1,7 @@
-use mathlib.Core.Path.{◌≡◌, sym, ap, ◌∙◌}
-use native.Mathlib.Omega.{arith}
-use borrow.Author.Rules.{rules}
-use Rattle.tables.specs.Items.{found_item, second_of}
+use mathlib.Core.Path.{◌≡◌}
+use Rattle.tables.specs.Items.{found_item}
 use Rattle.tables.specs.Tables.{chain_in}
 use Rattle.items.specs.Asking.{asked}
-use Rattle.items.proofs.Searching.{found_hit, found_miss, found_none, goes_back}
 use Rattle.items.proofs.find.Given as goal
 
 abbrev pub invariant-loop-at : goal.invariant-loop-at

@@ -1,4 +1,3 @@
-use borrow.Author.Rules.{rules}
 use Rattle.items.proofs.fits.Goals as goal
 
 pub returns-in-Holds : goal.returns-in-Holds

@@ -1,4 +1,3 @@
-use borrow.Author.Rules.{rules}
 use Rattle.job.proofs.Judged.{is-accepted, is-refused, decides_accepted, decides_refused}
 use Rattle.job.proofs.decode.Goals as goal
 

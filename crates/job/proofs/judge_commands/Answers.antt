@@ -1,4 +1,3 @@
-use borrow.Author.Rules.{rules}
 use Rattle.uses.proofs.Noting.{uses-none}
 use Rattle.job.proofs.Judged.{is-accepted, is-refused, refused-early, later_decide}
 use Rattle.job.proofs.judge_commands.Goals as goal

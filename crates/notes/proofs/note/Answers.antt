@@ -1,5 +1,4 @@
 use mathlib.Core.Path.{◌∙◌}
-use borrow.Author.Rules.{rules}
 use Rattle.notes.proofs.Noting.{stands-noted}
 use Rattle.notes.proofs.note.Goals as goal
 

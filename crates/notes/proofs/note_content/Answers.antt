@@ -1,5 +1,4 @@
 use mathlib.Core.Path.{◌∙◌}
-use borrow.Author.Rules.{rules}
 use Rattle.tables.specs.Cells.{mark_at, put_half}
 use Rattle.tables.specs.Writes.{made}
 use Rattle.notes.proofs.Arms.{known_arm, rest_arm}

@@ -1,5 +1,4 @@
 use borrow.Author.Tests.{lt-ltb, le-ltb}
-use borrow.Author.Rules.{rules}
 use Rattle.tables.specs.Writes.{one_more}
 use Rattle.notes.proofs.one_more.Goals as goal
 

@@ -1,5 +1,4 @@
 use mathlib.Core.Bool.{or-false}
-use borrow.Author.Rules.{rules}
 use Rattle.model.specs.Refusal.{any_of}
 use Rattle.uses.proofs.Arms.{known_sort, call_sort}
 use Rattle.uses.proofs.is_unused.Goals as goal

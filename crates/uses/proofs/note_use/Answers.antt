@@ -1,6 +1,5 @@
 use mathlib.Core.Path.{refl}
 use mathlib.Core.Logic.{inl, inr}
-use borrow.Author.Rules.{rules}
 use Rattle.model.specs.Table.{is_among}
 use Rattle.tables.specs.Cells.{mark_at}
 use Rattle.tables.specs.Writes.{made}

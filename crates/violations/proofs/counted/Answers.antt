@@ -1,4 +1,3 @@
-use borrow.Author.Rules.{rules}
 use Rattle.violations.proofs.counted.Goals as goal
 
 pub returns-then-byte : goal.returns-then-byte

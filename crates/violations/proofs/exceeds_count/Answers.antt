@@ -1,4 +1,3 @@
-use borrow.Author.Rules.{rules}
 use Rattle.violations.proofs.Judging.{exceeds_same}
 use Rattle.violations.proofs.exceeds_count.Goals as goal
 

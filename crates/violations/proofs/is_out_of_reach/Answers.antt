@@ -1,5 +1,4 @@
 use mathlib.Core.Path.{refl}
-use borrow.Author.Rules.{rules}
 use Rattle.violations.proofs.Judging.{wire_reach, use_reach, access_reach, other_reach}
 use Rattle.violations.proofs.is_out_of_reach.Goals as goal
 

@@ -1,4 +1,3 @@
-use borrow.Author.Rules.{rules}
 use Rattle.violations.proofs.Judging.{reply-same, wire-same, any_same, arg-same, span_same, read_same, write_same, body_same}
 use Rattle.violations.proofs.Judging.{start-same, other-same}
 use Rattle.violations.proofs.is_repeated.Goals as goal

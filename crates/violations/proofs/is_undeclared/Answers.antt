@@ -1,4 +1,3 @@
-use borrow.Author.Rules.{rules}
 use Rattle.violations.proofs.Judging.{undeclared-found, undeclared-single, undeclared-last}
 use Rattle.violations.proofs.is_undeclared.Goals as goal
 

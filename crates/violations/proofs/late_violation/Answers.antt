@@ -1,5 +1,4 @@
 use mathlib.Core.Path.{sym, ◌∙◌}
-use borrow.Author.Rules.{rules}
 use Rattle.violations.proofs.late_violation.Goals as goal
 
 pub returns-then-is_out_of_reach : goal.returns-then-is_out_of_reach

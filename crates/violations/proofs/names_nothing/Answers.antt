@@ -1,5 +1,4 @@
 use mathlib.Core.Path.{sym}
-use borrow.Author.Rules.{rules}
 use Rattle.violations.proofs.Judging.{names_none}
 use Rattle.violations.specs.Tests.{counts_as}
 use Rattle.violations.proofs.names_nothing.Goals as goal

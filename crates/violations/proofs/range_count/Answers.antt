@@ -1,5 +1,4 @@
 use native.Mathlib.Omega.{arith}
-use borrow.Author.Rules.{rules}
 use Rattle.violations.proofs.range_count.Goals as goal
 
 pub returns-then-replies-all : goal.returns-then-replies-all

@@ -1,6 +1,5 @@
 use mathlib.Core.Path.{sym, ◌∙◌}
 use borrow.Author.Tests.{lt-ltb, le-ltb}
-use borrow.Author.Rules.{rules}
 use Rattle.violations.proofs.Judging.{violation_as}
 use Rattle.violations.proofs.violation_of.Goals as goal
 

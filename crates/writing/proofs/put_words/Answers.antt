@@ -1,8 +1,7 @@
-use Prim.Native.Nat.{◌-◌, ◌≤◌}
 use mathlib.Core.Path.{◌≡◌}
 use native.Mathlib.Omega.{arith}
 use borrow.Author.Rules.{rules}
-use Rattle.writing.proofs.Words.{Written, none_written, one_written}
+use Rattle.writing.proofs.Words.{none_written, one_written}
 use Rattle.writing.proofs.put_words.Goals as goal
 
 pub loop-i-init : goal.loop-i-init

@@ -1,10 +1,7 @@
-use Prim.Native.Nat.{ℕ, ◌-◌, ◌≤◌}
-use mathlib.Core.Path.{◌≡◌, refl, subst}
-use native.Mathlib.Omega.{arith}
+use Prim.Native.Nat.{◌-◌, ◌≤◌}
+use mathlib.Core.Path.{◌≡◌}
 use lib.ListN.{length, replicate}
-use borrow.Author.Rules.{rules}
 use Rattle.writing.specs.Writing.{Writes}
-use Rattle.writing.proofs.Placing.{writes_nothing, zeros_on}
 use Rattle.writing.proofs.put_zeros.Given as goal
 
 abbrev pub invariant-loop-at : goal.invariant-loop-at

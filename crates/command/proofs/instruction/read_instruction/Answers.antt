@@ -1,6 +1,4 @@
 use mathlib.Core.Path.{sym, ◌∙◌}
-use borrow.Author.Tests.{not-true, not-false}
-use borrow.Author.Rules.{rules}
 use Rattle.command.proofs.Instructed.{read_behind, read-other, read_cut_off, operand-inside, read_instructed}
 use Rattle.command.proofs.instruction.read_instruction.Goals as goal
 

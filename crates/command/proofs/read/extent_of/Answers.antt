@@ -1,5 +1,4 @@
 use mathlib.Core.Path.{refl}
-use borrow.Author.Rules.{rules}
 use Rattle.command.proofs.Taken.{read_missing, read-cut, read-reaches, finds_row}
 use Rattle.command.proofs.read.extent_of.Goals as goal
 

@@ -1,4 +1,3 @@
-use borrow.Author.Rules.{rules}
 use Rattle.model.proofs.Reading.{number-four, number-one}
 use Rattle.command.proofs.Shaped.{width-none}
 use Rattle.command.proofs.read.operand.Goals as goal

@@ -1,5 +1,4 @@
 use mathlib.Core.Path.{sym, ap, ◌∙◌}
-use borrow.Author.Rules.{rules}
 use Rattle.command.specs.Reading.{others_at}
 use Rattle.command.proofs.Taken.{extends_known, extends_refused, first_fits, read_all, read_known}
 use Rattle.command.proofs.read.read_command.Goals as goal

@@ -1,4 +1,3 @@
-use borrow.Author.Rules.{rules}
 use Rattle.command.proofs.Taken.{extends_known, extends_headless, first_fits, read_first}
 use Rattle.command.proofs.read.read_head.Goals as goal
 

@@ -1,5 +1,4 @@
 use mathlib.Core.Path.{refl}
-use borrow.Author.Rules.{rules}
 use Rattle.command.proofs.Taken.{second_fits, third-fits, fourth-fits, none-follows}
 use Rattle.command.proofs.read.read_others.Goals as goal
 

@@ -1,6 +1,5 @@
 use mathlib.Core.Path.{refl}
 use Rattle.model.specs.Table.{operands_in, operands_of, is_among, largest_in, largest_of}
-use borrow.Author.Rules.{rules}
 use Rattle.command.proofs.Shaped.{row-found, row-there, row-none}
 use Rattle.command.proofs.table.look_up.Goals as goal
 

@@ -1,9 +1,6 @@
-use Prim.Native.Nat.{◌≤◌, ◌-◌}
-use mathlib.Core.Path.{◌≡◌, refl, sym, ◌∙◌}
+use mathlib.Core.Path.{refl, sym, ◌∙◌}
 use native.Mathlib.Omega.{arith}
-use lib.ListN.{length, drop}
 use borrow.Author.Rules.{rules}
-use Rattle.command.specs.Rows.{row_in}
 use Rattle.command.proofs.Shaped.{row_here, row-passed, row_missing}
 use Rattle.command.proofs.table.row_in.Goals as goal
 

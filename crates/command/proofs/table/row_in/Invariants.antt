@@ -1,10 +1,7 @@
 use Prim.Native.Nat.{◌≤◌, ◌-◌}
-use mathlib.Core.Path.{◌≡◌, refl, sym, ◌∙◌}
-use native.Mathlib.Omega.{arith}
+use mathlib.Core.Path.{◌≡◌}
 use lib.ListN.{length, drop}
-use borrow.Author.Rules.{rules}
 use Rattle.command.specs.Rows.{row_in}
-use Rattle.command.proofs.Shaped.{row_here, row-passed, row_missing}
 use Rattle.command.proofs.table.row_in.Given as goal
 
 abbrev pub invariant-loop-i : goal.invariant-loop-i

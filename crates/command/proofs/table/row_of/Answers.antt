@@ -1,6 +1,5 @@
 use mathlib.Core.Path.{refl}
 use Rattle.model.specs.Table.{operands_in, operands_of, is_among, largest_in, largest_of}
-use borrow.Author.Rules.{rules}
 use Rattle.command.proofs.Shaped.{row-found}
 use Rattle.command.proofs.table.row_of.Goals as goal
 

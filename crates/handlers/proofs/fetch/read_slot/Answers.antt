@@ -1,6 +1,5 @@
 use native.Mathlib.Omega.{arith}
 use Rattle.handlers.proofs.Fetched.{no_slot, from_bytes}
-use borrow.Author.Rules.{rules}
 use Rattle.handlers.proofs.fetch.read_slot.Goals as goal
 
 pub returns-then-work-at : goal.returns-then-work-at

@@ -1,6 +1,5 @@
 use mathlib.Core.Path.{sym, ◌∙◌}
 use borrow.Author.Tests.{eq-eqb, ne_eqb}
-use borrow.Author.Rules.{rules}
 use Rattle.handlers.proofs.load.index_after.Goals as goal
 
 pub returns-then-c-eq-BODY : goal.returns-then-c-eq-BODY

@@ -1,5 +1,4 @@
 use mathlib.Core.Path.{sym, ◌∙◌}
-use borrow.Author.Rules.{rules}
 use Rattle.handlers.proofs.load.keep.Goals as goal
 
 pub returns-then-is_handler : goal.returns-then-is_handler

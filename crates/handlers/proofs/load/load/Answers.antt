@@ -1,11 +1,7 @@
-use Prim.Native.Nat.{◌-◌}
 use native.Mathlib.Omega.{arith}
-use lib.ListN.{length}
-use borrow.Author.Rules.{rules}
-use Rattle.model.specs.Refusal.{decode_job, commands_of}
 use Rattle.model.proofs.Reading.{read_at}
 use Rattle.command.proofs.Taken.{head_read}
-use Rattle.handlers.proofs.Keeping.{accepted-is, Keeping, keeping_start, keeping_end, keeping_length, keeping_position}
+use Rattle.handlers.proofs.Keeping.{accepted-is, keeping_start, keeping_end, keeping_position}
 use Rattle.handlers.proofs.Keeping.{keeping_reads, keeping_on, keeping_behind}
 use Rattle.handlers.proofs.load.load.Goals as goal
 

@@ -1,5 +1,4 @@
 use Rattle.handlers.proofs.Slots.{store_writes, store_nothing}
-use borrow.Author.Rules.{rules}
 use Rattle.handlers.proofs.load.store.Goals as goal
 
 pub returns-then-at-work : goal.returns-then-at-work

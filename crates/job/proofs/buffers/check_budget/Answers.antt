@@ -1,4 +1,3 @@
-use borrow.Author.Rules.{rules}
 use Rattle.job.proofs.Buffered.{budget_bad, budget-good}
 use Rattle.job.proofs.buffers.check_budget.Goals as goal
 

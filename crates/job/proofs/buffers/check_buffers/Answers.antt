@@ -1,5 +1,4 @@
 use native.Mathlib.Omega.{arith}
-use borrow.Author.Rules.{rules}
 use Rattle.job.proofs.Buffered.{trace-short, snapshot-short, work-short, all-long}
 use Rattle.job.proofs.buffers.check_buffers.Goals as goal
 

@@ -2,7 +2,6 @@ use Prim.Native.Nat.{◌-◌, ◌*◌}
 use mathlib.Core.Path.{◌≡◌, sym, ◌∙◌}
 use native.Mathlib.Omega.{arith}
 use lib.ListN.{length}
-use borrow.Author.Rules.{rules}
 use Rattle.model.specs.Table.{TURN}
 use Rattle.model.specs.Declared.{count_of}
 use Rattle.model.specs.Refusal.{sizes}

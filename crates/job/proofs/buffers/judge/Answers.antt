@@ -1,5 +1,4 @@
 use mathlib.Core.Path.{sym}
-use borrow.Author.Rules.{rules}
 use Rattle.model.specs.Refusal.{sizes}
 use Rattle.job.proofs.Buffered.{refused-first}
 use Rattle.job.proofs.buffers.judge.Goals as goal

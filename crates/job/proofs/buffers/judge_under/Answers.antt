@@ -1,6 +1,5 @@
 use mathlib.Core.Path.{refl, sym, ◌∙◌}
 use native.Mathlib.Omega.{arith}
-use borrow.Author.Rules.{rules}
 use Rattle.model.specs.Table.{TURN}
 use Rattle.model.specs.Refusal.{sizes}
 use Rattle.job.proofs.Judged.{is-accepted, is-refused}

@@ -1,4 +1,3 @@
-use borrow.Author.Rules.{rules}
 use Rattle.job.proofs.later.first_unused.Goals as goal
 
 pub returns-then-c-before : goal.returns-then-c-before

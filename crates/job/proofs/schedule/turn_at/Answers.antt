@@ -1,4 +1,3 @@
-use borrow.Author.Rules.{rules}
 use Rattle.job.proofs.LastTurns.{turn_inside, turn_outside}
 use Rattle.job.proofs.schedule.turn_at.Goals as goal
 

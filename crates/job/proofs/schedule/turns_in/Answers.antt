@@ -1,6 +1,5 @@
 use mathlib.Core.Path.{◌∙◌}
 use native.Mathlib.Omega.{arith}
-use borrow.Author.Rules.{rules}
 use Rattle.job.proofs.Buffered.{budget-few}
 use Rattle.job.proofs.schedule.turns_in.Goals as goal
 

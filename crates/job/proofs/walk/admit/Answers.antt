@@ -1,6 +1,5 @@
 use mathlib.Core.Path.{◌∙◌}
 use native.Mathlib.Omega.{arith}
-use borrow.Author.Rules.{rules}
 use Rattle.uses.proofs.Noting.{uses-noted}
 use Rattle.command.specs.Reading.{command_of}
 use Rattle.job.proofs.Going.{read_plain, step-refused, step-valid, step-on}

@@ -1,4 +1,3 @@
-use borrow.Author.Rules.{rules}
 use Rattle.command.proofs.Taken.{reads_whole, reads-refused}
 use Rattle.job.proofs.Going.{step-unread}
 use Rattle.job.proofs.walk.advance.Goals as goal

@@ -1,10 +1,7 @@
-use Prim.Native.Nat.{◌≤◌, ◌-◌}
 use native.Mathlib.Omega.{arith}
-use lib.ListN.{length}
-use borrow.Author.Rules.{rules}
 use Rattle.model.proofs.Decoding.{decode-empty, decode-long}
 use Rattle.job.proofs.Judged.{walk_refuses}
-use Rattle.job.proofs.Going.{Going, going_start, going_end, going-stop, going_on, steps_next, steps-stop}
+use Rattle.job.proofs.Going.{going_start, going_end, going-stop, going_on, steps_next, steps-stop}
 use Rattle.job.proofs.walk.walk.Goals as goal
 
 pub returns-then-job-eq0 : goal.returns-then-job-eq0

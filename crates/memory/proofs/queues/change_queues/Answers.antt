@@ -1,6 +1,5 @@
 use mathlib.Core.Path.{refl}
 use native.Mathlib.Omega.{arith}
-use borrow.Author.Rules.{rules}
 use Rattle.memory.proofs.Unchanged.{slots-left, counts-left}
 use Rattle.memory.proofs.queues.change_queues.Goals as goal
 

@@ -1,6 +1,5 @@
 use Prim.Native.Nat.{◌<◌}
 use mathlib.Core.Path.{◌≡◌, refl, ◌∙◌}
-use mathlib.Core.Logic.{⊎_elim}
 use native.Mathlib.Omega.{arith}
 use lib.ListN.{get_or}
 use borrow.Author.Rules.{rules}
@@ -8,7 +7,7 @@ use Rattle.tables.specs.Bits.{bit_of}
 use Rattle.tables.specs.Tables.{wired_in}
 use Rattle.memory.specs.Queues.{counted}
 use Rattle.memory.proofs.Sending.{ahead-one, ahead-other, ahead_none, counted_target, counted-other, counted-later}
-use Rattle.memory.proofs.Sending.{counted-all, Storing, storing_none, storing_room, storing_counted, storing_target, storing_other}
+use Rattle.memory.proofs.Sending.{counted-all, storing_none, storing_room, storing_counted, storing_target, storing_other}
 use Rattle.memory.proofs.Sending.{storing_all}
 use Rattle.memory.proofs.queues.deliver.Goals as goal
 use Rattle.memory.proofs.queues.deliver.Goals.{then-targets-eq1, else-targets-eq1}

@@ -1,15 +1,7 @@
-use Prim.Native.Nat.{◌<◌}
-use mathlib.Core.Path.{◌≡◌, refl, ◌∙◌}
-use mathlib.Core.Logic.{⊎_elim}
-use native.Mathlib.Omega.{arith}
-use lib.ListN.{get_or}
-use borrow.Author.Rules.{rules}
+use mathlib.Core.Path.{◌≡◌}
 use Rattle.tables.specs.Bits.{bit_of}
-use Rattle.tables.specs.Tables.{wired_in}
 use Rattle.memory.specs.Queues.{counted}
-use Rattle.memory.proofs.Sending.{ahead-one, ahead-other, ahead_none, counted_target, counted-other, counted-later}
-use Rattle.memory.proofs.Sending.{counted-all, Storing, storing_none, storing_room, storing_counted, storing_target, storing_other}
-use Rattle.memory.proofs.Sending.{storing_all}
+use Rattle.memory.proofs.Sending.{Storing}
 use Rattle.memory.proofs.queues.deliver.Given as goal
 
 abbrev pub invariant-loop-targets : goal.invariant-loop-targets

@@ -1,16 +1,10 @@
-use Prim.Native.Nat.{ℕ, ◌*◌, ◌-◌}
-use mathlib.Core.Path.{sym, ap, ◌∙◌}
-use mathlib.Core.List.{List, map}
-use mathlib.Core.Logic.{⊎_elim}
-use native.Mathlib.Omega.{arith}
-use lib.ListN.{get_or, length-map}
-use borrow.Author.Rules.{rules}
+use Prim.Native.Nat.{◌-◌}
+use mathlib.Core.List.{map}
+use lib.ListN.{get_or}
 use Rattle.model.specs.State.{start_sender, message_from}
 use Rattle.tables.specs.Tables.{firsts_in}
 use Rattle.memory.specs.Queues.{BringsOnly}
-use Rattle.memory.proofs.Pairing.{map-set}
-use Rattle.memory.proofs.Waiting.{brings-set}
-use Rattle.memory.proofs.Filled.{Queued, queued_none, queued_one, queued_empty, queued_all}
+use Rattle.memory.proofs.Filled.{Queued}
 use Rattle.memory.proofs.queues.fill_queues.Given as goal
 
 abbrev pub invariant-loop-n : goal.invariant-loop-n

@@ -1,7 +1,5 @@
-use Prim.Native.Nat.{◌-◌, ◌≤◌}
-use mathlib.Core.Path.{◌≡◌, ◌∙◌, ap}
+use mathlib.Core.Path.{◌∙◌, ap}
 use native.Mathlib.Omega.{arith}
-use borrow.Author.Rules.{rules}
 use Rattle.memory.specs.Queues.{shifted}
 use Rattle.memory.proofs.Waiting.{shifted_none, shifted-more}
 use Rattle.memory.proofs.queues.shift.Goals as goal

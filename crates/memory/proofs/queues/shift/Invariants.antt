@@ -1,9 +1,6 @@
 use Prim.Native.Nat.{◌-◌, ◌≤◌}
-use mathlib.Core.Path.{◌≡◌, ◌∙◌, ap}
-use native.Mathlib.Omega.{arith}
-use borrow.Author.Rules.{rules}
+use mathlib.Core.Path.{◌≡◌}
 use Rattle.memory.specs.Queues.{shifted}
-use Rattle.memory.proofs.Waiting.{shifted_none, shifted-more}
 use Rattle.memory.proofs.queues.shift.Given as goal
 
 abbrev pub invariant-loop-k : goal.invariant-loop-k

@@ -1,10 +1,7 @@
-use Prim.Native.Nat.{◌-◌, ◌≤◌}
 use mathlib.Core.Path.{◌≡◌, sym, ◌∙◌}
-use mathlib.Core.Logic.{⊎_elim}
 use native.Mathlib.Omega.{arith}
-use borrow.Author.Rules.{rules}
 use Rattle.model.proofs.Counting.{count_nothing, count-passes, count-fails, count_most}
-use Rattle.memory.specs.Ready.{ready_in, ready_count_in}
+use Rattle.memory.specs.Ready.{ready_in}
 use Rattle.memory.proofs.ready.count_ready.Goals as goal
 use Rattle.memory.proofs.ready.count_ready.Goals.{then-is_ready, else-is_ready}
 

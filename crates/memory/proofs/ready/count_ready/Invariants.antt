@@ -1,10 +1,6 @@
 use Prim.Native.Nat.{◌-◌, ◌≤◌}
-use mathlib.Core.Path.{◌≡◌, sym, ◌∙◌}
-use mathlib.Core.Logic.{⊎_elim}
-use native.Mathlib.Omega.{arith}
-use borrow.Author.Rules.{rules}
-use Rattle.model.proofs.Counting.{count_nothing, count-passes, count-fails, count_most}
-use Rattle.memory.specs.Ready.{ready_in, ready_count_in}
+use mathlib.Core.Path.{◌≡◌}
+use Rattle.memory.specs.Ready.{ready_count_in}
 use Rattle.memory.proofs.ready.count_ready.Given as goal
 
 abbrev pub invariant-loop-n : goal.invariant-loop-n

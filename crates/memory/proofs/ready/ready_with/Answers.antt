@@ -1,7 +1,6 @@
 use borrow.Enum.Refused.{opened}
 use Prim.Native.Nat.{◌≤◌}
 use native.Mathlib.Omega.{arith}
-use borrow.Author.Rules.{rules}
 use Rattle.model.proofs.Counting.{count_most}
 use Rattle.tables.specs.Tables.{wired_in}
 use Rattle.memory.proofs.Unchanged.{woken_none}

@@ -1,8 +1,7 @@
 use Prim.Native.Nat.{◌<◌}
-use mathlib.Core.Logic.{⊎_elim}
 use native.Mathlib.Omega.{arith}
 use borrow.Author.Rules.{rules}
-use Rattle.memory.proofs.Readying.{Waking, waking_none, waking_inside, waking_one, waking_other, waking_all}
+use Rattle.memory.proofs.Readying.{waking_none, waking_inside, waking_one, waking_other, waking_all}
 use Rattle.memory.proofs.ready.woken.Goals as goal
 use Rattle.memory.proofs.ready.woken.Goals.{then-targets-ready, else-targets-ready}
 

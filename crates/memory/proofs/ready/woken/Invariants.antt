@@ -1,8 +1,4 @@
-use Prim.Native.Nat.{◌<◌}
-use mathlib.Core.Logic.{⊎_elim}
-use native.Mathlib.Omega.{arith}
-use borrow.Author.Rules.{rules}
-use Rattle.memory.proofs.Readying.{Waking, waking_none, waking_inside, waking_one, waking_other, waking_all}
+use Rattle.memory.proofs.Readying.{Waking}
 use Rattle.memory.proofs.ready.woken.Given as goal
 
 abbrev pub invariant-loop-targets : goal.invariant-loop-targets

@@ -1,4 +1,3 @@
-use borrow.Author.Rules.{rules}
 use Rattle.memory.proofs.Unchanged.{slots-left}
 use Rattle.memory.proofs.senders.change_senders.Goals as goal
 

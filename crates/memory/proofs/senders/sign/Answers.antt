@@ -1,11 +1,9 @@
 use Prim.Native.Nat.{◌<◌}
 use mathlib.Core.Path.{◌≡◌}
-use mathlib.Core.Logic.{⊎_elim}
 use native.Mathlib.Omega.{arith}
-use lib.ListN.{get_or}
 use borrow.Author.Rules.{rules}
 use Rattle.tables.specs.Tables.{wired_in}
-use Rattle.memory.proofs.Sending.{Storing, storing_none, storing_room, storing_target, storing_other, storing_all}
+use Rattle.memory.proofs.Sending.{storing_none, storing_room, storing_target, storing_other, storing_all}
 use Rattle.memory.proofs.senders.sign.Goals as goal
 use Rattle.memory.proofs.senders.sign.Goals.{then-targets-eq1, else-targets-eq1}
 

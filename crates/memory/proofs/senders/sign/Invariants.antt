@@ -1,11 +1,4 @@
-use Prim.Native.Nat.{◌<◌}
-use mathlib.Core.Path.{◌≡◌}
-use mathlib.Core.Logic.{⊎_elim}
-use native.Mathlib.Omega.{arith}
-use lib.ListN.{get_or}
-use borrow.Author.Rules.{rules}
-use Rattle.tables.specs.Tables.{wired_in}
-use Rattle.memory.proofs.Sending.{Storing, storing_none, storing_room, storing_target, storing_other, storing_all}
+use Rattle.memory.proofs.Sending.{Storing}
 use Rattle.memory.proofs.senders.sign.Given as goal
 
 abbrev pub invariant-loop-targets : goal.invariant-loop-targets

@@ -2,7 +2,6 @@ use borrow.Enum.Refused.{opened}
 use mathlib.Core.Path.{sym}
 use native.Mathlib.Omega.{arith}
 use lib.Seq.{set_out}
-use borrow.Author.Rules.{rules}
 use Rattle.memory.proofs.Unchanged.{variables-left}
 use Rattle.memory.proofs.variables.change_variable.Goals as goal
 

@@ -1,9 +1,7 @@
 use Prim.Native.Nat.{◌-◌}
-use native.Mathlib.Omega.{arith}
-use borrow.Author.Rules.{rules}
 use Rattle.model.specs.Table.{max_variables}
 use Rattle.tables.specs.Tables.{start_in}
-use Rattle.memory.proofs.Filled.{Filled, filled_none, filled_more, filled-all}
+use Rattle.memory.proofs.Filled.{Filled}
 use Rattle.memory.proofs.variables.fill_variables.Given as goal
 
 abbrev pub invariant-loop-x : goal.invariant-loop-x

@@ -1,7 +1,6 @@
 use mathlib.Core.Path.{◌∙◌}
 use Rattle.tables.specs.Cells.{put_half}
 use Rattle.tables.specs.Writes.{made}
-use borrow.Author.Rules.{rules}
 use Rattle.notes.proofs.chains.note_range.Goals as goal
 
 pub returns : goal.returns

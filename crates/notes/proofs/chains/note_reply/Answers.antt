@@ -1,6 +1,5 @@
 use mathlib.Core.Path.{◌∙◌}
 use Rattle.tables.specs.Writes.{made}
-use borrow.Author.Rules.{rules}
 use Rattle.notes.proofs.chains.note_reply.Goals as goal
 
 pub returns : goal.returns

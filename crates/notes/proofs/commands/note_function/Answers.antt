@@ -1,5 +1,4 @@
 use mathlib.Core.Path.{◌∙◌}
-use borrow.Author.Rules.{rules}
 use Rattle.notes.proofs.commands.note_function.Goals as goal
 
 pub returns : goal.returns

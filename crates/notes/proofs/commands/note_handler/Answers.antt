@@ -1,5 +1,4 @@
 use mathlib.Core.Path.{◌∙◌}
-use borrow.Author.Rules.{rules}
 use Rattle.notes.proofs.commands.note_handler.Goals as goal
 
 pub returns-then-is_handler : goal.returns-then-is_handler

@@ -1,4 +1,3 @@
-use borrow.Author.Rules.{rules}
 use borrow.Author.Tests.{eq-eqb, ne_eqb}
 use Rattle.tables.specs.Bits.{with_half}
 use Rattle.tables.proofs.bits.with_half.Goals as goal

@@ -1,11 +1,8 @@
-use Prim.Native.Nat.{ℕ, ◌≤◌, ◌<◌, ◌-◌}
 use mathlib.Core.Path.{◌≡◌, ◌∙◌}
 use native.Mathlib.Omega.{arith}
-use lib.ListN.{length, get_or, length-set, set}
+use lib.ListN.{get_or, length-set, set}
 use lib.Seq.{get_or-set_same, get_or-set_other}
-use borrow.Author.Rules.{rules}
 use borrow.Author.Count.{below_more}
-use Rattle.tables.specs.Cells.{cell_count}
 use Rattle.tables.proofs.Writing.{blank-each}
 use Rattle.tables.proofs.cells.clear.Goals as goal
 

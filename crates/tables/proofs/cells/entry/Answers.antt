@@ -1,5 +1,4 @@
 use mathlib.Core.Path.{sym}
-use borrow.Author.Rules.{rules}
 use Rattle.tables.proofs.Writing.{entry-inside, entry_past, entry_outside}
 use Rattle.tables.proofs.cells.entry.Goals as goal
 

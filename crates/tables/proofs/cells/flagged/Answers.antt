@@ -1,4 +1,3 @@
-use borrow.Author.Rules.{rules}
 use Rattle.tables.specs.Cells.{flag_in}
 use Rattle.tables.proofs.cells.flagged.Goals as goal
 

@@ -1,5 +1,4 @@
 use mathlib.Core.Path.{◌∙◌}
-use borrow.Author.Rules.{rules}
 use Rattle.tables.specs.Cells.{half_in}
 use Rattle.tables.proofs.cells.half.Goals as goal
 

@@ -1,5 +1,4 @@
 use mathlib.Core.Path.{sym, ◌∙◌}
-use borrow.Author.Rules.{rules}
 use Rattle.tables.proofs.Writing.{marked_inside, marked_below, marked_beside}
 use Rattle.tables.proofs.cells.mark.Goals as goal
 

@@ -1,5 +1,4 @@
 use mathlib.Core.Path.{sym, ◌∙◌}
-use borrow.Author.Rules.{rules}
 use Rattle.tables.proofs.Writing.{mark_inside, mark_below, mark_beside}
 use Rattle.tables.proofs.cells.marked.Goals as goal
 

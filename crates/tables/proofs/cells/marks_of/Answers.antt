@@ -1,5 +1,4 @@
 use mathlib.Core.Path.{sym, ◌∙◌}
-use borrow.Author.Rules.{rules}
 use Rattle.tables.proofs.Setting.{bit_zero}
 use Rattle.tables.proofs.Writing.{mark_first, mark_below}
 use Rattle.tables.proofs.cells.marks_of.Goals as goal

@@ -1,5 +1,4 @@
 use mathlib.Core.Path.{sym}
-use borrow.Author.Rules.{rules}
 use Rattle.tables.proofs.Writing.{put-inside, put-past, put_outside}
 use Rattle.tables.proofs.cells.put.Goals as goal
 

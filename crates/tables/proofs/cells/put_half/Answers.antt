@@ -1,5 +1,4 @@
 use mathlib.Core.Path.{◌∙◌}
-use borrow.Author.Rules.{rules}
 use Rattle.tables.specs.Cells.{put_half}
 use Rattle.tables.proofs.cells.put_half.Goals as goal
 
