@@ -100,7 +100,8 @@ fn is_kept(buffer: &[u8], from: usize, seed: u8) -> bool
 {
     let mut i = from;
     while i < buffer.len() {
-        if buffer[i] != fill_byte(seed, i) {
+        let byte = buffer[i];
+        if byte != fill_byte(seed, i) {
             return false;
         }
         i += 1;

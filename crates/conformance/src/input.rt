@@ -1,9 +1,9 @@
-// The runs on standard input: a head of 12 bytes, then the job's bytes.
+// The runs that a reader gives: of each a head of 12 bytes, then the job's bytes.
 ghost use Rattle.std.specs.Prelude.{◌≡◌, ◌<◌, ◌≤◌, length};
 ghost use Rattle.conformance.specs.Input.{RecordFits, Short};
 
 use job::schedule::Schedule;
-use libc::STDIN_FILENO;
+use std::io::Read;
 
 // What a run is asked to be: how its turns are given, monitored or not, which byte is changed after it, what its buffers hold before it,
 // and the lengths of its job and of its buffers.
@@ -19,7 +19,7 @@ pub struct Head {
     pub work: usize,
 }
 
-// What stands next on standard input: a run, or none.
+// What the reader gives next: a run, or none.
 #[derive(Clone, Copy)]
 pub enum Record {
     Run(Head),
@@ -55,10 +55,27 @@ fn schedule_of(flags: u8, budget: usize) -> Schedule {
     Schedule::Dispatched(budget as u64)
 }
 
+// Reads to the front of a buffer until the buffer is full, the input ends or a read fails, and answers how many bytes were read.
+fn read_full(reader: &mut impl Read, buffer: &mut [u8]) -> usize
+    ensures { result ≤ length buffer.new }
+{
+    let mut size: usize = 0;
+    while size < buffer.len() {
+        let Ok(count) = reader.read(&mut buffer[size..]) else {
+            return size;
+        };
+        if count == 0 {
+            return size;
+        }
+        size += count;
+    }
+    size
+}
+
 // Reads a head; at the end of the input, be it inside a head, there is none.
-fn read_head() -> Record {
+fn read_head(reader: &mut impl Read) -> Record {
     let mut head = [0u8; 12];
-    if io::read_full(STDIN_FILENO, &mut head) < 12 {
+    if read_full(reader, &mut head) < 12 {
         return Record::End;
     }
     Record::Run(Head {
@@ -94,16 +111,16 @@ fn is_short(head: Head) -> bool
 
 // Reads the next run, its job into the front of the buffer. The runs are over where the input ends, be it inside a run, and at a length
 // above the largest.
-pub fn read_run(job: &mut [u8]) -> Record
+pub fn read_run(reader: &mut impl Read, job: &mut [u8]) -> Record
     requires { 16400 ≤ length job.old }
     ensures { RecordFits result }
 {
-    let Record::Run(head) = read_head() else {
+    let Record::Run(head) = read_head(reader) else {
         return Record::End;
     };
     let size = head.job;
     if is_short(head) {
-        if io::read_full(STDIN_FILENO, &mut job[..size]) == size {
+        if read_full(reader, &mut job[..size]) == size {
             return Record::Run(head);
         }
     }

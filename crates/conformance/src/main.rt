@@ -12,8 +12,8 @@ ghost use Rattle.conformance.specs.Keeping.{verdict_line};
 
 use buffers::{change_one, fill_all, kept};
 use input::{Head, LONGEST_JOB, LONGEST_SNAPSHOT, LONGEST_TRACE, LONGEST_WORK, Record, read_run};
-use libc::STDOUT_FILENO;
 use printing::{Printed, run_to_text};
+use std::io::{Print, Read};
 use text::put;
 
 // The bytes of text of one run at most, and of all that wait to be written.
@@ -84,21 +84,26 @@ fn conform(
     run_filled(head, job, trace, snapshot, work, text, at)
 }
 
+// Writes text to the standard output. Where that fails, the runs go on.
+fn write_out(rt: &impl Print, text: &[u8]) {
+    let _ = rt.write_all(text);
+}
+
 // Writes the text out if that of one more run may not fit after it, and answers where that goes.
-fn make_room(text: &[u8], at: usize) -> usize
+fn make_room(rt: &impl Print, text: &[u8], at: usize) -> usize
     requires { (at ≤ length text.now) × (131080 ≤ length text.now) }
     ensures { result + 131080 ≤ length text.now }
 {
     if at <= text.len() - LINES {
         return at;
     }
-    io::write_all(STDOUT_FILENO, &text[..at]);
+    write_out(rt, &text[..at]);
     0
 }
 
 // Runs one job after another, with room for the largest lengths, and answers where the text that still waits ends. A proved loop has to
 // end, and nothing says that the input does: the rounds are counted down from a number that no input uses up.
-fn conform_all(text: &mut [u8]) -> usize
+fn conform_all(rt: &impl Print, reader: &mut impl Read, text: &mut [u8]) -> usize
     requires { length text.old ≡ 262144 }
     ensures { result ≤ 262144 }
 {
@@ -109,7 +114,7 @@ fn conform_all(text: &mut [u8]) -> usize
     let mut at: usize = 0;
     let mut left = u64::MAX;
     while left > 0 {
-        let found = read_run(&mut job);
+        let found = read_run(reader, &mut job);
         let Record::Run(head) = found else {
             return at;
         };
@@ -126,15 +131,15 @@ fn conform_all(text: &mut [u8]) -> usize
             text,
             at,
         );
-        at = make_room(text, end);
+        at = make_room(rt, text, end);
         left -= 1;
     }
     at
 }
 
 // Runs all jobs and writes the rest of the text.
-fn main() {
+fn main(rt: HostRuntime) {
     let mut text = [0u8; TEXT];
-    let end = conform_all(&mut text);
-    io::write_all(STDOUT_FILENO, &text[..end]);
+    let end = conform_all(&rt, &mut rt.stdin(), &mut text);
+    write_out(&rt, &text[..end]);
 }

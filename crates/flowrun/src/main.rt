@@ -11,8 +11,9 @@ ghost use Rattle.flowrun.specs.Numbers.{number_of, number_as};
 ghost use Rattle.printing.specs.Printing.{lines_by, text_size};
 
 use job::schedule::Schedule;
-use libc::{STDERR_FILENO, STDIN_FILENO, STDOUT_FILENO};
 use printing::{Printed, TEXT, run_to_text};
+use std::env::{Env, FillError};
+use std::io::{Eprint, Print, Read};
 
 // The bytes that are read at most: one more than a job may have, so that a longer one is refused for its length.
 const JOB: usize = 16385;
@@ -93,13 +94,34 @@ fn number_in(word: &[u8]) -> Number
     Number::Value(value)
 }
 
+// How many arguments there are, the program's name among them.
+fn argument_count(arguments: &impl Env) -> usize {
+    let mut first = [0u8; 1];
+    for i in 0..usize::MAX {
+        if let Err(FillError::NotPresent) = arguments.arg(i, &mut first) {
+            return i;
+        }
+    }
+    usize::MAX
+}
+
+// Copies an argument to the front of a buffer, and answers its length; 0 if it is missing or longer than the buffer.
+fn argument(arguments: &impl Env, at: usize, word: &mut [u8]) -> usize
+    ensures { result ≤ length word.new }
+{
+    match arguments.arg(at, word) {
+        Ok(size) => size,
+        Err(_) => 0,
+    }
+}
+
 // The run with its turns given in this way: monitored if no argument is left from the next one on, unmonitored if `bare` alone is left.
-fn asked_after(schedule: Schedule, next: usize, count: usize) -> Order {
+fn asked_after(arguments: &impl Env, schedule: Schedule, next: usize, count: usize) -> Order {
     if count <= next {
         return Order::Run(schedule, true);
     }
     let mut word = [0u8; 8];
-    let size = os::arg(next, &mut word);
+    let size = argument(arguments, next, &mut word);
     if count - next == 1 && is_bare(&word[..size]) {
         return Order::Run(schedule, false);
     }
@@ -107,40 +129,39 @@ fn asked_after(schedule: Schedule, next: usize, count: usize) -> Order {
 }
 
 // What the arguments ask for: turns as written, or with `dispatch` and a budget dispatched ones.
-fn asked() -> Order {
-    let count = os::arg_count();
+fn asked(arguments: &impl Env) -> Order {
+    let count = argument_count(arguments);
     let mut word = [0u8; 8];
-    let size = os::arg(1, &mut word);
+    let size = argument(arguments, 1, &mut word);
     if !is_dispatch(&word[..size]) {
-        return asked_after(Schedule::Written, 1, count);
+        return asked_after(arguments, Schedule::Written, 1, count);
     }
     let mut digits = [0u8; 16];
-    let length = os::arg(2, &mut digits);
+    let length = argument(arguments, 2, &mut digits);
     let budget = number_in(&digits[..length]);
     match budget {
-        Number::Value(n) => asked_after(Schedule::Dispatched(n), 3, count),
+        Number::Value(n) => asked_after(arguments, Schedule::Dispatched(n), 3, count),
         Number::Not => Order::Unknown,
     }
 }
 
-// Reads once from standard input, to the front of a buffer.
-fn read_part(buffer: &mut [u8]) -> Input
+// Reads once, to the front of a buffer.
+fn read_part(reader: &mut impl Read, buffer: &mut [u8]) -> Input
     ensures { ReadWithin (length buffer.old) result }
 {
-    let got = libc::read(STDIN_FILENO, buffer);
-    if got < 0 {
-        return Input::Failed;
+    match reader.read(buffer) {
+        Ok(count) => Input::Bytes(count),
+        Err(_) => Input::Failed,
     }
-    Input::Bytes(io::count(got, buffer))
 }
 
-// Reads from standard input to the front of a buffer, until the buffer is full, the input ends or a read fails.
-fn read_job(job: &mut [u8]) -> Input
+// Reads to the front of a buffer, until the buffer is full, the input ends or a read fails.
+fn read_job(reader: &mut impl Read, job: &mut [u8]) -> Input
     ensures { ReadWithin (length job.old) result }
 {
     let mut size: usize = 0;
     while size < job.len() {
-        let part = read_part(&mut job[size..]);
+        let part = read_part(reader, &mut job[size..]);
         let Input::Bytes(count) = part else {
             return Input::Failed;
         };
@@ -179,33 +200,34 @@ fn put_lines(text: &mut [u8], job: &[u8], schedule: Schedule, monitored: bool) -
     }
 }
 
+// Says on standard error why there are no lines. Where even that cannot be written, nothing is left to say.
+fn complain(rt: &impl Eprint, message: &str) {
+    let _ = rt.eprintln(message);
+}
+
 // Prints the lines of a job's run.
-fn print_lines(job: &[u8], schedule: Schedule, monitored: bool) {
+fn print_lines(rt: &(impl Print + Eprint), job: &[u8], schedule: Schedule, monitored: bool) {
     let mut text = [0u8; TEXT];
     let end = put_lines(&mut text, job, schedule, monitored);
-    if !io::write_all(STDOUT_FILENO, &text[..end]) {
-        io::write_all(STDERR_FILENO, b"flowrun: cannot write the lines\n");
+    if rt.write_all(&text[..end]).is_err() {
+        complain(rt, "flowrun: cannot write the lines");
     }
 }
 
-// Runs the job on standard input and prints its lines.
-fn print(schedule: Schedule, monitored: bool) {
+// Runs the job that the reader gives and prints its lines.
+fn print(rt: &(impl Print + Eprint), reader: &mut impl Read, schedule: Schedule, monitored: bool) {
     let mut job = [0u8; JOB];
-    let input = read_job(&mut job);
+    let input = read_job(reader, &mut job);
     match input {
-        Input::Bytes(size) => print_lines(&job[..size], schedule, monitored),
-        Input::Failed => {
-            io::write_all(STDERR_FILENO, b"flowrun: cannot read the job\n");
-        }
+        Input::Bytes(size) => print_lines(rt, &job[..size], schedule, monitored),
+        Input::Failed => complain(rt, "flowrun: cannot read the job"),
     }
 }
 
-fn main() {
-    let order = asked();
+fn main(rt: HostRuntime) {
+    let order = asked(&rt);
     match order {
-        Order::Run(schedule, monitored) => print(schedule, monitored),
-        Order::Unknown => {
-            io::write_all(STDERR_FILENO, b"usage: flowrun [dispatch BUDGET] [bare]\n");
-        }
+        Order::Run(schedule, monitored) => print(&rt, &mut rt.stdin(), schedule, monitored),
+        Order::Unknown => complain(&rt, "usage: flowrun [dispatch BUDGET] [bare]"),
     }
 }

@@ -48,7 +48,6 @@ use Rattle.writing.specs.Writing.{Writes}
 use Rattle.writing.proofs.Placing.{writes-on, writes_nothing, placed-front}
 use Rattle.output.specs.Written.{Narrow, NarrowPositions, shown_bytes}
 use Rattle.turns.specs.declared.ending.Ending.{Ending}
-use Rattle.turns.specs.declared.ending.CountedEnding.{CountedEnding}
 use Rattle.turns.specs.declared.ending.Halt.{Halt}
 use Rattle.turns.specs.declared.ending.Halt.TheVariants as v
 use Rattle.turns.specs.Endings.{answer_of, answer_at}

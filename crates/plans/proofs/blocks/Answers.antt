@@ -1,6 +1,5 @@
 use borrow.Enum.Refused.{opened}
 use mathlib.Core.Path.{◌∙◌}
-use borrow.Author.Rules.{rules}
 use Rattle.tables.specs.Programs.{program_in}
 use Rattle.plans.proofs.Deciding.{full_blocks, silent-goes}
 use Rattle.plans.proofs.blocks.Goals as goal

@@ -1,5 +1,4 @@
 use mathlib.Core.Path.{sym, ◌∙◌, ap}
-use borrow.Author.Rules.{rules}
 use Rattle.tables.specs.Programs.{program_in}
 use Rattle.memory.specs.declared.Registers.{Registers}
 use Rattle.memory.proofs.Readying.{ready-few, ready-stays, ready_on}

@@ -1,4 +1,3 @@
-use borrow.Author.Rules.{rules}
 use Rattle.plans.proofs.is_forbidden.Goals as goal
 
 pub returns-then-monitored : goal.returns-then-monitored

@@ -7,7 +7,6 @@ use Rattle.command.proofs.Fetching.{inside-command, after-command}
 use Rattle.tables.specs.Programs.{program_in}
 use Rattle.memory.proofs.Readying.{ready-stays, ready-begun, ready_less, ready-same}
 use Rattle.plans.proofs.Turning.{unready-planned, begun-planned, finished-planned, executed-planned, not_end, countable}
-use borrow.Author.Rules.{rules}
 use Rattle.plans.proofs.plan_turn.Goals as goal
 
 pub returns-then-waiting-i-eq0 : goal.returns-then-waiting-i-eq0

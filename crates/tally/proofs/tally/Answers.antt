@@ -1,6 +1,5 @@
 use mathlib.Core.Path.{refl, sym}
 use native.Mathlib.Omega.{arith}
-use borrow.Author.Rules.{rules}
 use Rattle.model.specs.Declared.{handler_of}
 use Rattle.job.proofs.Judged.{is-accepted, is-refused}
 use Rattle.tally.proofs.Told.{few-nodes, told_of, left_of}

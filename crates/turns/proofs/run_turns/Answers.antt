@@ -1,4 +1,4 @@
-use Prim.Native.Nat.{◌-◌, ◌<◌}
+use Prim.Native.Nat.{◌<◌}
 use mathlib.Core.Path.{◌≡◌, refl, sym, subst, ◌∙◌}
 use mathlib.Core.List.{List}
 use native.Mathlib.Omega.{arith}
@@ -8,7 +8,7 @@ use Rattle.model.specs.Program.{program_of}
 use Rattle.output.specs.Written.{entry_with, Narrow}
 use Rattle.turns.specs.Runs.{Loaded, run_of, RunsAs}
 use Rattle.turns.proofs.Given.{turns_for}
-use Rattle.turns.proofs.Running.{Underway, Reached, underway_none, from_low, counts-ready, ready-counted, nobody-few, underway_nobody}
+use Rattle.turns.proofs.Running.{Underway, underway_none, from_low, counts-ready, ready-counted, nobody-few, underway_nobody}
 use Rattle.turns.proofs.Running.{node-inside, node-among, chosen-few, made_narrow, underway_next, underway_stopped, reached, halted, turns_by_lem, turns-few}
 use Rattle.turns.proofs.Running.{nodes-few, variables-few, runs_as}
 use Rattle.turns.proofs.run_turns.Goals as goal

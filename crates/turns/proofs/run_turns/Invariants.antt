@@ -1,16 +1,6 @@
-use Prim.Native.Nat.{◌-◌, ◌<◌}
-use mathlib.Core.Path.{◌≡◌, refl, sym, subst, ◌∙◌}
-use mathlib.Core.List.{List}
-use native.Mathlib.Omega.{arith}
-use borrow.Author.Rules.{rules}
-use Rattle.model.specs.Command.{Command}
-use Rattle.model.specs.Program.{program_of}
-use Rattle.output.specs.Written.{entry_with, Narrow}
-use Rattle.turns.specs.Runs.{Loaded, run_of, RunsAs}
-use Rattle.turns.proofs.Given.{turns_for}
-use Rattle.turns.proofs.Running.{Underway, Reached, underway_none, from_low, counts-ready, ready-counted, nobody-few, underway_nobody}
-use Rattle.turns.proofs.Running.{node-inside, node-among, chosen-few, made_narrow, underway_next, underway_stopped, reached, halted, turns_by_lem, turns-few}
-use Rattle.turns.proofs.Running.{nodes-few, variables-few, runs_as}
+use Prim.Native.Nat.{◌-◌}
+use Rattle.turns.specs.Runs.{Loaded}
+use Rattle.turns.proofs.Running.{Reached}
 use Rattle.turns.proofs.run_turns.Given as goal
 
 abbrev pub invariant-loop-k : goal.invariant-loop-k

@@ -1,7 +1,7 @@
-use Prim.Native.Nat.{ℕ, ◌<◌}
+use Prim.Native.Nat.{◌<◌}
 use mathlib.Core.Path.{refl}
 use native.Mathlib.Omega.{arith}
-use borrow.Author.Rules.{rules, length_unmapped}
+use borrow.Author.Rules.{rules}
 use Rattle.tables.specs.Tables.{wired_in}
 use Rattle.memory.specs.Queues.{count_at}
 use Rattle.memory.specs.Changes.{Possible}

@@ -1,5 +1,4 @@
 use mathlib.Core.Path.{◌∙◌}
-use borrow.Author.Rules.{rules}
 use Rattle.output.proofs.numbers.numbers_of.Goals as goal
 
 pub returns-in-Other : goal.returns-in-Other

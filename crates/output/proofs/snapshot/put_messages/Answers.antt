@@ -1,8 +1,7 @@
-use Prim.Native.Nat.{◌-◌, ◌≤◌}
 use mathlib.Core.Path.{◌≡◌}
 use native.Mathlib.Omega.{arith}
 use borrow.Author.Rules.{rules}
-use Rattle.output.proofs.Messages.{MessagesWritten, none_written, one_written}
+use Rattle.output.proofs.Messages.{none_written, one_written}
 use Rattle.output.proofs.snapshot.put_messages.Goals as goal
 
 pub loop-i-init : goal.loop-i-init

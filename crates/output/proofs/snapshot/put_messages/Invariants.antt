@@ -1,8 +1,5 @@
 use Prim.Native.Nat.{◌-◌, ◌≤◌}
-use mathlib.Core.Path.{◌≡◌}
-use native.Mathlib.Omega.{arith}
-use borrow.Author.Rules.{rules}
-use Rattle.output.proofs.Messages.{MessagesWritten, none_written, one_written}
+use Rattle.output.proofs.Messages.{MessagesWritten}
 use Rattle.output.proofs.snapshot.put_messages.Given as goal
 
 abbrev pub invariant-loop-i : goal.invariant-loop-i

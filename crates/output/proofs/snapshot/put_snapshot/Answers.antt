@@ -1,9 +1,7 @@
-use Prim.Native.Nat.{◌-◌, ◌≤◌}
 use mathlib.Core.Path.{◌≡◌}
 use native.Mathlib.Omega.{arith}
 use borrow.Author.Rules.{rules}
-use Rattle.engine.specs.Engine.{view_of}
-use Rattle.output.proofs.Parts.{Shown, none_shown, view_bounded, one_shown, all_shown}
+use Rattle.output.proofs.Parts.{none_shown, view_bounded, one_shown, all_shown}
 use Rattle.output.proofs.snapshot.put_snapshot.Goals as goal
 
 pub loop-n-init : goal.loop-n-init

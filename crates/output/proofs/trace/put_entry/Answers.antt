@@ -1,5 +1,4 @@
 use native.Mathlib.Omega.{arith}
-use borrow.Author.Rules.{rules}
 use Rattle.writing.proofs.Placing.{writes-on}
 use Rattle.output.specs.Written.{entry_with}
 use Rattle.output.proofs.Entries.{entry_bytes_lem}

@@ -1,12 +1,11 @@
 use Prim.Native.Nat.{◌^◌, ◌<◌}
 use mathlib.Core.Path.{◌≡◌, refl, ◌∙◌}
-use mathlib.Core.Logic.{⊎_elim}
 use native.Mathlib.Omega.{arith}
 use lib.ListN.{get_or}
 use borrow.Author.Rules.{rules}
 use Rattle.tables.specs.Bits.{bit_of}
 use Rattle.memory.specs.Queues.{counted}
-use Rattle.memory.proofs.Sending.{Ahead, ahead-first, ahead-inside, ahead-one, ahead-other, ahead-next, counted_target, counted-other}
+use Rattle.memory.proofs.Sending.{ahead-first, ahead-inside, ahead-one, ahead-other, ahead-next, counted_target, counted-other}
 use Rattle.memory.proofs.Sending.{counted-later}
 use Rattle.tally.proofs.Adding.{adds_targets}
 use Rattle.tally.proofs.counting.add_targets.Goals as goal

@@ -1,14 +1,7 @@
-use Prim.Native.Nat.{◌^◌, ◌<◌}
-use mathlib.Core.Path.{◌≡◌, refl, ◌∙◌}
-use mathlib.Core.Logic.{⊎_elim}
-use native.Mathlib.Omega.{arith}
-use lib.ListN.{get_or}
-use borrow.Author.Rules.{rules}
+use mathlib.Core.Path.{◌≡◌}
 use Rattle.tables.specs.Bits.{bit_of}
 use Rattle.memory.specs.Queues.{counted}
-use Rattle.memory.proofs.Sending.{Ahead, ahead-first, ahead-inside, ahead-one, ahead-other, ahead-next, counted_target, counted-other}
-use Rattle.memory.proofs.Sending.{counted-later}
-use Rattle.tally.proofs.Adding.{adds_targets}
+use Rattle.memory.proofs.Sending.{Ahead}
 use Rattle.tally.proofs.counting.add_targets.Given as goal
 
 abbrev pub invariant-loop-ahead : goal.invariant-loop-ahead

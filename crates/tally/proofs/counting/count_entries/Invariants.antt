@@ -1,14 +1,8 @@
-use Prim.Native.Nat.{◌-◌, ◌^◌, ◌≤◌, ◌<◌}
-use mathlib.Core.Path.{◌≡◌}
-use mathlib.Core.List.{[]}
-use native.Mathlib.Omega.{arith}
-use lib.ListN.{length}
-use borrow.Author.Rules.{rules}
-use Rattle.model.specs.Tally.{reaches, takes, received, taken}
+use Prim.Native.Nat.{◌-◌, ◌≤◌}
+use Rattle.model.specs.Tally.{received, taken}
 use Rattle.tables.specs.Programs.{Handlers, program_in}
 use Rattle.output.specs.Finding.{entry_from}
 use Rattle.tally.specs.Counted.{Numbered}
-use Rattle.tally.proofs.Adding.{counts-first, counts-next, counts-room}
 use Rattle.tally.proofs.counting.count_entries.Given as goal
 
 abbrev pub invariant-loop-k : goal.invariant-loop-k

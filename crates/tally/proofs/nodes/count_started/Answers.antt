@@ -1,5 +1,4 @@
 use mathlib.Core.Path.{ap}
-use borrow.Author.Rules.{rules}
 use lib.ListN.{length}
 use Rattle.tables.specs.Programs.{program_in}
 use Rattle.tally.proofs.nodes.count_started.Goals as goal

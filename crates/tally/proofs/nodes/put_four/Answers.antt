@@ -1,5 +1,4 @@
 use native.Mathlib.Omega.{arith}
-use borrow.Author.Rules.{rules}
 use Rattle.writing.proofs.Placing.{writes-on}
 use Rattle.tally.proofs.nodes.put_four.Goals as goal
 

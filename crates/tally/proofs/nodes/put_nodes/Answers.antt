@@ -1,13 +1,12 @@
-use Prim.Native.Nat.{ℕ, ◌+◌, ◌-◌, ◌*◌, ◌≤◌}
+use Prim.Native.Nat.{ℕ, ◌+◌, ◌*◌, ◌≤◌}
 use mathlib.Core.Path.{◌≡◌, refl, sym, ap, ◌∙◌}
 use mathlib.Core.List.{List, []}
 use native.Mathlib.Omega.{arith}
 use lib.ListN.{length}
-use borrow.Author.Rules.{rules}
 use Rattle.writing.specs.Writing.{Writes, joined}
-use Rattle.writing.proofs.Putting.{Put, none-put, room, one-put, all-put}
+use Rattle.writing.proofs.Putting.{none-put, room, one-put, all-put}
 use Rattle.tables.specs.Programs.{Handlers, program_in}
-use Rattle.output.specs.Finding.{waiting_in, part_at}
+use Rattle.output.specs.Finding.{waiting_in}
 use Rattle.output.proofs.Finding.{part_first}
 use Rattle.tally.specs.Counted.{tally_by}
 use Rattle.tally.proofs.Fours.{length_fours}

@@ -1,16 +1,9 @@
-use Prim.Native.Nat.{ℕ, ◌+◌, ◌-◌, ◌*◌, ◌≤◌}
-use mathlib.Core.Path.{◌≡◌, refl, sym, ap, ◌∙◌}
-use mathlib.Core.List.{List, []}
-use native.Mathlib.Omega.{arith}
-use lib.ListN.{length}
-use borrow.Author.Rules.{rules}
-use Rattle.writing.specs.Writing.{Writes, joined}
-use Rattle.writing.proofs.Putting.{Put, none-put, room, one-put, all-put}
+use Prim.Native.Nat.{◌-◌, ◌*◌, ◌≤◌}
+use mathlib.Core.Path.{◌≡◌}
+use Rattle.writing.proofs.Putting.{Put}
 use Rattle.tables.specs.Programs.{Handlers, program_in}
-use Rattle.output.specs.Finding.{waiting_in, part_at}
-use Rattle.output.proofs.Finding.{part_first}
+use Rattle.output.specs.Finding.{part_at}
 use Rattle.tally.specs.Counted.{tally_by}
-use Rattle.tally.proofs.Fours.{length_fours}
 use Rattle.tally.proofs.nodes.put_nodes.Given as goal
 
 abbrev pub invariant-loop-n : goal.invariant-loop-n

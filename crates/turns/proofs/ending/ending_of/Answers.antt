@@ -1,5 +1,4 @@
 use mathlib.Core.Path.{◌∙◌}
-use borrow.Author.Rules.{rules}
 use Rattle.turns.proofs.ending.ending_of.Goals as goal
 
 pub returns-in-RanOut : goal.returns-in-RanOut
