@@ -1,4 +1,3 @@
-use borrow.Author.Rules.{rules}
 use Rattle.lines.specs.Lines.{examined_line}
 use Rattle.lines.proofs.put_examined.Goals as goal
 

@@ -1,4 +1,3 @@
-use borrow.Author.Rules.{rules}
 use Rattle.lines.specs.Lines.{refused_line}
 use Rattle.lines.proofs.put_refusal.Goals as goal
 

@@ -1,4 +1,3 @@
-use borrow.Author.Rules.{rules}
 use Rattle.turns.specs.Endings.{answer_of}
 use Rattle.lines.proofs.Parts.{entries-room, answer-room, snapshot-room, run-put}
 use Rattle.lines.proofs.put_run.Goals as goal

@@ -1,7 +1,6 @@
 use mathlib.Core.Path.{refl, sym, ◌∙◌}
 use mathlib.Core.List.{[]}
 use native.Mathlib.Omega.{arith}
-use borrow.Author.Rules.{rules}
 use Rattle.model.specs.Table.{NODE, VAR}
 use Rattle.turns.specs.Endings.{answer_of}
 use Rattle.lines.specs.Lines.{run_lines}

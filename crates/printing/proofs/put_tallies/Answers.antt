@@ -1,7 +1,6 @@
 use mathlib.Core.Path.{sym}
 use mathlib.Core.List.{[]}
 use native.Mathlib.Omega.{arith}
-use borrow.Author.Rules.{rules}
 use Rattle.tables.specs.Programs.{Handlers, program_in}
 use Rattle.printing.proofs.Tallying.{same_tallies, same_size}
 use Rattle.printing.proofs.put_tallies.Goals as goal

@@ -1,4 +1,3 @@
-use borrow.Author.Rules.{rules}
 use Rattle.writing.proofs.Placing.{writes_nothing}
 use Rattle.printing.proofs.put_total.Goals as goal
 

@@ -1,8 +1,8 @@
-use mathlib.Core.Path.{refl, sym, ◌∙◌}
+use mathlib.Core.Path.{sym, ◌∙◌}
 use Prim.Native.Nat.{◌+◌}
 use native.Mathlib.Omega.{arith}
 use lib.ListN.{length}
-use borrow.Author.Tests.{not-true, not-false, leb-true}
+use borrow.Author.Tests.{leb-true}
 use Rattle.run.specs.declared.answer.Answer.TheVariants as a
 use Rattle.model.specs.Result.{sizes_of}
 use Rattle.command.specs.Reading.{refusal_of}
@@ -13,7 +13,6 @@ use Rattle.printing.specs.Printing.{text_size}
 use Rattle.printing.proofs.Outcomes.{refused-result, ended_as, is-accepted, trace-inside, snapshot-inside, lines-short, lines_same}
 use Rattle.printing.proofs.Outcomes.{refused-same, kept-length, put_as}
 use Rattle.printing.proofs.Short.{refused-short, total-short}
-use borrow.Author.Rules.{rules}
 use Rattle.printing.proofs.run_to_text.Goals as goal
 
 pub returns-then-not-has_room : goal.returns-then-not-has_room

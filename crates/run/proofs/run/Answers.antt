@@ -1,4 +1,3 @@
-use borrow.Author.Rules.{rules}
 use Rattle.job.proofs.Judged.{is-accepted, is-refused}
 use Rattle.run.specs.Answers.{buffers}
 use Rattle.run.proofs.Delivering.{reports_refused, reports_ran}

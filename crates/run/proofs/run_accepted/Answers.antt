@@ -1,5 +1,4 @@
 use native.Mathlib.Omega.{arith}
-use borrow.Author.Rules.{rules}
 use Rattle.run.specs.Answers.{buffers}
 use Rattle.run.proofs.Delivering.{may_load, trace-fits, snapshot-fits, work-fits, good-budget, is-ready, hands-over}
 use Rattle.run.proofs.run_accepted.Goals as goal

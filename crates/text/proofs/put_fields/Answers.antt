@@ -1,9 +1,6 @@
-use Prim.Native.Nat.{◌-◌, ◌≤◌}
 use native.Mathlib.Omega.{arith}
-use lib.ListN.{length, get_or}
 use borrow.Author.Rules.{rules}
-use Rattle.text.specs.Text.{field}
-use Rattle.writing.proofs.Putting.{Put, none-put, room, one-put, all-put}
+use Rattle.writing.proofs.Putting.{none-put, room, one-put, all-put}
 use Rattle.text.proofs.Putting.{fields-each}
 use Rattle.text.proofs.put_fields.Goals as goal
 

@@ -1,10 +1,7 @@
 use Prim.Native.Nat.{◌-◌, ◌≤◌}
-use native.Mathlib.Omega.{arith}
 use lib.ListN.{length, get_or}
-use borrow.Author.Rules.{rules}
 use Rattle.text.specs.Text.{field}
-use Rattle.writing.proofs.Putting.{Put, none-put, room, one-put, all-put}
-use Rattle.text.proofs.Putting.{fields-each}
+use Rattle.writing.proofs.Putting.{Put}
 use Rattle.text.proofs.put_fields.Given as goal
 
 abbrev pub invariant-loop-i : goal.invariant-loop-i

@@ -1,4 +1,3 @@
-use borrow.Author.Rules.{rules}
 use Rattle.text.proofs.Lining.{first-room, numbers-room, feed_room, line-put}
 use Rattle.text.proofs.put_line.Goals as goal
 

@@ -1,4 +1,3 @@
-use borrow.Author.Rules.{rules}
 use Rattle.run.specs.Answers.{buffers, call, Monitored, Unmonitored}
 use Rattle.transparency.proofs.Claims.{transparency}
 use Rattle.transparency.proofs.run_both.Goals as goal

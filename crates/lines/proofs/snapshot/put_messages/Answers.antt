@@ -1,10 +1,9 @@
-use Prim.Native.Nat.{◌-◌, ◌≤◌}
 use mathlib.Core.Path.{refl}
 use mathlib.Core.Logic.{inl, inr}
 use native.Mathlib.Omega.{arith}
 use borrow.Author.Rules.{rules}
-use Rattle.writing.proofs.Putting.{Put, none-put, room, one-put, all-put}
-use Rattle.lines.proofs.Texts.{message_fields, messages-each}
+use Rattle.writing.proofs.Putting.{none-put, room, one-put, all-put}
+use Rattle.lines.proofs.Texts.{messages-each}
 use Rattle.lines.proofs.snapshot.put_messages.Goals as goal
 
 pub loop-i-init : goal.loop-i-init

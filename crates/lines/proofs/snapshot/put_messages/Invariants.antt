@@ -1,10 +1,6 @@
 use Prim.Native.Nat.{◌-◌, ◌≤◌}
-use mathlib.Core.Path.{refl}
-use mathlib.Core.Logic.{inl, inr}
-use native.Mathlib.Omega.{arith}
-use borrow.Author.Rules.{rules}
-use Rattle.writing.proofs.Putting.{Put, none-put, room, one-put, all-put}
-use Rattle.lines.proofs.Texts.{message_fields, messages-each}
+use Rattle.writing.proofs.Putting.{Put}
+use Rattle.lines.proofs.Texts.{message_fields}
 use Rattle.lines.proofs.snapshot.put_messages.Given as goal
 
 abbrev pub invariant-loop-i : goal.invariant-loop-i

@@ -1,10 +1,7 @@
-use Prim.Native.Nat.{◌-◌, ◌≤◌}
-use mathlib.Core.Path.{◌≡◌, refl}
+use mathlib.Core.Path.{refl}
 use native.Mathlib.Omega.{arith}
-use borrow.Author.Rules.{rules}
-use Rattle.writing.proofs.Putting.{Put, none-put, room, one-put}
+use Rattle.writing.proofs.Putting.{none-put, room, one-put}
 use Rattle.output.specs.Finding.{part_at}
-use Rattle.lines.specs.Lines.{part_line}
 use Rattle.lines.proofs.Parts.{part-inside, nodes-room, here, variables-inside, variables-room, snapshot-put}
 use Rattle.lines.proofs.snapshot.put_snapshot_lines.Goals as goal
 

@@ -1,10 +1,8 @@
-use Prim.Native.Nat.{◌-◌, ◌≤◌}
 use mathlib.Core.Path.{refl}
 use mathlib.Core.Logic.{inl}
 use native.Mathlib.Omega.{arith}
 use borrow.Author.Rules.{rules}
-use Rattle.writing.proofs.Putting.{Put, none-put, room, one-put, all-put}
-use Rattle.lines.specs.Lines.{variable_line}
+use Rattle.writing.proofs.Putting.{none-put, room, one-put, all-put}
 use Rattle.lines.proofs.Texts.{variable-same}
 use Rattle.lines.proofs.snapshot.put_variable_lines.Goals as goal
 

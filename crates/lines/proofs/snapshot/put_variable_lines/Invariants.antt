@@ -1,11 +1,6 @@
 use Prim.Native.Nat.{◌-◌, ◌≤◌}
-use mathlib.Core.Path.{refl}
-use mathlib.Core.Logic.{inl}
-use native.Mathlib.Omega.{arith}
-use borrow.Author.Rules.{rules}
-use Rattle.writing.proofs.Putting.{Put, none-put, room, one-put, all-put}
+use Rattle.writing.proofs.Putting.{Put}
 use Rattle.lines.specs.Lines.{variable_line}
-use Rattle.lines.proofs.Texts.{variable-same}
 use Rattle.lines.proofs.snapshot.put_variable_lines.Given as goal
 
 abbrev pub invariant-loop-x : goal.invariant-loop-x

@@ -1,9 +1,6 @@
 use Prim.Native.Nat.{◌-◌, ◌≤◌}
-use native.Mathlib.Omega.{arith}
-use borrow.Author.Rules.{rules}
-use Rattle.writing.proofs.Putting.{Put, none-put, room, one-put, all-put}
+use Rattle.writing.proofs.Putting.{Put}
 use Rattle.lines.specs.Lines.{tally_line, four_at}
-use Rattle.lines.proofs.Texts.{tally-same}
 use Rattle.lines.proofs.tallies.put_tally_lines.Given as goal
 
 abbrev pub invariant-loop-n : goal.invariant-loop-n

@@ -1,8 +1,6 @@
-use Prim.Native.Nat.{◌-◌, ◌≤◌}
 use native.Mathlib.Omega.{arith}
 use borrow.Author.Rules.{rules}
-use Rattle.writing.proofs.Putting.{Put, none-put, room, one-put, all-put}
-use Rattle.lines.specs.Lines.{entry_line}
+use Rattle.writing.proofs.Putting.{none-put, room, one-put, all-put}
 use Rattle.lines.proofs.trace.put_entry_lines.Goals as goal
 
 pub loop-k-init : goal.loop-k-init

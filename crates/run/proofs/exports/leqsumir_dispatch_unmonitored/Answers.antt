@@ -1,5 +1,4 @@
 use mathlib.Core.Path.{◌∙◌}
-use borrow.Author.Rules.{rules}
 use Rattle.run.specs.Exported.{numbers_with}
 use Rattle.run.proofs.exports.leqsumir_dispatch_unmonitored.Goals as goal
 

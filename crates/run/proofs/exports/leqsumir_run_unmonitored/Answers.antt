@@ -1,5 +1,4 @@
 use mathlib.Core.Path.{ap, ◌∙◌}
-use borrow.Author.Rules.{rules}
 use Rattle.run.specs.Exported.{numbers_in}
 use Rattle.run.proofs.exports.leqsumir_run_unmonitored.Goals as goal
 

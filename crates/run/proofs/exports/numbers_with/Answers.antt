@@ -1,4 +1,3 @@
-use borrow.Author.Rules.{rules}
 use Rattle.run.specs.Answers.{told_by}
 use Rattle.run.proofs.Delivering.{nine_numbers}
 use Rattle.run.proofs.exports.numbers_with.Goals as goal
