@@ -15,7 +15,7 @@ use Rattle.model.specs.Conclusion.{Reads, begin, further}
 use Rattle.model.specs.Valid.{Valid}
 use Rattle.model.proofs.Logic.{and_left}
 use Rattle.model.proofs.Growth.{length-handler}
-use Rattle.model.proofs.Lists.{length-tabulate, get_d_tabulate, get_d_default}
+use Rattle.model.proofs.Lists.{length-tabulate, get_or-tabulate, get_or-default}
 use Rattle.model.proofs.Naming.{handler_outside}
 use Rattle.model.proofs.Reading.{read_at}
 use Rattle.model.proofs.Valid.{limits, reads-valid, named}
@@ -86,7 +86,7 @@ fetched-loaded {job} {at} {past} w size long reads n i h =
     ∙ ap (instruction_from job) (place-loaded w size long reads n i there)
     ∙ sym (get_or-map (instruction_from job) (places_of past n) i 0)
     ∙ ap (λ (l : List Instruction). get_or l i (instruction_from job 0)) (places-read reads n)
-    ∙ get_d_default (handler_of past n) i (instruction_from job 0) (instruction 0 0) h
+    ∙ get_or-default (handler_of past n) i (instruction_from job 0) (instruction 0 0) h
 
 -- what stands at a position of the handlers in job, tables and work buffer
 module _ (job t w : List ℕ) (n position : ℕ) where
@@ -94,7 +94,7 @@ module _ (job t w : List ℕ) (n position : ℕ) where
   handlers-inside h =
       let l = length-tabulate (length_in t n) (slot_in job w n) in
       command-inside (handlers_in job t w n) position (omega (arith, l))
-      ∙ ap some (get_d_tabulate (length_in t n) position (slot_in job w n) (instruction 0 0) h)
+      ∙ ap some (get_or-tabulate (length_in t n) position (slot_in job w n) (instruction 0 0) h)
 
   pub handlers-after : length_in t n ≤ position → command_in (handlers_in job t w n) position ≡ none
   handlers-after h = let l = length-tabulate (length_in t n) (slot_in job w n) in

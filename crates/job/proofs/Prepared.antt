@@ -11,7 +11,7 @@ use Rattle.model.specs.Declared.{instruction, count_of, handler_of}
 use Rattle.model.specs.Program.{program_of}
 use Rattle.model.specs.State.{tabulate}
 use Rattle.model.specs.Turn.{instruction_at}
-use Rattle.model.proofs.Lists.{length-tabulate, get_d_tabulate}
+use Rattle.model.proofs.Lists.{length-tabulate, get_or-tabulate}
 use Rattle.model.proofs.Growth.{length-handler, length-turns}
 use Rattle.model.proofs.Valid.{job-accepted, reads-valid}
 use Rattle.model.proofs.Walking.{PassedEight}
@@ -37,7 +37,7 @@ module _ (job t w : List ℕ) (past : List Command) (s : Stands t past) (size : 
       ext_get_or (instruction 0 0) _ (handler_of past n) (length-tabulate (length_in t n) (slot_in job (loaded w past) n) ∙ e)
       (λ i h.
       let l : i < length_in t n = omega (arith, length-tabulate (length_in t n) (slot_in job (loaded w past) n)) in
-      get_d_tabulate (length_in t n) i (slot_in job (loaded w past) n) (instruction 0 0) l ∙ fetched-loaded w size short passed.reads n i (omega arith))
+      get_or-tabulate (length_in t n) i (slot_in job (loaded w past) n) (instruction 0 0) l ∙ fetched-loaded w size short passed.reads n i (omega arith))
 
   pub same-program : program_in t (handlers_in job t (loaded w past)) ≡ program_of past
   same-program = program-stands t past s (handlers_in job t (loaded w past)) same-handler

@@ -8,7 +8,7 @@ use lib.ListN.{length, get_or, take, drop, set, length-set, length-drop}
 use lib.Seq.{ext_get_or, get_or-set_same, get_or-set_other, drop-set-add, take-suc-set}
 use borrow.Author.Count.{below_more}
 use Rattle.model.specs.State.{Message, tabulate}
-use Rattle.model.proofs.Lists.{length-tabulate, get_d_tabulate, get_or-each}
+use Rattle.model.proofs.Lists.{length-tabulate, get_or-tabulate, get_or-each}
 use Rattle.memory.specs.Queues.{queues, Holds}
 use Rattle.memory.proofs.Waiting.{length-queues, queues_change, part-set}
 
@@ -34,7 +34,7 @@ filled_more {A} {f} {d} {k} {n} {l} s h a e =
 pub filled-all : {A : Type 0} {f : ℕ → A} {d : A} {k n : ℕ} {l : List A} → Filled f d k n l → k ≤ n → l ≡ tabulate k f
 filled-all {A} {f} {d} {k} {n} {l} s h =
     ext_get_or d l (tabulate k f) (s.size ∙ sym (length-tabulate k f))
-    (λ i b. let below : i < k = omega (arith, s.size) in s.each i (omega arith) ∙ sym (get_d_tabulate k i f d below))
+    (λ i b. let below : i < k = omega (arith, s.size) in s.each i (omega arith) ∙ sym (get_or-tabulate k i f d below))
 
 -- slots whose first n queues are a function's values; of the counts after them nothing is known
 pub record Queued (f : ℕ → List Message) (n : ℕ) (ws : List ℕ) (slots : List Message) : Type 0 where

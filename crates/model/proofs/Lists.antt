@@ -37,10 +37,10 @@ AllBelow k [] = Unit {0}
 AllBelow k (n ∷ ns) = (n < k) × AllBelow k ns
 
 -- another default changes nothing inside a list
-pub get_d_default : {A : Type 0} (l : List A) (i : ℕ) (d e : A) → i < length l → get_or l i d ≡ get_or l i e
-get_d_default [] i d e h = absurd (omega arith)
-get_d_default (a ∷ l) zero d e h = refl
-get_d_default (a ∷ l) (suc i) d e h = get_d_default l i d e (omega arith)
+pub get_or-default : {A : Type 0} (l : List A) (i : ℕ) (d e : A) → i < length l → get_or l i d ≡ get_or l i e
+get_or-default [] i d e h = absurd (omega arith)
+get_or-default (a ∷ l) zero d e h = refl
+get_or-default (a ∷ l) (suc i) d e h = get_or-default l i d e (omega arith)
 
 -- a table has as many elements as it says
 pub length-tabulate : {A : Type 0} (k : ℕ) (f : ℕ → A) → length (tabulate k f) ≡ k
@@ -49,10 +49,13 @@ length-tabulate zero f = refl
 length-tabulate (suc k) f = omega (arith, length-append (tabulate k f) (f k ∷ []), length-tabulate k f)
 
 -- the elements of a table
-pub get_d_tabulate : {A : Type 0} (k t : ℕ) (f : ℕ → A) (d : A) → t < k → get_or (tabulate k f) t d ≡ f t
+pub get_or-tabulate_out : {A : Type 0} (k t : ℕ) (f : ℕ → A) (d : A) → k ≤ t → get_or (tabulate k f) t d ≡ d
+get_or-tabulate_out k t f d h = get_or-eq_default (tabulate k f) d (omega (arith, length-tabulate k f))
+
+pub get_or-tabulate : {A : Type 0} (k t : ℕ) (f : ℕ → A) (d : A) → t < k → get_or (tabulate k f) t d ≡ f t
 unfolding tabulate
-get_d_tabulate zero t f d h = absurd (omega arith)
-get_d_tabulate {A} (suc k) t f d h = by_last (get_d_tabulate k t f d) (eqb t k) refl
+get_or-tabulate zero t f d h = absurd (omega arith)
+get_or-tabulate {A} (suc k) t f d h = by_last (get_or-tabulate k t f d) (eqb t k) refl
   where
     by_last : (t < k → get_or (tabulate k f) t d ≡ f t) → (b : Bool) → eqb t k ≡ b → get_or (tabulate k f ++ (f k ∷ [])) t d ≡ f t
     by_last ih true e =
@@ -83,7 +86,7 @@ get_or-each {A} Q d l h z i = by_range (ltb i (length l)) refl
 -- the same of a table, and of a list of one value
 pub tabulate-each : {A : Type 0} (Q : ℕ → A → Type 0) (d : A) (k : ℕ) (f : ℕ → A) → ((m : ℕ) → Q m (f m)) → ((m : ℕ) → Q m d) → (m : ℕ)
     → Q m (get_or (tabulate k f) m d)
-tabulate-each Q d k f h z = get_or-each Q d (tabulate k f) (λ i l. rw (get_d_tabulate k i f d (omega (arith, length-tabulate k f))) (h i)) z
+tabulate-each Q d k f h z = get_or-each Q d (tabulate k f) (λ i l. rw (get_or-tabulate k i f d (omega (arith, length-tabulate k f))) (h i)) z
 
 pub replicate-each : {A : Type 0} (Q : ℕ → A → Type 0) (d : A) (k : ℕ) (a : A) → ((m : ℕ) → Q m a) → ((m : ℕ) → Q m d) → (m : ℕ)
     → Q m (get_or (replicate k a) m d)
@@ -101,10 +104,10 @@ tabulate-set k x f g agrees =
     by_number i h true p =
         let same : i ≡ x = eqb-true i x p in
         let inside : x < length (tabulate k g) = omega (arith, length-tabulate k g) in
-        rw (same, get_or-set_same (tabulate k g) x (f x) 0 inside) (get_d_tabulate k x f 0 (omega arith))
+        rw (same, get_or-set_same (tabulate k g) x (f x) 0 inside) (get_or-tabulate k x f 0 (omega arith))
     by_number i h false p =
         rw (get_or-set_other (tabulate k g) x i (f x) 0 (eqb-false i x p))
-        (get_d_tabulate k i f 0 h ∙ agrees i (eqb-false i x p) ∙ sym (get_d_tabulate k i g 0 h))
+        (get_or-tabulate k i f 0 h ∙ agrees i (eqb-false i x p) ∙ sym (get_or-tabulate k i g 0 h))
 
 -- an element of two lists, each of two parts
 pub append_at :

@@ -19,7 +19,7 @@ use Rattle.model.specs.Output.{bytes4, node_bytes, nodes_bytes, variables_bytes,
 use Rattle.model.specs.Dispatch.{examined_in, monitored_dispatch}
 use Rattle.model.specs.Tally.{tally_of}
 use Rattle.model.specs.Secrecy.{SameBut, variable_place, RunsAlike, DispatchesAlike}
-use Rattle.model.proofs.Lists.{get_d_tabulate, tabulate-set, append_at}
+use Rattle.model.proofs.Lists.{get_or-tabulate, tabulate-set, append_at}
 use Rattle.model.proofs.Bounds.{length-variables}
 use Rattle.model.proofs.Unread.{Kept, NearRun, near-run, near_dispatch}
 use Rattle.model.proofs.Restarting.{with_start_values}
@@ -126,7 +126,7 @@ module _
 
     initial_kept : Kept x (P.start_value x) (starts x) (initial_state P) (starts x)
     unfolding initial_state
-    initial_kept = inl (get_d_tabulate max_variables x P.start_value 0 (omega arith), refl)
+    initial_kept = inl (get_or-tabulate max_variables x P.start_value 0 (omega arith), refl)
 
     -- a turn asks for no start
     same_turn : (s : State) (n : ℕ) → turn (with_start_values P starts) s n ≡ turn P s n

@@ -24,7 +24,7 @@ use Rattle.model.specs.Valid.{Sized}
 use Rattle.model.specs.Tally.{count_entries, count_if, reaches, takes, started, started_from, AddUp, Tallied, unmonitored_turns, monitored_turns}
 use Rattle.model.specs.Tally.{unmonitored_budget, monitored_budget, TallyHolds, StartedHolds}
 use Rattle.model.proofs.Logic.{not-both}
-use Rattle.model.proofs.Lists.{length-only, get_d_tabulate}
+use Rattle.model.proofs.Lists.{length-only, get_or-tabulate}
 use Rattle.model.proofs.Counting.{bit, count-suc, count_nothing}
 use Rattle.model.proofs.Ways.{Keeps, left_by, performed_by, turn_by, monitored_by}
 use Rattle.model.proofs.Turns.{delivered-later, length-delivered, delivered_target, delivered-other}
@@ -223,7 +223,7 @@ module _
       first : Balances 0 (initial_state P)
       unfolding initial_state
       first =
-          rw (get_d_tabulate max_nodes t (first_queue P) [] h)
+          rw (get_or-tabulate max_nodes t (first_queue P) [] h)
           (omega (
             arith,
             first-waits from (P.first_messages t),

@@ -50,7 +50,6 @@ fn numbers_with(handed: Handed) -> [u64; 9]
 }
 
 // The monitored run (01's "watched").
-
 pub fn leqsumir_run_monitored(
     job: &[u8],
     trace: &mut [u8],
@@ -71,7 +70,6 @@ pub fn leqsumir_run_monitored(
 }
 
 // The unmonitored run (01's "bare").
-
 pub fn leqsumir_run_unmonitored(
     job: &[u8],
     trace: &mut [u8],
@@ -92,7 +90,6 @@ pub fn leqsumir_run_unmonitored(
 }
 
 // The monitored run (01's "watched") of a job without TURN commands, its turns dispatched with a budget (S-2).
-
 pub fn leqsumir_dispatch_monitored(
     job: &[u8],
     budget: u64,
@@ -118,7 +115,6 @@ pub fn leqsumir_dispatch_monitored(
 }
 
 // The unmonitored run (01's "bare") of a job without TURN commands, its turns dispatched with a budget.
-
 pub fn leqsumir_dispatch_unmonitored(
     job: &[u8],
     budget: u64,

@@ -6,7 +6,6 @@ ghost use Rattle.tally.specs.Tallies.{tally_told, tallies_after};
 use crate::{COUNTS, tally};
 
 // The tally (S-12) of a run of a job, by the number of its turns, its trace and its snapshot (01's "picture"): four counts a node.
-
 pub fn leqsumir_tally(
     job: &[u8],
     turns: u64,

@@ -21,8 +21,5 @@ returns-then-empty c = λ past s plain.
 
 pub returns : goal.returns
 returns c = λ past s plain.
-    rw (
-      sym (c.is_out_of_reach.ensures past s) ∙ c.if-is_out_of_reach.false,
-      sym (c.is_repeated-repeated.ensures past s plain) ∙ c.if-repeated.false,
-      c.if-empty.false,
-    )
+    let fresh = sym (c.is_repeated-repeated.ensures past s plain) ∙ c.if-repeated.false in
+    rw (sym (c.is_out_of_reach.ensures past s) ∙ c.if-is_out_of_reach.false, fresh, c.if-empty.false)
