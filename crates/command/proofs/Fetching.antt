@@ -3,7 +3,7 @@ use Prim.Native.Nat.{ℕ, ◌+◌, ◌≤◌, ◌<◌}
 use mathlib.Core.Path.{◌≡◌, refl, sym, ap, ◌∙◌}
 use mathlib.Core.Bool.{Bool, true, false, cond}
 use mathlib.Core.List.{List, []}
-use mathlib.Core.Option.{none, some}
+use Rattle.std.proofs.Common.{None, Some}
 use lib.Dec.{ltb}
 use lib.ListN.{length, get_or, replicate, length-replicate, get_or-replicate}
 use native.Mathlib.Omega.{arith}
@@ -14,27 +14,27 @@ use Rattle.command.specs.declared.instruction.Fetched.TheVariants as f
 use Rattle.command.specs.Instructions.{instruction_of, fetched_of, command_in}
 
 module _ (handler : List Instruction) (position : ℕ) where
-  pub command-inside : position < length handler → command_in handler position ≡ some (get_or handler position (instruction 0 0))
+  pub command-inside : position < length handler → command_in handler position ≡ Some (get_or handler position (instruction 0 0))
   command-inside h = rw (lt-ltb position (length handler) h)
 
-  pub command-after : length handler ≤ position → command_in handler position ≡ none
+  pub command-after : length handler ≤ position → command_in handler position ≡ None
   command-after h = rw (le-ltb position (length handler) h)
 
-  pub inside-command : (i : Instruction) → some i ≡ command_in handler position
+  pub inside-command : (i : Instruction) → Some i ≡ command_in handler position
       → (position < length handler) × (i ≡ get_or handler position (instruction 0 0))
   inside-command i e = by_test (ltb position (length handler)) refl e
     where
       by_test :
-          (b : Bool) → ltb position (length handler) ≡ b → some i ≡ cond b (some (get_or handler position (instruction 0 0))) none
+          (b : Bool) → ltb position (length handler) ≡ b → Some i ≡ cond b (Some (get_or handler position (instruction 0 0))) None
           → (position < length handler) × (i ≡ get_or handler position (instruction 0 0))
       by_test true t q = (ltb-true position (length handler) t, cc)
       by_test false t q = let z : ◌≡◌ {A = ℕ} 0 1 = cc in absurd (omega arith)
 
-  pub after-command : none ≡ command_in handler position → length handler ≤ position
+  pub after-command : None ≡ command_in handler position → length handler ≤ position
   after-command e = by_test (ltb position (length handler)) refl e
     where
       by_test :
-          (b : Bool) → ltb position (length handler) ≡ b → none ≡ cond b (some (get_or handler position (instruction 0 0))) none
+          (b : Bool) → ltb position (length handler) ≡ b → None ≡ cond b (Some (get_or handler position (instruction 0 0))) None
           → length handler ≤ position
       by_test true t q = let z : ◌≡◌ {A = ℕ} 0 1 = cc in absurd (omega arith)
       by_test false t q = ltb-false position (length handler) t
@@ -48,6 +48,6 @@ pub standing-there : (fetched : Fetched) (position : ℕ) → fetched_of fetched
 standing-there (f.Command i) position =
     let many = replicate (position + 1) (instruction_of i) in
     let long = length-replicate (position + 1) (instruction_of i) in
-    sym (command-inside many position (omega (arith, long)) ∙ ap some
+    sym (command-inside many position (omega (arith, long)) ∙ ap Some
     (get_or-replicate (position + 1) position (instruction_of i) (instruction 0 0) (omega arith)))
 standing-there f.End position = sym (command-after [] position (omega arith))

@@ -3,7 +3,7 @@ use Prim.Native.Nat.{ℕ, zero, suc, ◌+◌, ◌/◌, ◌≤◌, ◌<◌}
 use mathlib.Core.Path.{◌≡◌, refl, sym, ap, ◌∙◌}
 use mathlib.Core.Bool.{Bool, true, false, cond, not, ◌&&◌, ◌||◌}
 use mathlib.Core.List.{List, [], ◌∷◌}
-use mathlib.Core.Option.{none, some}
+use Rattle.std.proofs.Common.{None, Some}
 use native.Mathlib.Omega.{arith}
 use lib.Dec.{leb, ltb, eqb}
 use borrow.Author.Tests.{ltb-true, leb-true, eqb-true, eqb-false}
@@ -17,27 +17,27 @@ abbrev pub every_row : (ℕ → Bool) → List Row → Bool
 every_row test [] = true
 every_row test (r ∷ rows) = test r.byte && every_row test rows
 
-found-passes : (test : ℕ → Bool) (rows : List Row) (b : ℕ) → every_row test rows ≡ true → ¬ (operands_in rows b ≡ none) → test b ≡ true
+found-passes : (test : ℕ → Bool) (rows : List Row) (b : ℕ) → every_row test rows ≡ true → ¬ (operands_in rows b ≡ None) → test b ≡ true
 unfolding operands_in
 found-passes test [] b l h = absurd (h refl)
 found-passes test (r ∷ rows) b l h = by_row (eqb r.byte b) refl h (found-passes test rows b (and_right (test r.byte) _ l))
   where
-    by_row : (t : Bool) → eqb r.byte b ≡ t → ¬ (cond t (some r.operands) (operands_in rows b) ≡ none)
-        → (¬ (operands_in rows b ≡ none) → test b ≡ true) → test b ≡ true
+    by_row : (t : Bool) → eqb r.byte b ≡ t → ¬ (cond t (Some r.operands) (operands_in rows b) ≡ None)
+        → (¬ (operands_in rows b ≡ None) → test b ≡ true) → test b ≡ true
     by_row true e n ih = rw (eqb-true r.byte b e) at (and_left (test r.byte) _ l)
     by_row false e n ih = ih n
 
 -- it passes for every command byte
-pub known-passes : (test : ℕ → Bool) (b : ℕ) → every_row test table ≡ true → ¬ (operands_of b ≡ none) → test b ≡ true
+pub known-passes : (test : ℕ → Bool) (b : ℕ) → every_row test table ≡ true → ¬ (operands_of b ≡ None) → test b ≡ true
 unfolding operands_of
 known-passes test b l h = found-passes test table b l h
 
 -- every command byte is below 128
-pub byte_low : (b : ℕ) → ¬ (operands_of b ≡ none) → b < 128
+pub byte_low : (b : ℕ) → ¬ (operands_of b ≡ None) → b < 128
 byte_low b h = ltb-true b 128 (known-passes (λ d. ltb d 128) b refl h)
 
 -- the command bytes of group 3
-pub permission_byte : (b : ℕ) → ¬ (operands_of b ≡ none) → (not (eqb (b / 16) 3) ||
+pub permission_byte : (b : ℕ) → ¬ (operands_of b ≡ None) → (not (eqb (b / 16) 3) ||
     (eqb b 0x30 || (eqb b 0x31 || (eqb b 0x32 || (eqb b 0x33 || eqb b 0x34))))) ≡ true
 permission_byte b h = known-passes (λ d. not (eqb (d / 16) 3) || (eqb d 0x30 || (eqb d 0x31 || (eqb d 0x32 || (eqb d 0x33 || eqb d 0x34))))) b refl h
 
@@ -59,7 +59,7 @@ abbrev single : ℕ → Bool
 single b = is_there (operands_of b) && eqb (width (kind_at b 1) + width (kind_at b 2) + width (kind_at b 3)) 0
 
 pub record OneOperand (b : ℕ) : Type 0 where
-  pub known : ¬ (operands_of b ≡ none)
+  pub known : ¬ (operands_of b ≡ None)
   pub others : width (kind_at b 1) + width (kind_at b 2) + width (kind_at b 3) ≡ 0
 
 pub handler-single : (b : ℕ) → is_handler_byte b ≡ true → OneOperand b

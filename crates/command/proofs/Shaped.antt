@@ -4,7 +4,7 @@ use mathlib.Core.Path.{◌≡◌, refl, sym, ap, ◌∙◌}
 use mathlib.Core.Bool.{Bool, true, false, cond}
 use mathlib.Core.List.{List, [], ◌∷◌, map}
 use mathlib.Core.Logic.{◌⊎◌, inl, inr}
-use mathlib.Core.Option.{Option, none, some}
+use Rattle.std.proofs.Common.{Option, None, Some}
 use native.Mathlib.Omega.{arith}
 use native.Mathlib.Numerals.{add-one}
 use lib.Dec.{eqb}
@@ -33,7 +33,7 @@ given p =
       numbers = s.byte ∷ s.group ∷ s.length ∷ s.first_width ∷ s.second_width ∷ s.third_width ∷ s.fourth_width ∷ [];
       kinds = kind_of s.first_kind ∷ kind_of s.second_kind ∷ kind_of s.third_kind ∷ kind_of s.fourth_kind ∷ [];
       most = limit_of s.byte s.most;
-      operands = some (list_of (operands_of s.byte));
+      operands = Some (list_of (operands_of s.byte));
     }
 
 -- the length of a byte's operands
@@ -76,7 +76,7 @@ says_as b p e =
 -- of rows that agree with those of a table, the first with a byte is the row of that byte; if none has it, the byte is not in the table
 found_in :
     (b : ℕ) (rows : List ℕ) (of : List Row) → map given rows ≡ map (λ (r : Row). wanted r.byte) of
-    → Says b (unpacked (row_in rows b)) ⊎ ((operands_in of b ≡ none) × (row_in rows b ≡ 0))
+    → Says b (unpacked (row_in rows b)) ⊎ ((operands_in of b ≡ None) × (row_in rows b ≡ 0))
 unfolding row_in operands_in
 found_in b [] [] e = inr (refl, refl)
 found_in b [] (r ∷ of) e = let z = ap length e in absurd (omega arith)
@@ -91,9 +91,9 @@ found_in b (p ∷ rows) (r ∷ of) e =
     same = ap (λ (x : Said). get_or x.numbers 0 0) said
 
     by_byte :
-        (t : Bool) → eqb (unpacked p).byte b ≡ t → Says b (unpacked (row_in rows b)) ⊎ ((operands_in of b ≡ none) × (row_in rows b ≡ 0))
+        (t : Bool) → eqb (unpacked p).byte b ≡ t → Says b (unpacked (row_in rows b)) ⊎ ((operands_in of b ≡ None) × (row_in rows b ≡ 0))
         → Says b (unpacked (cond t p (row_in rows b)))
-        ⊎ ((cond (eqb r.byte b) (some r.operands) (operands_in of b) ≡ none) × (cond t p (row_in rows b) ≡ 0))
+        ⊎ ((cond (eqb r.byte b) (Some r.operands) (operands_in of b) ≡ None) × (cond t p (row_in rows b) ≡ 0))
     by_byte true t ih = inl (says_as b p (rw (sym same ∙ eqb-true (unpacked p).byte b t) at said))
     by_byte false t ih = rw (← same, t) ih
 
@@ -120,7 +120,7 @@ pub row-there : (b p : ℕ) → IsRow b p → ¬ (p ≡ 0) → Says b (unpacked 
 row-there b p (inl s) n = s
 row-there b p (inr z) n = absurd (n z.1)
 
-pub row-none : (b p : ℕ) → IsRow b p → p ≡ 0 → operands_of b ≡ none
+pub row-none : (b p : ℕ) → IsRow b p → p ≡ 0 → operands_of b ≡ None
 unfolding operands_of operands_in
 row-none b p (inr z) e = z.0
 row-none b p (inl s) e =

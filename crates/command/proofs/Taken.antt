@@ -2,7 +2,7 @@
 use Prim.Native.Nat.{ℕ, ◌+◌, ◌≤◌, ◌<◌}
 use mathlib.Core.Path.{◌≡◌, refl, ◌∙◌}
 use mathlib.Core.List.{List}
-use mathlib.Core.Option.{none, some}
+use Rattle.std.proofs.Common.{None, Some}
 use native.Mathlib.Omega.{arith}
 use lib.ListN.{length, get_or}
 use Rattle.model.specs.Table.{operands_of, list_of, kind_at, group_of}
@@ -31,7 +31,7 @@ use Rattle.command.proofs.Shaped.{width_is}
 pub finds_row : (b p : ℕ) (l : Lookup) → Finds b l → l ≡ Found p → Says b (unpacked p)
 finds_row b p l f e = rw e at f
 
-finds_none : (b : ℕ) (l : Lookup) → Finds b l → l ≡ Missing → operands_of b ≡ none
+finds_none : (b : ℕ) (l : Lookup) → Finds b l → l ≡ Missing → operands_of b ≡ None
 finds_none b l f e = rw e at f
 
 -- the columns of a row, as the code has them
@@ -41,7 +41,7 @@ says-shape b p s says e = rw e says
 module _ (job : List ℕ) (place : ℕ) where
   -- no command
   pub read_missing : (l : Lookup) → Finds (get_or job place 0) l → l ≡ Missing
-      → refusal_at place (read_command job place) ≡ some (refuse 2 place)
+      → refusal_at place (read_command job place) ≡ Some (refuse 2 place)
   read_missing l f e = rw (read-unknown job place (finds_none (get_or job place 0) l f e))
 
   -- by the row of its byte
@@ -50,7 +50,7 @@ module _ (job : List ℕ) (place : ℕ) where
     ends = let t = says-shape (get_or job place 0) row s says is in omega (arith, t.length)
 
     -- a command whose operands run past the end
-    pub read-cut : length job < place + 1 + s.length → refusal_at place (read_command job place) ≡ some (refuse 3 place)
+    pub read-cut : length job < place + 1 + s.length → refusal_at place (read_command job place) ≡ Some (refuse 3 place)
     read-cut l = rw (read_short job place (list_of (operands_of (get_or job place 0))) says.known (rw ends at l))
 
     -- a whole command
@@ -129,11 +129,11 @@ module _ (job : List ℕ) (place : ℕ) where
 
     -- its head
     pub read_first : (x : ℕ) → x ≡ number_at job (place + 1) s.first_width
-        → some (record { byte = get_or job place 0; group = s.group; first = x; next = next }) ≡ head_in (read_command job place)
+        → Some (record { byte = get_or job place 0; group = s.group; first = x; next = next }) ≡ head_in (read_command job place)
     read_first x p = rw (read_all x _ p refl, shape.group)
 
 -- there is no head where a command is refused
-head_none : (place : ℕ) (r : ParsedAs) (q : RefusedFor) → refusal_at place r ≡ some q → none ≡ head_in r
+head_none : (place : ℕ) (r : ParsedAs) (q : RefusedFor) → refusal_at place r ≡ Some q → None ≡ head_in r
 head_none place unknown q e = refl
 head_none place cut_short q e = refl
 head_none place (whole c next) q e = let w : ◌≡◌ {A = ℕ} 0 1 = cc in absurd (omega arith)
@@ -145,17 +145,17 @@ module _ (job : List ℕ) (place : ℕ) where
   reads_whole p c next r e = rw e at r
 
   pub reads-refused : (p : Parsed) (q : Refusal) → ParsesAs job place p → p ≡ Refused q
-      → refusal_at place (read_command job place) ≡ some (refusal_of q)
+      → refusal_at place (read_command job place) ≡ Some (refusal_of q)
   reads-refused p q r e = rw e at r
 
   pub extends_known : (x : Extent) (row next : ℕ) → Extends job place x → x ≡ e.Whole row next → Reaches job place row next
   extends_known x row next r e = rw e at r
 
   pub extends_refused : (x : Extent) (q : Refusal) → Extends job place x → x ≡ e.Refused q
-      → refusal_at place (read_command job place) ≡ some (refusal_of q)
+      → refusal_at place (read_command job place) ≡ Some (refusal_of q)
   extends_refused x q r e = rw e at r
 
-  pub extends_headless : (x : Extent) (q : Refusal) → Extends job place x → x ≡ e.Refused q → none ≡ head_in (read_command job place)
+  pub extends_headless : (x : Extent) (q : Refusal) → Extends job place x → x ≡ e.Refused q → None ≡ head_in (read_command job place)
   extends_headless x q r e = head_none place (read_command job place) (refusal_of q) (extends_refused x q r e)
 
 -- what a head says of the command that is read there
@@ -170,7 +170,7 @@ module _ (job : List ℕ) (place : ℕ) (p : HeadParsed) (same : head_of p ≡ h
   pub head_read : (head : Head) → p ≡ h.Whole head → HeadAt job place head
   head_read head e = by_read (read_command job place) refl (rw e at same)
     where
-      by_read : (r : ParsedAs) → read_command job place ≡ r → some head ≡ head_in r → HeadAt job place head
+      by_read : (r : ParsedAs) → read_command job place ≡ r → Some head ≡ head_in r → HeadAt job place head
       by_read (whole c next) i f =
           let q : head ≡ record { byte = c.byte; group = group_of c.byte; first = c.operands.first; next = next } = cc in
           rw q (record { command = c; is_read = i; byte = refl; group = refl; first = refl })

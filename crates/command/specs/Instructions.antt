@@ -1,6 +1,6 @@
 -- Handler commands of the code, in the model's words.
 use Rattle.std.specs.Prelude.{ℕ, cond, ◌&&◌, List, leb, ltb, eqb, length, get_or}
-use Rattle.std.proofs.Math.Option.{Option, none, some}
+use Rattle.std.specs.Prelude.{Option, None, Some}
 use Rattle.model.specs.Table.{SET, TAKE, GET, PUT, ADD, PLUS, JUMPZ, JUMP, SEND, CALL, SKIP}
 use Rattle.model.specs.Command.{Parsed, whole, unknown, cut_short, read_command}
 use Rattle.model.specs.Declared.{Instruction as Meant, instruction}
@@ -39,9 +39,9 @@ instruction_from job place = instruction_in (read_command job place)
 
 -- the command of a handler at a position, if there is one
 abbrev pub command_in : List Meant → ℕ → Option Meant
-command_in handler position = cond (ltb position (length handler)) (some (get_or handler position (instruction 0 0))) none
+command_in handler position = cond (ltb position (length handler)) (Some (get_or handler position (instruction 0 0))) None
 
 -- what each of the code's answers stands for: a command, or none
 abbrev pub fetched_of : Fetched → Option Meant
-fetched_of (f.Command i) = some (instruction_of i)
-fetched_of f.End = none
+fetched_of (f.Command i) = Some (instruction_of i)
+fetched_of f.End = None

@@ -1,6 +1,6 @@
 -- What the code reads at a place of a job, in the model's words.
 use Rattle.std.specs.Prelude.{ℕ, ◌+◌, ◌≤◌, ◌≡◌, List, ◌⊎◌, length, get_or}
-use Rattle.std.proofs.Math.Option.{Option, none, some}
+use Rattle.std.specs.Prelude.{Option, None, Some}
 use Rattle.model.specs.Table.{operands_of, list_of, group_of}
 use Rattle.model.specs.Command.{Command as Past, Parsed as ParsedAs, whole, unknown, cut_short, quaternary, number_at, end_at, read_command}
 use Rattle.model.specs.Refusal.{Refusal as RefusedFor, refuse}
@@ -27,9 +27,9 @@ refusal_of r = refuse r.number r.place
 
 -- the refusal that what is read at a place leads to: 2 or 3
 abbrev pub refusal_at : ℕ → ParsedAs → Option RefusedFor
-refusal_at place unknown = some (refuse 2 place)
-refusal_at place cut_short = some (refuse 3 place)
-refusal_at place (whole c next) = none
+refusal_at place unknown = Some (refuse 2 place)
+refusal_at place cut_short = Some (refuse 3 place)
+refusal_at place (whole c next) = None
 
 -- what the row and the group of a command of the code say is what the model says of its byte
 pub record Known (c : Command) : Type 0 where
@@ -39,7 +39,7 @@ pub record Known (c : Command) : Type 0 where
 -- what the code answers is what the model reads: a whole command, with its row and group, or a refusal
 abbrev pub ParsesAs : List ℕ → ℕ → Parsed → Type 0
 ParsesAs job place (Whole c next) = (read_command job place ≡ whole (command_of c) next) × Known c
-ParsesAs job place (Refused r) = refusal_at place (read_command job place) ≡ some (refusal_of r)
+ParsesAs job place (Refused r) = refusal_at place (read_command job place) ≡ Some (refusal_of r)
 
 -- a command that is whole: its row, and the place after it
 pub record Reaches (job : List ℕ) (place row next : ℕ) : Type 0 where
@@ -59,18 +59,18 @@ others_at job place s =
 -- what is known before the operands are read: that the command is whole, or a refusal
 abbrev pub Extends : List ℕ → ℕ → Extent → Type 0
 Extends job place (e.Whole row next) = Reaches job place row next
-Extends job place (e.Refused r) = refusal_at place (read_command job place) ≡ some (refusal_of r)
+Extends job place (e.Refused r) = refusal_at place (read_command job place) ≡ Some (refusal_of r)
 
 -- the head that the code answers; none if it refuses
 abbrev pub head_of : HeadParsed → Option Head
-head_of (h.Whole head) = some head
-head_of h.Refused = none
+head_of (h.Whole head) = Some head
+head_of h.Refused = None
 
 -- the head of what the model reads; none if it is no whole command
 abbrev pub head_in : ParsedAs → Option Head
-head_in (whole c next) = some (record { byte = c.byte; group = group_of c.byte; first = c.operands.first; next = next })
-head_in unknown = none
-head_in cut_short = none
+head_in (whole c next) = Some (record { byte = c.byte; group = group_of c.byte; first = c.operands.first; next = next })
+head_in unknown = None
+head_in cut_short = None
 
 -- the widths of operands
 abbrev pub IsWidth : ℕ → Type 0

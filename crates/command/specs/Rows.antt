@@ -1,6 +1,6 @@
 -- The rows of the code's table, and what they say in the model's words.
 use Rattle.std.specs.Prelude.{ℕ, zero, suc, ◌+◌, ◌/◌, ◌%◌, ◌≡◌, Bool, cond, ◌&&◌, List, [], ◌∷◌, ◌⊎◌, leb, eqb, get_or}
-use Rattle.std.proofs.Math.Option.{Option, none, some}
+use Rattle.std.specs.Prelude.{Option, None, Some}
 use Rattle.model.specs.Table.{ARG, SPAN, SET, SKIP, OperandKind, scope, owner, start, answer, node, port, target, function, argument, value}
 use Rattle.model.specs.Table.{low, high, variable, jump, absent, is_range_byte, width, operands_of, list_of, kind_at, group_of, Limit, limit}
 use Rattle.model.specs.Table.{largest_of}
@@ -39,12 +39,12 @@ sharing b = cond (is_range_byte b) (ARG ∷ SPAN ∷ []) (b ∷ [])
 
 -- the largest count that the code's number stands for, 0 for none
 abbrev pub limit_of : ℕ → ℕ → Option Limit
-limit_of b zero = none
-limit_of b (suc k) = some (limit (sharing b) (suc k))
+limit_of b zero = None
+limit_of b (suc k) = Some (limit (sharing b) (suc k))
 
 -- the byte is a command, and the row says what the model says of it
 pub record Says (b : ℕ) (s : Shape) : Type 0 where
-  pub known : operands_of b ≡ some (list_of (operands_of b))
+  pub known : operands_of b ≡ Some (list_of (operands_of b))
   pub byte : s.byte ≡ b
   pub group : s.group ≡ group_of b
   pub length : s.length ≡ width (kind_at b 0) + width (kind_at b 1) + width (kind_at b 2) + width (kind_at b 3)
@@ -65,12 +65,12 @@ row_in (p ∷ rows) b = cond (eqb (unpacked p).byte b) p (row_in rows b)
 
 -- the packed row of a byte; 0 if the byte is no command
 abbrev pub IsRow : ℕ → ℕ → Type 0
-IsRow b p = Says b (unpacked p) ⊎ ((operands_of b ≡ none) × (p ≡ 0))
+IsRow b p = Says b (unpacked p) ⊎ ((operands_of b ≡ None) × (p ≡ 0))
 
 -- what looking a byte up finds: its row, or that the byte is no command
 abbrev pub Finds : ℕ → Lookup → Type 0
 Finds b (Found p) = Says b (unpacked p)
-Finds b Missing = operands_of b ≡ none
+Finds b Missing = operands_of b ≡ None
 
 -- the byte is that of a handler command: 41 SET to 4B SKIP
 abbrev pub is_handler_byte : ℕ → Bool

@@ -4,7 +4,7 @@ use mathlib.Core.Path.{◌≡◌, sym, ◌∙◌, ap, subst}
 use mathlib.Core.Bool.{Bool, true, false}
 use mathlib.Core.List.{List}
 use mathlib.Core.Logic.{inl, inr, ⊎_elim}
-use mathlib.Core.Option.{none}
+use Rattle.std.proofs.Common.{None}
 use native.Mathlib.Omega.{arith}
 use lib.ListN.{length}
 use borrow.Author.Tests.{le-ltb}
@@ -92,7 +92,7 @@ module _ (job t w : List ℕ) (past : List Command) (e : decode_job job ≡ acce
         (h.comes (handlers_in job t work) f)
 
     -- at the end of its handler nothing is fetched
-    ended : (n i : ℕ) → length (P.handler n) ≤ i → command_in (handlers_in job t work n) i ≡ none
+    ended : (n i : ℕ) → length (P.handler n) ≤ i → command_in (handlers_in job t work n) i ≡ None
     unfolding program_in
     ended n i l =
         let same : handlers_in job t work n ≡ P.handler n = ap (λ (Q : Program). Q.handler n) p.program in

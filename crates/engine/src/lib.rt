@@ -2,7 +2,7 @@
 #![tactic(auto)]
 
 ghost use Rattle.std.specs.Prelude.{◌≡◌, ◌⊎◌, ◌≤◌, ◌<◌, get_or};
-ghost use Rattle.std.proofs.Math.Option.{none};
+ghost use Rattle.std.specs.Prelude.{None};
 ghost use Rattle.model.specs.Table.{NODE};
 ghost use Rattle.command.specs.Instructions.{fetched_of};
 ghost use Rattle.tables.specs.Tables.{count_in};
@@ -82,7 +82,7 @@ impl State {
     pub fn turn(mut self, tables: &[u32], fetched: Fetched, n: NodeNum, monitored: bool) -> Turned
         requires bounded_counts { BoundedCounts self.waiting }
         requires among { Among tables.now n.0 }
-        requires fact { (fetched_of fetched ≡ none) ⊎ (get_or self.position n.0 0 < 4294967295) }
+        requires fact { (fetched_of fetched ≡ None) ⊎ (get_or self.position n.0 0 < 4294967295) }
         requires counts_ready { CountsReady tables.now self }
         ensures { Turns tables.now fetched n.0 monitored self result }
     {

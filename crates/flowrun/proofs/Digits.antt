@@ -3,7 +3,7 @@ use Prim.Native.Nat.{ℕ, zero, suc, ◌+◌, ◌*◌, ◌-◌, ◌^◌, ◌≤�
 use mathlib.Core.Path.{◌≡◌, refl, sym, ap, ◌∙◌}
 use mathlib.Core.Bool.{true, false, ◌||◌}
 use mathlib.Core.List.{List, ◌∷◌}
-use mathlib.Core.Option.{none, some}
+use Rattle.std.proofs.Common.{None, Some}
 use native.Mathlib.Omega.{arith}
 use native.Mathlib.Nat.{pow-suc}
 use lib.ListN.{length, get_or, drop, drop_of_length-le}
@@ -32,12 +32,12 @@ pub digested_none : (word : List ℕ) → Digested word 0 0
 digested_none word = record { same = refl; small = omega arith; inside = omega arith }
 
 -- a word without digits, or with too many
-pub no_number : (word : List ℕ) → (eqb (length word) 0 || ltb 9 (length word)) ≡ true → none ≡ number_as word
+pub no_number : (word : List ℕ) → (eqb (length word) 0 || ltb 9 (length word)) ≡ true → None ≡ number_as word
 no_number word e = rw e
 
 module _ (word : List ℕ) (fits : (eqb (length word) 0 || ltb 9 (length word)) ≡ false) (value i : ℕ) (d : Digested word value i) where
   -- all bytes are digits
-  pub digested_all : length word ≤ i → some value ≡ number_as word
+  pub digested_all : length word ≤ i → Some value ≡ number_as word
   unfolding digits_from
   digested_all h = rw fits (sym (d.same ∙ ap (digits_from value) (drop_of_length-le word h)))
 
@@ -57,7 +57,7 @@ module _ (word : List ℕ) (fits : (eqb (length word) 0 || ltb 9 (length word)) 
     ))
 
     -- another byte
-    pub digested_other : no_digit next ≡ true → none ≡ number_as word
+    pub digested_other : no_digit next ≡ true → None ≡ number_as word
     unfolding digits_from
     digested_other e = rw fits (sym (d.same ∙ there ∙ rw e))
 

@@ -1,6 +1,6 @@
 -- Words that stand for numbers.
 use Rattle.std.specs.Prelude.{ℕ, ◌+◌, ◌*◌, ◌-◌, Bool, cond, ◌||◌, List, [], ◌∷◌, eqb, ltb, length}
-use Rattle.std.proofs.Math.Option.{Option, none, some}
+use Rattle.std.specs.Prelude.{Option, None, Some}
 use Rattle.flowrun.specs.declared.Number.{Number}
 use Rattle.flowrun.specs.declared.Number.TheVariants as n
 
@@ -10,14 +10,14 @@ no_digit c = ltb c 48 || ltb 57 c
 
 -- the number that goes on by these digits; none if another byte is among them
 unfoldable pub digits_from : ℕ → List ℕ → Option ℕ
-digits_from value [] = some value
-digits_from value (c ∷ word) = cond (no_digit c) none (digits_from (value * 10 + (c - 48)) word)
+digits_from value [] = Some value
+digits_from value (c ∷ word) = cond (no_digit c) None (digits_from (value * 10 + (c - 48)) word)
 
 -- the number that a word of one to nine decimal digits stands for; none for any other word
 abbrev pub number_as : List ℕ → Option ℕ
-number_as word = cond (eqb (length word) 0 || ltb 9 (length word)) none (digits_from 0 word)
+number_as word = cond (eqb (length word) 0 || ltb 9 (length word)) None (digits_from 0 word)
 
 -- the same of what the code answers
 abbrev pub number_of : Number → Option ℕ
-number_of (n.Value value) = some value
-number_of n.Not = none
+number_of (n.Value value) = Some value
+number_of n.Not = None

@@ -3,7 +3,7 @@ use Prim.Native.Nat.{ℕ, ◌+◌, ◌*◌, ◌≤◌, ◌<◌}
 use mathlib.Core.Path.{◌≡◌, refl, sym, ap, ◌∙◌}
 use mathlib.Core.Bool.{Bool, true, false}
 use mathlib.Core.List.{List, ◌++◌, map, map-append}
-use mathlib.Core.Option.{none, some}
+use Rattle.std.proofs.Common.{None, Some}
 use native.Mathlib.Omega.{arith}
 use lib.Dec.{ltb}
 use lib.ListN.{length, get_or, get_or-map}
@@ -90,12 +90,12 @@ fetched-loaded {job} {at} {past} w size long reads n i h =
 
 -- what stands at a position of the handlers in job, tables and work buffer
 module _ (job t w : List ℕ) (n position : ℕ) where
-  pub handlers-inside : position < length_in t n → command_in (handlers_in job t w n) position ≡ some (slot_in job w n position)
+  pub handlers-inside : position < length_in t n → command_in (handlers_in job t w n) position ≡ Some (slot_in job w n position)
   handlers-inside h =
       let l = length-tabulate (length_in t n) (slot_in job w n) in
       command-inside (handlers_in job t w n) position (omega (arith, l))
-      ∙ ap some (get_or-tabulate (length_in t n) position (slot_in job w n) (instruction 0 0) h)
+      ∙ ap Some (get_or-tabulate (length_in t n) position (slot_in job w n) (instruction 0 0) h)
 
-  pub handlers-after : length_in t n ≤ position → command_in (handlers_in job t w n) position ≡ none
+  pub handlers-after : length_in t n ≤ position → command_in (handlers_in job t w n) position ≡ None
   handlers-after h = let l = length-tabulate (length_in t n) (slot_in job w n) in
       command-after (handlers_in job t w n) position (omega (arith, l))

@@ -1,6 +1,6 @@
 // Fetching the commands of handlers: their places from the work buffer, the commands from the job.
 ghost use Rattle.std.specs.Prelude.{◌≡◌, ◌⊎◌, ◌<◌};
-ghost use Rattle.std.proofs.Math.Option.{none};
+ghost use Rattle.std.specs.Prelude.{None};
 ghost use Rattle.command.specs.Instructions.{instruction_of, fetched_of, command_in};
 ghost use Rattle.handlers.specs.Loading.{slot_in, handlers_in};
 
@@ -28,7 +28,7 @@ fn read_slot(job: &[u8], work: &[u8], n: NodeNum, position: u32) -> Instruction
 pub fn fetch(job: &[u8], tables: &[u32], work: &[u8], n: NodeNum, position: u32) -> Fetched
     ensures fetched { fetched_of result ≡
         command_in (handlers_in job.now tables.now work.now n.0) position }
-    ensures countable { (fetched_of result ≡ none) ⊎ (position < 4294967295) }
+    ensures countable { (fetched_of result ≡ None) ⊎ (position < 4294967295) }
 {
     if position < length_of(tables, n) {
         return Fetched::Command(read_slot(job, work, n, position));

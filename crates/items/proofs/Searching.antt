@@ -3,7 +3,7 @@ use Prim.Native.Nat.{ℕ, ◌-◌, ◌<◌}
 use mathlib.Core.Path.{◌≡◌, refl, ap, ◌∙◌}
 use mathlib.Core.Bool.{Bool, true, false, cond}
 use mathlib.Core.List.{List}
-use mathlib.Core.Option.{Option, none, some}
+use Rattle.std.proofs.Common.{Option, None, Some}
 use lib.Dec.{ltb}
 use borrow.Author.Tests.{ltb-true}
 use Rattle.model.specs.Declared.{is_there}
@@ -15,13 +15,13 @@ use Rattle.items.specs.Asking.{found_by}
 
 module _ (t : List ℕ) (test : Item → Bool) (at : ℕ) where
   found_along : 0 < at
-      → found_item test (chain_in t at at) ≡ cond (test (item_in t (at - 1))) (some (item_in t (at - 1)))
+      → found_item test (chain_in t at at) ≡ cond (test (item_in t (at - 1))) (Some (item_in t (at - 1)))
       (found_item test (chain_in t (at - 1) (before_in t (at - 1))))
   unfolding found_item
   found_along h = rw (chain_first t at h)
 
   -- this item fits; it does not, and the search goes on at the one before; none is left
-  pub found_hit : 0 < at → test (item_in t (at - 1)) ≡ true → found_item test (chain_in t at at) ≡ some (item_in t (at - 1))
+  pub found_hit : 0 < at → test (item_in t (at - 1)) ≡ true → found_item test (chain_in t at at) ≡ Some (item_in t (at - 1))
   found_hit h e = found_along h ∙ rw e
 
   pub found_miss :
@@ -29,7 +29,7 @@ module _ (t : List ℕ) (test : Item → Bool) (at : ℕ) where
       → found_item test (chain_in t at at) ≡ found_item test (chain_in t next next)
   found_miss h e next q = rw (found_along h, e) (ap (found_item test) (chain_rest t at (before_in t (at - 1)) next h q))
 
-  pub found_none : at ≡ 0 → found_item test (chain_in t at at) ≡ none
+  pub found_none : at ≡ 0 → found_item test (chain_in t at at) ≡ None
   unfolding found_item chain_in
   found_none e = rw e
 
@@ -47,5 +47,5 @@ pub found-there : (t : List ℕ) (test : Item → Bool) (last : ℕ) (r : Found)
 found-there t test last r e = ap is_there e ∙ by_item (found_item test (chain_in t last last))
   where
     by_item : (o : Option Item) → is_there (second_of o) ≡ is_there o
-    by_item none = refl
-    by_item (some i) = refl
+    by_item None = refl
+    by_item (Some i) = refl

@@ -1,6 +1,6 @@
 -- What the code asks of an item, and what its answers stand for.
 use Rattle.std.specs.Prelude.{ℕ, Bool}
-use Rattle.std.proofs.Math.Option.{Option, none, some}
+use Rattle.std.specs.Prelude.{Option, None, Some}
 use Rattle.tables.specs.Items.{Item, item, holds, is_this, is_to}
 use Rattle.items.specs.declared.Question.{Question}
 use Rattle.items.specs.declared.Question.TheVariants.{Holds, Is, To}
@@ -15,5 +15,5 @@ asked (To v) = is_to v
 
 -- the second number of the item that the search finds, if it finds one
 abbrev pub found_by : Found → Option ℕ
-found_by (Second y) = some y
-found_by Nothing = none
+found_by (Second y) = Some y
+found_by Nothing = None

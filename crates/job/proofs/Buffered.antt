@@ -3,7 +3,7 @@ use Prim.Native.Nat.{ℕ, ◌*◌, ◌-◌, ◌≤◌, ◌<◌}
 use mathlib.Core.Path.{◌≡◌, refl, ◌∙◌}
 use mathlib.Core.Bool.{Bool, true, false, cond}
 use mathlib.Core.List.{List}
-use mathlib.Core.Option.{Option, none, some}
+use Rattle.std.proofs.Common.{Option, None, Some}
 use native.Mathlib.Omega.{arith}
 use lib.Dec.{eqb, ltb}
 use lib.ListN.{length}
@@ -31,33 +31,33 @@ use Rattle.job.proofs.Judged.{decides_accepted, decides_refused}
 use Rattle.job.proofs.LastTurns.{first-turn}
 
 -- a refusal by 13, and what is left of the tests without one
-decode_bad : (schedule : Schedule) (job : List ℕ) (b : Sizes) (r : Refusal) → some r ≡ budget_refusal schedule → decode_by schedule job
+decode_bad : (schedule : Schedule) (job : List ℕ) (b : Sizes) (r : Refusal) → Some r ≡ budget_refusal schedule → decode_by schedule job
     b ≡ rejected r
 unfolding decode_dispatch
 decode_bad s.Written job b r e = let w : ◌≡◌ {A = ℕ} 0 1 = cc in absurd (omega arith)
 decode_bad (s.Dispatched budget) job b r e = by_budget (bad_budget budget) e
   where
-    by_budget : (t : Bool) → some r ≡ cond t (some (refuse 13 0)) none → cond t (rejected (refuse 13 0)) (decode_under budget job b) ≡
+    by_budget : (t : Bool) → Some r ≡ cond t (Some (refuse 13 0)) None → cond t (rejected (refuse 13 0)) (decode_under budget job b) ≡
         rejected r
     by_budget true q = cc
     by_budget false q = let w : ◌≡◌ {A = ℕ} 0 1 = cc in absurd (omega arith)
 
 -- the tests 13, 14 and 10 to 12 after those of every job
-decode_by_lem : (schedule : Schedule) (job : List ℕ) (b : Sizes) → budget_refusal schedule ≡ none
+decode_by_lem : (schedule : Schedule) (job : List ℕ) (b : Sizes) → budget_refusal schedule ≡ None
     → decode_by schedule job b ≡ and_then (schedule_refusal schedule job b) (decode_job job)
 unfolding decode_for decode_dispatch decode_under
 decode_by_lem s.Written job b e = refl
 decode_by_lem (s.Dispatched budget) job b e = by_budget (bad_budget budget) e ∙ by_decoded (decode_job job)
   where
-    by_budget : (t : Bool) → cond t (some (refuse 13 0)) none ≡ none
+    by_budget : (t : Bool) → cond t (Some (refuse 13 0)) None ≡ None
         → cond t (rejected (refuse 13 0)) (decode_under budget job b) ≡ decode_under budget job b
     by_budget true q = let w : ◌≡◌ {A = ℕ} 0 1 = cc in absurd (omega arith)
     by_budget false q = refl
 
     by_turn : (past : List Command) (r : Option Refusal)
         → and_then (λ past. short_buffer_for job b budget) (accept_unless past r) ≡ accept_unless past (first_of r (short_buffer_for job b budget))
-    by_turn past none = refl
-    by_turn past (some r) = refl
+    by_turn past None = refl
+    by_turn past (Some r) = refl
 
     by_decoded : (d : Decoded) → and_then (λ past. short_buffer_for job b budget) (and_then written_turn d) ≡ and_then (schedule_refusal
         (s.Dispatched budget) job b) d
@@ -66,11 +66,11 @@ decode_by_lem (s.Dispatched budget) job b e = by_budget (bad_budget budget) e �
 
 module _ (schedule : Schedule) (job : List ℕ) (b : Sizes) (t : List ℕ) where
   -- refused by 13
-  pub refused-first : (q : Refused) → some (refusal_of q) ≡ budget_refusal schedule → t ≡ blank → Decides (decode_by schedule job b) t
+  pub refused-first : (q : Refused) → Some (refusal_of q) ≡ budget_refusal schedule → t ≡ blank → Decides (decode_by schedule job b) t
       (v.Refused q)
   refused-first q e = decides_refused (decode_by schedule job b) t q (decode_bad schedule job b (refusal_of q) e)
 
-  module _ (good : budget_refusal schedule ≡ none) where
+  module _ (good : budget_refusal schedule ≡ None) where
     -- refused by the tests of every job
     pub refused-before : (q : Refused) → decode_job job ≡ rejected (refusal_of q) → t ≡ blank → Decides (decode_by schedule job b) t
         (v.Refused q)
@@ -89,15 +89,15 @@ module _ (schedule : Schedule) (job : List ℕ) (b : Sizes) (t : List ℕ) where
 
 -- the tests of a schedule that is one of the two
 module _ (schedule : Schedule) (budget : ℕ) (is : schedule ≡ s.Dispatched budget) where
-  pub budget_bad : bad_budget budget ≡ true → some (refuse 13 0) ≡ budget_refusal schedule
+  pub budget_bad : bad_budget budget ≡ true → Some (refuse 13 0) ≡ budget_refusal schedule
   budget_bad e = rw (is, e)
 
-  pub budget-good : bad_budget budget ≡ false → none ≡ budget_refusal schedule
+  pub budget-good : bad_budget budget ≡ false → None ≡ budget_refusal schedule
   budget-good e = rw (is, e)
 
   module _ (job : List ℕ) (b : Sizes) (past : List Command) where
     pub turn-found : decode_job job ≡ accepted past → ¬ (count_of TURN past ≡ 0)
-        → some (refuse 14 (length job - 2 * count_of TURN past)) ≡ schedule_refusal schedule job b past
+        → Some (refuse 14 (length job - 2 * count_of TURN past)) ≡ schedule_refusal schedule job b past
     turn-found e n = rw (is, first-turn job past (job-accepted job past e).read.reads n)
 
     pub turn-none : count_of TURN past ≡ 0 → (r : Option Refusal) → r ≡ short_buffer_for job b budget → r ≡ schedule_refusal schedule job b past
@@ -108,11 +108,11 @@ pub turns-written : (schedule : Schedule) → schedule ≡ s.Written → (job : 
 turns-written schedule is job b past r f = f ∙ rw is
 
 -- the budget of a schedule that passed test 13
-pub budget-few : (schedule : Schedule) (budget : ℕ) → schedule ≡ s.Dispatched budget → budget_refusal schedule ≡ none
+pub budget-few : (schedule : Schedule) (budget : ℕ) → schedule ≡ s.Dispatched budget → budget_refusal schedule ≡ None
     → (1 ≤ budget) × (budget ≤ max_turns)
 budget-few schedule budget is e = by_budget (bad_budget budget) refl (rw is at e)
   where
-    by_budget : (t : Bool) → bad_budget budget ≡ t → cond t (some (refuse 13 0)) none ≡ none → (1 ≤ budget) × (budget ≤ max_turns)
+    by_budget : (t : Bool) → bad_budget budget ≡ t → cond t (Some (refuse 13 0)) None ≡ None → (1 ≤ budget) × (budget ≤ max_turns)
     by_budget true p q = let w : ◌≡◌ {A = ℕ} 0 1 = cc in absurd (omega arith)
     by_budget false p q =
         let z = eqb-false budget 0 (or_left (eqb budget 0) (ltb max_turns budget) p) in
@@ -123,14 +123,14 @@ module _ (job : List ℕ) (size turns trace snapshot work : ℕ) (long : length 
   abbrev decided : Option Refusal
   decided = short_buffer_for job (sizes trace snapshot work) turns
 
-  pub trace-short : trace < 7 * turns → some (refuse 10 size) ≡ decided
+  pub trace-short : trace < 7 * turns → Some (refuse 10 size) ≡ decided
   trace-short p = rw (long, lt-ltb trace (7 * turns) p)
 
-  pub snapshot-short : 7 * turns ≤ trace → snapshot < 3136 → some (refuse 11 size) ≡ decided
+  pub snapshot-short : 7 * turns ≤ trace → snapshot < 3136 → Some (refuse 11 size) ≡ decided
   snapshot-short p q = rw (long, le-ltb trace (7 * turns) p, lt-ltb snapshot 3136 q)
 
-  pub work-short : 7 * turns ≤ trace → 3136 ≤ snapshot → work < 4096 → some (refuse 12 size) ≡ decided
+  pub work-short : 7 * turns ≤ trace → 3136 ≤ snapshot → work < 4096 → Some (refuse 12 size) ≡ decided
   work-short p q r = rw (long, le-ltb trace (7 * turns) p, le-ltb snapshot 3136 q, lt-ltb work 4096 r)
 
-  pub all-long : 7 * turns ≤ trace → 3136 ≤ snapshot → 4096 ≤ work → none ≡ decided
+  pub all-long : 7 * turns ≤ trace → 3136 ≤ snapshot → 4096 ≤ work → None ≡ decided
   all-long p q r = rw (le-ltb trace (7 * turns) p, le-ltb snapshot 3136 q, le-ltb work 4096 r)

@@ -2,7 +2,7 @@
 use Prim.Native.Nat.{ℕ, suc, ◌+◌, ◌≤◌, ◌<◌}
 use mathlib.Core.Path.{◌≡◌, refl, sym, ◌∙◌}
 use mathlib.Core.List.{List, [], ◌∷◌}
-use mathlib.Core.Option.{some}
+use Rattle.std.proofs.Common.{Some}
 use native.Mathlib.Omega.{arith}
 use lib.ListN.{length}
 use Rattle.model.specs.Command.{Command, Parsed as ParsedAs, whole, unknown, cut_short, read_command}
@@ -25,11 +25,11 @@ use Rattle.job.proofs.Judged.{walk_accepts, walk_refuses}
 
 module _ (job : List ℕ) (place : ℕ) (inside : place < length job) (past : List Command) where
   -- 2 and 3
-  pub step-unread : (q : RefusedFor) → refusal_at place (read_command job place) ≡ some q → (fuel : ℕ)
+  pub step-unread : (q : RefusedFor) → refusal_at place (read_command job place) ≡ Some q → (fuel : ℕ)
       → decode_from (suc fuel) job place past ≡ rejected q
   step-unread q e fuel = by_read (read_command job place) refl e
     where
-      by_read : (r : ParsedAs) → read_command job place ≡ r → refusal_at place r ≡ some q → decode_from (suc fuel) job place past ≡ rejected q
+      by_read : (r : ParsedAs) → read_command job place ≡ r → refusal_at place r ≡ Some q → decode_from (suc fuel) job place past ≡ rejected q
       by_read unknown p f = decode-unknown fuel job place past inside p ∙ cc
       by_read cut_short p f = decode-short fuel job place past inside p ∙ cc
       by_read (whole c next) p f = let w : ◌≡◌ {A = ℕ} 0 1 = cc in absurd (omega arith)

@@ -1,9 +1,10 @@
 -- The turns are the last commands of an accepted job, 2 bytes each.
+use Rattle.std.proofs.Common.{None}
 use Prim.Native.Nat.{ℕ, zero, suc, ◌+◌, ◌*◌, ◌-◌, ◌/◌, ◌≤◌, ◌<◌}
 use mathlib.Core.Path.{◌≡◌, refl, sym, ap, ◌∙◌}
 use mathlib.Core.Bool.{Bool, true, false, cond, ◌||◌}
 use mathlib.Core.List.{List, [], ◌∷◌, ◌++◌}
-use mathlib.Core.Option.{some}
+use Rattle.std.proofs.Common.{Some}
 use native.Mathlib.Omega.{arith}
 use lib.Dec.{ltb, eqb}
 use lib.ListN.{length, get_or, get_or-append, get_or-eq_default}
@@ -37,7 +38,7 @@ behind-turn (d ∷ past) c n f = by_turn (is TURN d) refl n (λ m. behind-turn p
     by_turn false e m ih = ih m
 
 -- a command of group 6 is a TURN
-group_six : (b : ℕ) → ¬ (operands_of b ≡ mathlib.Core.Option.none) → 6 ≤ b / 16 → eqb b TURN ≡ true
+group_six : (b : ℕ) → ¬ (operands_of b ≡ None) → 6 ≤ b / 16 → eqb b TURN ≡ true
 group_six b known h = rw (le-ltb (b / 16) 6 h) at (known-passes (λ d. ltb (d / 16) 6 || eqb d TURN) b refl known)
 
 -- a TURN that is read has 2 bytes, and the second is its node
@@ -55,7 +56,7 @@ turn-read job place c next r e =
 -- the turns before a place, and the first one of them
 record Turning (job : List ℕ) (place : ℕ) (past : List Command) : Type 0 where
   room : 2 * count_of TURN past ≤ place
-  first : ¬ (count_of TURN past ≡ 0) → written_turn past ≡ some (refuse 14 (place - 2 * count_of TURN past))
+  first : ¬ (count_of TURN past ≡ 0) → written_turn past ≡ Some (refuse 14 (place - 2 * count_of TURN past))
   turn : (k : ℕ) → k < count_of TURN past → get_or job (place - 2 * count_of TURN past + 2 * k + 1) 0 ≡ get_or (turns_of past) k 0
 
 -- one more command
@@ -77,12 +78,12 @@ module _ (job : List ℕ) (place : ℕ) (past : List Command) (c : Command) (nex
     where
       by_first :
           (z : Bool) → eqb (count_of TURN past) 0 ≡ z
-          → (¬ (count_of TURN past ≡ 0) → written_turn past ≡ some (refuse 14 (place - 2 * count_of TURN past)))
-          → first_of (written_turn past) (some (refuse 14 c.place)) ≡ some (refuse 14 (place - 2 * count_of TURN past))
+          → (¬ (count_of TURN past ≡ 0) → written_turn past ≡ Some (refuse 14 (place - 2 * count_of TURN past)))
+          → first_of (written_turn past) (Some (refuse 14 c.place)) ≡ Some (refuse 14 (place - 2 * count_of TURN past))
       by_first true z f =
           let m : count_of TURN past ≡ 0 = eqb-true (count_of TURN past) 0 z in
           let here : c.place ≡ place - 2 * count_of TURN past = (read_at job place c next read).here ∙ omega arith in
-          rw (no_turn_none past m) (ap (λ (k : ℕ). some (refuse 14 k)) here)
+          rw (no_turn_none past m) (ap (λ (k : ℕ). Some (refuse 14 k)) here)
       by_first false z f = rw (f (eqb-false (count_of TURN past) 0 z))
 
       by_turn :
@@ -128,7 +129,7 @@ turn_at_lem job past reads = (turning reads).turn
 -- the first turn of an accepted job
 pub first-turn :
     (job : List ℕ) (past : List Command) → Reads job (length job) past
-    → ¬ (count_of TURN past ≡ 0) → written_turn past ≡ some (refuse 14 (length job - 2 * count_of TURN past))
+    → ¬ (count_of TURN past ≡ 0) → written_turn past ≡ Some (refuse 14 (length job - 2 * count_of TURN past))
 first-turn job past reads = (turning reads).first
 
 -- the place of a turn, as the code finds it: inside the job, or after the last turn

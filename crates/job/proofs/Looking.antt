@@ -3,7 +3,7 @@ use Prim.Native.Nat.{ℕ, ◌+◌, ◌≤◌, ◌<◌}
 use mathlib.Core.Path.{◌≡◌, refl, sym, ◌∙◌}
 use mathlib.Core.Bool.{Bool, true, false, cond, not, ◌&&◌, ◌||◌}
 use mathlib.Core.List.{List, [], ◌∷◌}
-use mathlib.Core.Option.{Option, none, some}
+use Rattle.std.proofs.Common.{Option, None, Some}
 use native.Mathlib.Omega.{arith}
 use lib.Dec.{ltb, eqb}
 use lib.ListN.{length, get_or}
@@ -35,7 +35,7 @@ pub record Looking (job : List ℕ) (all : List Command) (place opened unused : 
   pub past : List Command
   pub scanning : Scanning job all place past
   pub open_node : opened ≡ open_body past
-  pub near : refuse_first 9 (is_far_jump all) past ≡ none
+  pub near : refuse_first 9 (is_far_jump all) past ≡ None
   pub first : unused_at (length job) unused ≡ refuse_first 19 (is_unused all) past
 
 pub looking_start : (job : List ℕ) (all : List Command) → decode job ≡ accepted all → Looking job all 0 0 (length job)
@@ -67,12 +67,12 @@ used_other all past c other =
 -- the code's test of a permission, by the byte after its node
 module _ (job : List ℕ) (place : ℕ) (c : Command) (next : ℕ) (read : read_command job place ≡ whole c next) where
   -- the second operand of a command with this byte, if it has two of one byte each
-  second_of_lem : (b : ℕ) (kinds : List OperandKind) → operands_of b ≡ some kinds → width (operand_at kinds 0) ≡ 1 → width (operand_at kinds 1) ≡ 1
+  second_of_lem : (b : ℕ) (kinds : List OperandKind) → operands_of b ≡ Some kinds → width (operand_at kinds 0) ≡ 1 → width (operand_at kinds 1) ≡ 1
       → is b c ≡ true → c.operands.second ≡ get_or job (place + 2) 0
   second_of_lem b kinds o w₀ w₁ e =
       let r = read_at job place c next read in
       let byte : get_or job place 0 ≡ b = sym r.byte ∙ eqb-true c.byte b e in
-      let q : some r.kinds ≡ some kinds = sym r.operands ∙ rw byte o in
+      let q : Some r.kinds ≡ Some kinds = sym r.operands ∙ rw byte o in
       let same : r.kinds ≡ kinds = cc in
       let at : place + 1 + 1 ≡ place + 2 = omega arith in
       rw (← r.command, same, w₀, w₁, at) (number-one job (place + 2))
@@ -80,7 +80,7 @@ module _ (job : List ℕ) (place : ℕ) (c : Command) (next : ℕ) (read : read_
   module _ (all past : List Command) (u : List ℕ) (uses : Uses u all) where
     -- a line of the test: a permission with this byte goes by the marks of a section
     line :
-        (b : ℕ) (kinds : List OperandKind) → operands_of b ≡ some kinds → width (operand_at kinds 0) ≡ 1 → width (operand_at kinds 1) ≡ 1
+        (b : ℕ) (kinds : List OperandKind) → operands_of b ≡ Some kinds → width (operand_at kinds 0) ≡ 1 → width (operand_at kinds 1) ≡ 1
         → (s : Section) (used : ℕ → ℕ → Bool) → ((n x : ℕ) → mark_in u s n x ≡ used n x)
         → (is b c && not (mark_in u s c.operands.first (get_or job (place + 2) 0)))
         ≡ (is b c && not (used c.operands.first c.operands.second))
@@ -107,13 +107,13 @@ module _ (job : List ℕ) (place : ℕ) (c : Command) (next : ℕ) (read : read_
 -- the first unused permission, with one more command: `on` if that is no permission
 module _ (size before place : ℕ) (h : place < size) (o : Option Refusal) (so_far : unused_at size before ≡ o) where
   unused_next : (on t : Bool) → (on ≡ true → t ≡ false)
-      → unused_at size (cond (on || ltb before size) before (cond t place before)) ≡ first_of o (cond t (some (refuse 19 place)) none)
+      → unused_at size (cond (on || ltb before size) before (cond t place before)) ≡ first_of o (cond t (Some (refuse 19 place)) None)
   unused_next true t p = so_far ∙ rw (p refl) (sym (first_of_none o))
   unused_next false t p = by_before (ltb before size) refl so_far t
     where
       by_before :
-          (b : Bool) → ltb before size ≡ b → cond b (some (refuse 19 before)) none ≡ o → (t : Bool)
-          → unused_at size (cond b before (cond t place before)) ≡ first_of o (cond t (some (refuse 19 place)) none)
+          (b : Bool) → ltb before size ≡ b → cond b (Some (refuse 19 before)) None ≡ o → (t : Bool)
+          → unused_at size (cond b before (cond t place before)) ≡ first_of o (cond t (Some (refuse 19 place)) None)
       by_before true e q t = rw (e, ← q)
       by_before false e q true = rw (lt-ltb place size h, ← q)
       by_before false e q false = rw (e, ← q)
@@ -126,7 +126,7 @@ module _ {job : List ℕ} {all : List Command} {place opened unused : ℕ} (l : 
   pub looking_end : length job ≤ place → found ≡ unused_at (length job) unused
   looking_end h =
       let e = scanning_end l.scanning h in
-      let near : far_jump all ≡ none = rw e at l.near in
+      let near : far_jump all ≡ None = rw e at l.near in
       let first : unused_at (length job) unused ≡ unused_permission all = rw e at l.first in
       rw (near, first)
 
@@ -139,7 +139,7 @@ module _ {job : List ℕ} {all : List Command} {place opened unused : ℕ} (l : 
       -- neither a jump nor a permission stands behind a command of a group above 4
       pub looking_behind : 4 < group_of c.byte → found ≡ unused_at (length job) unused
       looking_behind above =
-          let near : far_jump all ≡ none = scanning-behind l.scanning h c next read (refuse_first 9 (is_far_jump all)) 4
+          let near : far_jump all ≡ None = scanning-behind l.scanning h c next read (refuse_first 9 (is_far_jump all)) 4
           (λ past d a. refuse-on 9 (is_far_jump all) past d (near-above all past d a)) above ∙ l.near in
           let first : unused_permission all ≡ unused_at (length job) unused =
           scanning-behind l.scanning h c next read (refuse_first 19 (is_unused all)) 4
@@ -153,7 +153,7 @@ module _ {job : List ℕ} {all : List Command} {place opened unused : ℕ} (l : 
         is_far : far ≡ is_far_jump all l.past c
         is_far = rw (judged, long, b, a, l.open_node, stands.lengths (open_body l.past))
 
-        pub looking_found : far ≡ true → found ≡ some (refuse 9 place)
+        pub looking_found : far ≡ true → found ≡ Some (refuse 9 place)
         looking_found e = rw (scanning-found l.scanning h c next read 9 (is_far_jump all) l.near (sym is_far ∙ e))
 
         pub looking_on :

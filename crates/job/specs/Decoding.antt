@@ -1,6 +1,6 @@
 -- What the code's steps and verdicts say, in the model's words.
 use Rattle.std.specs.Prelude.{ℕ, suc, ◌≤◌, ◌<◌, ◌≡◌, cond, List, ◌∷◌, ltb, length}
-use Rattle.std.proofs.Math.Option.{Option, none, some}
+use Rattle.std.specs.Prelude.{Option, None, Some}
 use Rattle.model.specs.Command.{Command}
 use Rattle.model.specs.Refusal.{Refusal, refuse, Decoded, accepted, rejected, decode_from}
 use Rattle.model.specs.Valid.{Valid}
@@ -15,17 +15,17 @@ use Rattle.job.specs.declared.Verdict.TheVariants as v
 
 -- the refusal that a verdict of the code stands for; none if it accepts
 abbrev pub verdict_of : Verdict → Option Refusal
-verdict_of v.Accepted = none
-verdict_of (v.Refused r) = some (refusal_of r)
+verdict_of v.Accepted = None
+verdict_of (v.Refused r) = Some (refusal_of r)
 
 -- the refusal of a job of this length whose first unused permission stands at this place; none if that is its length
 abbrev pub unused_at : ℕ → ℕ → Option Refusal
-unused_at size place = cond (ltb place size) (some (refuse 19 place)) none
+unused_at size place = cond (ltb place size) (Some (refuse 19 place)) None
 
 -- the refusal of a job; none if it is accepted
 abbrev pub refusal_in : Decoded → Option Refusal
-refusal_in (accepted past) = none
-refusal_in (rejected r) = some r
+refusal_in (accepted past) = None
+refusal_in (rejected r) = Some r
 
 -- one command further: the tables stand for it too, what it uses is noted, and decoding goes on after it
 pub record Onward (job : List ℕ) (place : ℕ) (past : List Command) (t u : List ℕ) (next : ℕ) : Type 0 where

@@ -1,6 +1,6 @@
 -- The tests of a job whose turns are given in either way: as its TURN commands, or by the dispatcher with a budget (S-2).
 use Rattle.std.specs.Prelude.{ℕ, cond, List}
-use Rattle.std.proofs.Math.Option.{Option, none, some}
+use Rattle.std.specs.Prelude.{Option, None, Some}
 use Rattle.model.specs.Table.{TURN}
 use Rattle.model.specs.Command.{Command}
 use Rattle.model.specs.Refusal.{Refusal, refuse, Decoded, first_of, Sizes, short_buffer, short_buffer_for, decode_for}
@@ -16,8 +16,8 @@ decode_by (s.Dispatched budget) job b = decode_dispatch budget job b
 
 -- 13, which is tested before all others
 abbrev pub budget_refusal : Schedule → Option Refusal
-budget_refusal s.Written = none
-budget_refusal (s.Dispatched budget) = cond (bad_budget budget) (some (refuse 13 0)) none
+budget_refusal s.Written = None
+budget_refusal (s.Dispatched budget) = cond (bad_budget budget) (Some (refuse 13 0)) None
 
 -- 14 and 10 to 12, which are tested after all others
 abbrev pub schedule_refusal : Schedule → List ℕ → Sizes → List Command → Option Refusal

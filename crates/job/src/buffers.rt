@@ -1,6 +1,6 @@
 // All tests of a job with its buffers.
 ghost use Rattle.std.specs.Prelude.{◌≡◌, List, ℕ, ◌<◌, length};
-ghost use Rattle.std.proofs.Math.Option.{none};
+ghost use Rattle.std.specs.Prelude.{None};
 ghost use Rattle.model.specs.Command.{Command};
 ghost use Rattle.model.specs.Declared.{count_of};
 ghost use Rattle.model.specs.Table.{TURN};
@@ -76,7 +76,7 @@ fn check_schedule(
     snapshot: usize,
     work: usize,
 ) -> Verdict
-    requires { budget_refusal schedule ≡ none }
+    requires { budget_refusal schedule ≡ None }
     ensures { (job : List ℕ) (past : List Command) → decode_job job ≡ accepted past → length job ≡ size → count_of TURN past ≡ turns
         → verdict_of result ≡ schedule_refusal schedule job (sizes trace snapshot work) past }
 {
@@ -103,7 +103,7 @@ fn judge_under(
     snapshot: usize,
     work: usize,
 ) -> Verdict
-    requires { budget_refusal schedule ≡ none }
+    requires { budget_refusal schedule ≡ None }
     ensures { Decides (decode_by schedule job.now (sizes trace snapshot work)) tables.new result }
 {
     let decoded = decode(job, tables);

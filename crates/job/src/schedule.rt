@@ -1,6 +1,6 @@
 // How the turns of a run are given; the turns of an accepted job are its last commands, 2 bytes each.
 ghost use Rattle.std.specs.Prelude.{◌≡◌, ◌-◌, ◌*◌};
-ghost use Rattle.std.proofs.Math.Option.{none};
+ghost use Rattle.std.specs.Prelude.{None};
 ghost use Rattle.job.specs.Prepared.{turn_in};
 ghost use Rattle.job.specs.Scheduling.{budget_refusal, turns_by};
 
@@ -43,7 +43,7 @@ pub fn turn_at(job: &[u8], tables: &[u32], k: u32) -> NodeNum
 
 // How many turns a run may make: those of the job that the tables stand for, or the budget.
 pub fn turns_in(schedule: Schedule, tables: &[u32]) -> u32
-    requires { budget_refusal schedule ≡ none }
+    requires { budget_refusal schedule ≡ None }
     ensures { result ≡ turns_by schedule tables.now }
 {
     match schedule {

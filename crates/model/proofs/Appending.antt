@@ -3,7 +3,7 @@ use Prim.Native.Nat.{ℕ, zero, suc, ◌+◌, ◌≤◌, ◌<◌, zero-le}
 use mathlib.Core.Path.{◌≡◌, refl, sym, ◌∙◌}
 use mathlib.Core.Bool.{Bool, true, false, cond, ◌&&◌, or-false}
 use mathlib.Core.List.{List, [], ◌∷◌, ◌++◌}
-use mathlib.Core.Option.{none, some}
+use Rattle.std.proofs.Common.{None, Some}
 use native.Mathlib.Omega.{arith}
 use lib.Dec.{leb, ltb, eqb}
 use lib.ListN.{length, get_or, length-append, get_or-append}
@@ -70,14 +70,14 @@ abbrev low_rows : List Row → Bool
 low_rows [] = true
 low_rows (r ∷ rows) = leb r.byte TURN && low_rows rows
 
-row_low : (rows : List Row) → low_rows rows ≡ true → (b : ℕ) → ¬ (operands_in rows b ≡ none) → b ≤ TURN
+row_low : (rows : List Row) → low_rows rows ≡ true → (b : ℕ) → ¬ (operands_in rows b ≡ None) → b ≤ TURN
 unfolding operands_in
 row_low [] l b n = absurd (n refl)
 row_low (r ∷ rows) l b n = by_row (eqb r.byte b) refl n (row_low rows (and_right (leb r.byte TURN) _ l) b)
   where
     by_row :
-        (t : Bool) → eqb r.byte b ≡ t → ¬ (cond t (some r.operands) (operands_in rows b) ≡ none)
-        → (¬ (operands_in rows b ≡ none) → b ≤ TURN) → b ≤ TURN
+        (t : Bool) → eqb r.byte b ≡ t → ¬ (cond t (Some r.operands) (operands_in rows b) ≡ None)
+        → (¬ (operands_in rows b ≡ None) → b ≤ TURN) → b ≤ TURN
     by_row true p m ih = omega (arith, eqb-true r.byte b p, leb-true r.byte TURN (and_left (leb r.byte TURN) _ l))
     by_row false p m ih = ih m
 

@@ -4,7 +4,7 @@ use mathlib.Core.Path.{◌≡◌, refl, ◌∙◌}
 use mathlib.Core.Logic.{inl, inr}
 use mathlib.Core.Bool.{true, ◌||◌}
 use mathlib.Core.List.{List, [], ◌∷◌}
-use mathlib.Core.Option.{Option, none, some}
+use Rattle.std.proofs.Common.{Option, None, Some}
 use native.Mathlib.Omega.{arith}
 use lib.Dec.{ltb, eqb}
 use lib.ListN.{length}
@@ -81,8 +81,8 @@ and_then_matches :
 and_then_matches x v test test' h (accepted past) (accepted past') m = rw (m.0, h past) (by_test (test past))
   where
     by_test : (o : Option Refusal) → Matches x v (accept_unless past o) (accept_unless (restarted x v past) o)
-    by_test none = (refl, m.1)
-    by_test (some r) = refl
+    by_test None = (refl, m.1)
+    by_test (Some r) = refl
 and_then_matches x v test test' h (accepted past) (rejected r) m = absurd m
 and_then_matches x v test test' h (rejected r) (accepted past) m = absurd m
 and_then_matches x v test test' h (rejected r) (rejected r') m = m

@@ -3,7 +3,7 @@ use Prim.Native.Nat.{ℕ, ◌+◌, ◌≤◌}
 use mathlib.Core.Path.{◌≡◌, refl, ◌∙◌}
 use mathlib.Core.Bool.{Bool, true, false, cond}
 use mathlib.Core.List.{List, [], ◌∷◌}
-use mathlib.Core.Option.{none, some}
+use Rattle.std.proofs.Common.{None, Some}
 use native.Mathlib.Omega.{arith}
 use lib.Dec.{ltb, eqb}
 use borrow.Author.Tests.{le-ltb, ltb-false, ne_eqb, eqb-false}
@@ -25,21 +25,21 @@ use Rattle.model.proofs.Results.{and_then_accepted}
 
 -- 14: the first TURN of one command more; no TURN is written exactly if none is counted
 pub written-turn-next : (c : Command) (past : List Command)
-    → written_turn (c ∷ past) ≡ first_of (written_turn past) (cond (is TURN c) (some (refuse 14 c.place)) none)
+    → written_turn (c ∷ past) ≡ first_of (written_turn past) (cond (is TURN c) (Some (refuse 14 c.place)) None)
 unfolding refuse_first
 written-turn-next c past = refl
 
-pub no_turn_none : (past : List Command) → count_of TURN past ≡ 0 → written_turn past ≡ none
+pub no_turn_none : (past : List Command) → count_of TURN past ≡ 0 → written_turn past ≡ None
 unfolding refuse_first count_of
 no_turn_none [] e = refl
 no_turn_none (c ∷ past) e = by_byte (is TURN c) refl e (no_turn_none past)
   where
     by_byte : (t : Bool) → is TURN c ≡ t → cond t (count_of TURN past + 1) (count_of TURN past) ≡ 0
-        → (count_of TURN past ≡ 0 → written_turn past ≡ none) → written_turn (c ∷ past) ≡ none
+        → (count_of TURN past ≡ 0 → written_turn past ≡ None) → written_turn (c ∷ past) ≡ None
     by_byte true p z ih = absurd (omega arith)
     by_byte false p z ih = refuse-on 14 (λ before c. is TURN c) past c p ∙ ih z
 
-pub none_no_turn : (past : List Command) → written_turn past ≡ none → count_of TURN past ≡ 0
+pub none_no_turn : (past : List Command) → written_turn past ≡ None → count_of TURN past ≡ 0
 unfolding count_of
 none_no_turn [] e = refl
 none_no_turn (c ∷ past) e =
@@ -65,25 +65,25 @@ module _ (budget : ℕ) (job : List ℕ) (b : Sizes) where
   unfolding decode_under
   decode_under_rejected r e = rw e
 
-  pub decode_under_turn : (past : List Command) (r : Refusal) → decode_job job ≡ accepted past → written_turn past ≡ some r
+  pub decode_under_turn : (past : List Command) (r : Refusal) → decode_job job ≡ accepted past → written_turn past ≡ Some r
       → decode_under budget job b ≡ rejected r
   unfolding decode_under
   decode_under_turn past r e f = rw (e, f)
 
-  pub decode_under_later : (past : List Command) → decode_job job ≡ accepted past → written_turn past ≡ none
+  pub decode_under_later : (past : List Command) → decode_job job ≡ accepted past → written_turn past ≡ None
       → decode_under budget job b ≡ accept_unless past (short_buffer_for job b budget)
   unfolding decode_under
   decode_under_later past e f = rw (e, f)
 
   -- an accepted dispatched job passed them all
   pub under_accepted : (past : List Command) → decode_dispatch budget job b ≡ accepted past
-      → (decode_job job ≡ accepted past) × (written_turn past ≡ none) × (short_buffer_for job b budget ≡ none) × (1 ≤ budget)
+      → (decode_job job ≡ accepted past) × (written_turn past ≡ None) × (short_buffer_for job b budget ≡ None) × (1 ≤ budget)
       × (budget ≤ max_turns)
   unfolding decode_dispatch decode_under
   under_accepted past e = by_budget (bad_budget budget) refl e
     where
       by_budget : (t : Bool) → bad_budget budget ≡ t → cond t (rejected (refuse 13 0)) (decode_under budget job b) ≡ accepted past
-          → (decode_job job ≡ accepted past) × (written_turn past ≡ none) × (short_buffer_for job b budget ≡ none) × (1 ≤ budget)
+          → (decode_job job ≡ accepted past) × (written_turn past ≡ None) × (short_buffer_for job b budget ≡ None) × (1 ≤ budget)
           × (budget ≤ max_turns)
       by_budget true p z = let w : ◌≡◌ {A = ℕ} 0 1 = cc in absurd (omega arith)
       by_budget false p z =

@@ -3,7 +3,7 @@ use Prim.Native.Nat.{ℕ}
 use mathlib.Core.Path.{◌≡◌, refl, sym, ◌∙◌}
 use mathlib.Core.Bool.{Bool, true, false, cond, ◌||◌}
 use mathlib.Core.List.{List}
-use mathlib.Core.Option.{none}
+use Rattle.std.proofs.Common.{None}
 use native.Mathlib.Omega.{arith}
 use lib.Dec.{ltb, eqb}
 use borrow.Author.Tests.{eqb-true, eqb-false, eq-eqb, ltb-true, ltb-false, lt-ltb}
@@ -43,11 +43,11 @@ module _ (budget : ℕ) (job : List ℕ) (b : Sizes) where
   under_walked : HasBudget budget → Walked (decode_under budget job b)
   unfolding decode_under
   under_walked h =
-      and_then_walked (λ past. Accepts job longest past × (written_turn past ≡ none)) (DispatchAccepts budget job b)
+      and_then_walked (λ past. Accepts job longest past × (written_turn past ≡ None)) (DispatchAccepts budget job b)
       (DispatchRefuses budget job b) (λ past. short_buffer_for job b budget) (and_then written_turn (decode_job job))
       (λ past q e. record { has_budget = h; accepts = q.0; without_turns = q.1; buffers = e })
       (λ past r q e. has_short_buffer h past r q.0 q.1 e)
-      (and_then_walked (Accepts job longest) (λ past. Accepts job longest past × (written_turn past ≡ none)) (DispatchRefuses budget job b)
+      (and_then_walked (Accepts job longest) (λ past. Accepts job longest past × (written_turn past ≡ None)) (DispatchRefuses budget job b)
       written_turn (decode_job job) (λ past q e. (q, e)) (λ past r q e. holds_turn h past r q e)
       (decides_on (Accepts job longest) (Accepts job longest) (Refuses job longest) (DispatchRefuses budget job b) (decode_job job)
       (λ past q. q) (as_written h) (rw (longest_decodes job) at (decode_for_walked job longest))))

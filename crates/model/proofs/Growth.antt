@@ -3,7 +3,7 @@ use Prim.Native.Nat.{ℕ, suc, ◌+◌, ◌≤◌, ◌<◌, zero-le, max}
 use mathlib.Core.Path.{◌≡◌, refl, sym, ◌∙◌}
 use mathlib.Core.Bool.{Bool, true, false, cond, ◌&&◌, ◌||◌, or_assoc, or_comm}
 use mathlib.Core.List.{List, [], ◌∷◌, ◌++◌, append-nil}
-use mathlib.Core.Option.{some}
+use Rattle.std.proofs.Common.{Some}
 use native.Mathlib.Omega.{arith}
 use lib.Dec.{ltb, eqb}
 use lib.ListN.{length}
@@ -149,7 +149,7 @@ module _ (c : Command) (past : List Command) where
   unfolding in_span
   span-next n f argument = refl
 
-  pub reply-next : (f argument : ℕ) → reply_of (c ∷ past) f argument ≡ cond (is_reply f argument c) (some c.operands.third)
+  pub reply-next : (f argument : ℕ) → reply_of (c ∷ past) f argument ≡ cond (is_reply f argument c) (Some c.operands.third)
       (reply_of past f argument)
   unfolding reply_of
   reply-next f argument = refl

@@ -3,7 +3,8 @@ use Prim.Native.Nat.{ℕ, ◌≤◌}
 use mathlib.Core.Path.{◌≡◌, refl, sym, ◌∙◌}
 use mathlib.Core.Bool.{Bool, true, false, ◌||◌, or-false}
 use mathlib.Core.List.{List, [], ◌∷◌}
-use mathlib.Core.Option.{none, some, some-ne-none}
+use Rattle.std.proofs.Common.{None, Some}
+use Rattle.std.proofs.lemmas.Option.{none-some}
 use native.Mathlib.Omega.{arith}
 use lib.Dec.{leb, eqb}
 use borrow.Author.Tests.{leb-true, le-leb, lt-leb, eqb-true, ne_eqb}
@@ -15,7 +16,7 @@ use Rattle.model.specs.LargestCounts.{Limited, LargestCountsHold, ReplyLimitHold
 use Rattle.model.proofs.Logic.{and_left, and_right}
 
 -- a handler command has no largest count over the whole job
-none_largest : (b : ℕ) → SET ≤ b → b ≤ SKIP → largest_of b ≡ none
+none_largest : (b : ℕ) → SET ≤ b → b ≤ SKIP → largest_of b ≡ None
 unfolding largest_of largest_in is_among
 none_largest b l h =
     rw (
@@ -29,13 +30,13 @@ none_largest b l h =
       ne_eqb b TURN (λ e. omega arith),
     )
 
-module _ (past : List Command) (c : Command) (l : Limit) (e : largest_of c.byte ≡ some l) where
+module _ (past : List Command) (c : Command) (l : Limit) (e : largest_of c.byte ≡ Some l) where
   no_handler : (t : Bool) → is_handler c ≡ t → t ≡ false
   no_handler false p = refl
   no_handler true p =
       let from = leb-true SET c.byte (and_left (leb SET c.byte) _ p) in
       let to = leb-true c.byte SKIP (and_right (leb SET c.byte) _ p) in
-      absurd (some-ne-none l (sym e ∙ none_largest c.byte from to))
+      absurd (none-some l (sym (none_largest c.byte from to) ∙ e))
 
   -- the count by which test 5 goes
   exceeded : exceeds_count past c ≡ leb l.most (count_among l.bytes past)

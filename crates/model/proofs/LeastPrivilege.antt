@@ -4,7 +4,7 @@ use mathlib.Core.Path.{◌≡◌, refl, sym, ap, ◌∙◌}
 use mathlib.Core.Logic.{◌⊎◌, inl, inr}
 use mathlib.Core.Bool.{Bool, true, false, cond, not, ◌&&◌, ◌||◌}
 use mathlib.Core.List.{List, [], ◌∷◌}
-use mathlib.Core.Option.{Option, none, some}
+use Rattle.std.proofs.Common.{Option, None, Some}
 use native.Mathlib.Omega.{arith}
 use borrow.Author.Tests.{eqb-true, eq-eqb}
 use Rattle.model.specs.Table.{ANY, ARG, READ, WRITE, SPAN, GET, PUT, PLUS, CALL, absent, kind_at, operands_in, operands_of, is_among}
@@ -34,7 +34,7 @@ record Unfound (test : List Command → Command → Bool) (b : ℕ) (x : Operand
 
 unfound :
     (k : ℕ) (test : List Command → Command → Bool) (b : ℕ) (x : Operands) (past : List Command)
-    → refuse_first k test past ≡ none → occurs b x past ≡ true → Unfound test b x
+    → refuse_first k test past ≡ None → occurs b x past ≡ true → Unfound test b x
 unfolding occurs
 unfound k test b x [] e there = true_false (sym there)
 unfound k test b x (c ∷ past) e there =
@@ -51,7 +51,7 @@ unfound k test b x (c ∷ past) e there =
     by_same false p q rest = rest q
 
 -- where test 19 finds none, each permission has a command
-module _ (past : List Command) (used : unused_permission past ≡ none) where
+module _ (past : List Command) (used : unused_permission past ≡ None) where
   found : (b : ℕ) (x : Operands) → occurs b x past ≡ true → Unfound (is_unused past) b x
   found b x = unfound 19 (is_unused past) b x past used
 
@@ -142,7 +142,7 @@ module _ (all : List Command) (used : LeastPrivilege all) where
         )
 
   all_used : (past : List Command) → Valid past → ((b : ℕ) (x : Operands) → occurs b x past ≡ true → occurs b x all ≡ true)
-      → refuse_first 19 (is_unused all) past ≡ none
+      → refuse_first 19 (is_unused all) past ≡ None
   unfolding refuse_first occurs
   all_used [] valid within = refl
   all_used (c ∷ past) valid within =
@@ -151,18 +151,18 @@ module _ (all : List Command) (used : LeastPrivilege all) where
       ∙ all_used past valid.0 (λ b x e. within b x (or_second (is_same b x c) (occurs b x past) e))
 
 -- the number of a later test's refusal is the test's
-first-number : (k : ℕ) (test : List Command → Command → Bool) (past : List Command) (r : Refusal) → refuse_first k test past ≡ some r
+first-number : (k : ℕ) (test : List Command → Command → Bool) (past : List Command) (r : Refusal) → refuse_first k test past ≡ Some r
     → (place : ℕ) × (r ≡ refuse k place)
 unfolding refuse_first
 first-number k test [] r e = let w : ◌≡◌ {A = ℕ} 0 1 = cc in absurd (omega arith)
 first-number k test (c ∷ past) r e = by_rest (refuse_first k test past) refl (test past c) e (first-number k test past r)
   where
     by_rest :
-        (o : Option Refusal) → refuse_first k test past ≡ o → (t : Bool) → first_of o (cond t (some (refuse k c.place)) none) ≡ some r
-        → (refuse_first k test past ≡ some r → (place : ℕ) × (r ≡ refuse k place)) → (place : ℕ) × (r ≡ refuse k place)
-    by_rest (some q) p t f rest = rest (p ∙ f)
-    by_rest none p true f rest = (c.place, cc)
-    by_rest none p false f rest = let w : ◌≡◌ {A = ℕ} 0 1 = cc in absurd (omega arith)
+        (o : Option Refusal) → refuse_first k test past ≡ o → (t : Bool) → first_of o (cond t (Some (refuse k c.place)) None) ≡ Some r
+        → (refuse_first k test past ≡ Some r → (place : ℕ) × (r ≡ refuse k place)) → (place : ℕ) × (r ≡ refuse k place)
+    by_rest (Some q) p t f rest = rest (p ∙ f)
+    by_rest None p true f rest = (c.place, cc)
+    by_rest None p false f rest = let w : ◌≡◌ {A = ℕ} 0 1 = cc in absurd (omega arith)
 
 -- a job that test 19 does not refuse has the result that it has without it
 only-refuses : (run : Program → List ℕ → Run) → OnlyRefuses run (λ job b. result_of run (decode_for job b))
@@ -173,8 +173,8 @@ only-refuses run job b = by_decoded (and_then far_jump (decode job))
         (past : List Command) (o : Option Refusal) → unused_permission past ≡ o
         → ((place : ℕ) × (result_of run (and_then (short_buffer job b) (accept_unless past o)) ≡ refused (refuse 19 place)))
         ⊎ (result_of run (and_then (short_buffer job b) (accept_unless past o)) ≡ result_of run (and_then (short_buffer job b) (accepted past)))
-    by_test past none e = inr refl
-    by_test past (some r) e = let f = first-number 19 (is_unused past) past r e in inl (f.0, ap refused f.1)
+    by_test past None e = inr refl
+    by_test past (Some r) e = let f = first-number 19 (is_unused past) past r e in inl (f.0, ap refused f.1)
 
     by_decoded :
         (d : Decoded)

@@ -3,7 +3,7 @@ use Prim.Native.Nat.{ℕ, ◌+◌, ◌≤◌, ◌<◌}
 use mathlib.Core.Path.{◌≡◌, refl}
 use mathlib.Core.Bool.{Bool, true, false, cond, ◌||◌}
 use mathlib.Core.List.{List, [], ◌∷◌}
-use mathlib.Core.Option.{Option, none, some}
+use Rattle.std.proofs.Common.{Option, None, Some}
 use mathlib.Core.Logic.{◌⊎◌, inl, inr}
 use native.Mathlib.Omega.{arith}
 use lib.Dec.{ltb}
@@ -24,19 +24,19 @@ use Rattle.model.proofs.Ways.{Keeps, is_jump, performed_by, turn_by, monitored_b
 use Rattle.model.proofs.Growth.{length-handler}
 
 -- no refusal at the first command of two: none at either
-or_else_none : (q r : Option Refusal) → first_of q r ≡ none → (q ≡ none) × (r ≡ none)
-or_else_none none r e = (refl, e)
-or_else_none (some q) r e = let w : ◌≡◌ {A = ℕ} 0 1 = cc in absurd (omega arith)
+or_else_none : (q r : Option Refusal) → first_of q r ≡ None → (q ≡ None) × (r ≡ None)
+or_else_none None r e = (refl, e)
+or_else_none (Some q) r e = let w : ◌≡◌ {A = ℕ} 0 1 = cc in absurd (omega arith)
 
 -- a later test finds none: it finds not the latest command, nor one before it
-pub first-none : (k : ℕ) (test : List Command → Command → Bool) (c : Command) (past : List Command) → refuse_first k test (c ∷ past) ≡ none
-    → (refuse_first k test past ≡ none) × (test past c ≡ false)
+pub first-none : (k : ℕ) (test : List Command → Command → Bool) (c : Command) (past : List Command) → refuse_first k test (c ∷ past) ≡ None
+    → (refuse_first k test past ≡ None) × (test past c ≡ false)
 unfolding refuse_first
 first-none k test c past e =
-    let h = or_else_none (refuse_first k test past) (cond (test past c) (some (refuse k c.place)) none) e in
+    let h = or_else_none (refuse_first k test past) (cond (test past c) (Some (refuse k c.place)) None) e in
     (h.0, by_test (test past c) h.1)
   where
-    by_test : (t : Bool) → cond t (some (refuse k c.place)) none ≡ none → t ≡ false
+    by_test : (t : Bool) → cond t (Some (refuse k c.place)) None ≡ None → t ≡ false
     by_test true q = let w : ◌≡◌ {A = ℕ} 0 1 = cc in absurd (omega arith)
     by_test false q = refl
 
@@ -46,7 +46,7 @@ StaysInside size i = is_jump i ≡ true → i.operand ≤ size
 
 -- every instruction of a handler stays inside the handler of all commands
 pub jumps-inside :
-    (all past : List Command) → refuse_first 9 (is_far_jump all) past ≡ none
+    (all past : List Command) → refuse_first 9 (is_far_jump all) past ≡ None
     → (n i : ℕ) → i < length (handler_of past n) → StaysInside (body_length all n) (get_or (handler_of past n) i (instruction 0 0))
 unfolding handler_of
 jumps-inside all [] e n = λ i h. absurd (omega arith)

@@ -3,7 +3,7 @@ use Prim.Native.Nat.{ℕ, zero, suc, ◌+◌, ◌*◌, ◌≤◌, ◌<◌}
 use mathlib.Core.Path.{◌≡◌, refl, sym, ap, ◌∙◌}
 use mathlib.Core.Bool.{Bool, true, false, cond}
 use mathlib.Core.List.{List}
-use mathlib.Core.Option.{Option, none, some}
+use Rattle.std.proofs.Common.{Option, None, Some}
 use native.Mathlib.Omega.{arith}
 use lib.Dec.{leb}
 use lib.ListN.{length, get_or}
@@ -32,11 +32,11 @@ number-none job at = refl
 
 -- what is read at a place: no command, a command cut short, a whole one
 module _ (job : List ℕ) (place : ℕ) where
-  pub read-unknown : operands_of (get_or job place 0) ≡ none → read_command job place ≡ unknown
+  pub read-unknown : operands_of (get_or job place 0) ≡ None → read_command job place ≡ unknown
   unfolding read_command
   read-unknown e = rw e
 
-  module _ (kinds : List OperandKind) (e : operands_of (get_or job place 0) ≡ some kinds) where
+  module _ (kinds : List OperandKind) (e : operands_of (get_or job place 0) ≡ Some kinds) where
     pub read_short : length job < end_at place kinds → read_command job place ≡ cut_short
     unfolding read_command
     read_short h = rw (e, lt-leb (end_at place kinds) (length job) h)
@@ -48,7 +48,7 @@ module _ (job : List ℕ) (place : ℕ) where
 -- a command that is read: it is plain, it stands at its place, and the next one stands further on in the job
 pub record ReadAt (job : List ℕ) (place : ℕ) (c : Command) (next : ℕ) : Type 0 where
   pub kinds : List OperandKind
-  pub operands : operands_of (get_or job place 0) ≡ some kinds
+  pub operands : operands_of (get_or job place 0) ≡ Some kinds
   pub command : command_at job place kinds ≡ c
   pub ends : end_at place kinds ≡ next
   pub plain : Plain c
@@ -67,7 +67,7 @@ unfolding read_command
 read_at job place c next e = by_operands (operands_of (get_or job place 0)) refl e
   where
     by_length :
-        (kinds : List OperandKind) → operands_of (get_or job place 0) ≡ some kinds → (t : Bool) → leb (end_at place kinds) (length job) ≡ t
+        (kinds : List OperandKind) → operands_of (get_or job place 0) ≡ Some kinds → (t : Bool) → leb (end_at place kinds) (length job) ≡ t
         → cond t (whole (command_at job place kinds) (end_at place kinds)) cut_short ≡ whole c next → ReadAt job place c next
     by_length kinds o true t q =
         let a : command_at job place kinds ≡ c = cc in
@@ -96,8 +96,8 @@ read_at job place c next e = by_operands (operands_of (get_or job place 0)) refl
 
     by_operands : (o : Option (List OperandKind)) → operands_of (get_or job place 0) ≡ o → read_as job place o ≡ whole c next
         → ReadAt job place c next
-    by_operands none o q = let w : ◌≡◌ {A = ℕ} 0 1 = cc in absurd (omega arith)
-    by_operands (some kinds) o q = by_length kinds o (leb (end_at place kinds) (length job)) refl q
+    by_operands None o q = let w : ◌≡◌ {A = ℕ} 0 1 = cc in absurd (omega arith)
+    by_operands (Some kinds) o q = by_length kinds o (leb (end_at place kinds) (length job)) refl q
 
 -- a number, a command and what is read, where two jobs have the same bytes
 module _ (job job' : List ℕ) where
@@ -131,7 +131,7 @@ module _ (job job' : List ℕ) where
       let kinds = r.kinds in
       let ends : end_at place kinds ≡ next = r.ends in
       let later : place < next = r.later in
-      let known : operands_of (get_or job' place 0) ≡ some kinds = rw (h place (omega arith) (omega arith)) at r.operands in
+      let known : operands_of (get_or job' place 0) ≡ Some kinds = rw (h place (omega arith) (omega arith)) at r.operands in
       let same : command_at job place kinds ≡ command_at job' place kinds = command-same place kinds (λ i a b. h i a (omega arith)) in
       read_whole job' place kinds known (omega arith) ∙ ap (λ (d : Command). whole d (end_at place kinds)) (sym same ∙ r.command)
       ∙ ap (whole c) ends

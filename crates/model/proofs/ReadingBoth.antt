@@ -4,7 +4,7 @@ use mathlib.Core.Path.{◌≡◌, refl, sym, ap, subst, ◌∙◌}
 use mathlib.Core.Logic.{inl, inr}
 use mathlib.Core.Bool.{true, cond}
 use mathlib.Core.List.{List, [], ◌∷◌}
-use mathlib.Core.Option.{Option, none, some}
+use Rattle.std.proofs.Common.{Option, None, Some}
 use native.Mathlib.Omega.{arith}
 use lib.Dec.{leb}
 use lib.ListN.{length, get_or}
@@ -26,8 +26,8 @@ read-beyond job job' place l h =
     ap (λ (b : ℕ). read_as job' place (operands_of b)) (sym (h place (omega arith))) ∙ by_operands (operands_of (get_or job place 0))
   where
     by_operands : (o : Option (List OperandKind)) → read_as job' place o ≡ read_as job place o
-    by_operands none = refl
-    by_operands (some kinds) =
+    by_operands None = refl
+    by_operands (Some kinds) =
         let same : command_at job' place kinds ≡ command_at job place kinds = sym (command-same job job' place kinds (λ i a b. h i a)) in
         λ i. cond (leb (end_at place kinds) (sym l i)) (whole (same i) (end_at place kinds)) cut_short
 
@@ -37,7 +37,7 @@ variable_kinds = scope ∷ owner ∷ start ∷ []
 
 -- a VAR that is read: its operands stand behind its byte, and the next command behind these
 pub record VariableAt (job : List ℕ) (place : ℕ) (c : Command) (next : ℕ) : Type 0 where
-  pub known : operands_of (get_or job place 0) ≡ some variable_kinds
+  pub known : operands_of (get_or job place 0) ≡ Some variable_kinds
   pub command : command_at job place variable_kinds ≡ c
   pub ends : next ≡ place + 7
   pub inside : next ≤ length job
@@ -48,7 +48,7 @@ unfolding operands_of operands_in
 variable-at job place c next e is_var =
     let r = read_at job place c next e in
     let byte : get_or job place 0 ≡ VAR = sym r.byte ∙ is_var in
-    let known : operands_of (get_or job place 0) ≡ some variable_kinds = rw byte in
+    let known : operands_of (get_or job place 0) ≡ Some variable_kinds = rw byte in
     let kinds : r.kinds ≡ variable_kinds = cc r.operands in
     let ends : end_at place variable_kinds ≡ next = rw kinds at r.ends in
     record { known = known; command = rw kinds at r.command; ends = omega arith; inside = r.inside }
@@ -64,7 +64,7 @@ read-variable :
 read-variable job job' place c next same a =
     let v = start_at job' place in
     let byte : get_or job place 0 ≡ get_or job' place 0 = same.elsewhere place (inl (omega arith)) in
-    let known : operands_of (get_or job' place 0) ≡ some variable_kinds = ap operands_of (sym byte) ∙ a.known in
+    let known : operands_of (get_or job' place 0) ≡ Some variable_kinds = ap operands_of (sym byte) ∙ a.known in
     let first = number_same job job' (place + 1) 1 (λ i l h. same.elsewhere i (inl (omega arith))) in
     let second = number_same job job' (place + 1 + 1) 1 (λ i l h. same.elsewhere i (inl (omega arith))) in
     let fourth = number-none job (fourth_at place variable_kinds) ∙ sym (number-none job' (fourth_at place variable_kinds)) in

@@ -3,7 +3,7 @@ use Prim.Native.Nat.{ℕ}
 use mathlib.Core.Path.{◌≡◌, refl, sym, ap}
 use mathlib.Core.Bool.{Bool, true, false, cond, ◌||◌}
 use mathlib.Core.List.{List, [], ◌∷◌}
-use mathlib.Core.Option.{none, some}
+use Rattle.std.proofs.Common.{None, Some}
 use lib.Dec.{eqb}
 use borrow.Author.Tests.{eqb-true, eq-eqb}
 use Rattle.model.specs.Table.{REPLY, operands_in, operands_of}
@@ -45,15 +45,15 @@ module _ (f v : ℕ) where
 
   -- no such REPLY
   none-recorded :
-      (past : List Command) → Valid past → ((answer : ℕ) → occurs REPLY (ternary f v answer) past ≡ false) → reply_of past f v ≡ none
+      (past : List Command) → Valid past → ((answer : ℕ) → occurs REPLY (ternary f v answer) past ≡ false) → reply_of past f v ≡ None
   unfolding reply_of occurs
   none-recorded [] valid none-there = refl
   none-recorded (c ∷ past) valid none-there =
       by_reply (is_reply f v c) refl
       (none-recorded past valid.0 (λ answer. or_right (is_same REPLY (ternary f v answer) c) _ (none-there answer)))
     where
-      by_reply : (t : Bool) → is_reply f v c ≡ t → reply_of past f v ≡ none
-          → cond t (some c.operands.third) (reply_of past f v) ≡ none
+      by_reply : (t : Bool) → is_reply f v c ≡ t → reply_of past f v ≡ None
+          → cond t (Some c.operands.third) (reply_of past f v) ≡ None
       by_reply false p ih = ih
       by_reply true p ih = not-both (reply-same c valid.1 p)
           (or_left (is_same REPLY (ternary f v c.operands.third) c) _ (none-there c.operands.third))
@@ -68,14 +68,14 @@ module _ (f v : ℕ) where
 
   -- such a REPLY, wherever it stands
   some-recorded :
-      (answer : ℕ) (past : List Command) → Valid past → occurs REPLY (ternary f v answer) past ≡ true → reply_of past f v ≡ some answer
+      (answer : ℕ) (past : List Command) → Valid past → occurs REPLY (ternary f v answer) past ≡ true → reply_of past f v ≡ Some answer
   unfolding reply_of occurs
   some-recorded answer [] valid there = true_false (sym there)
   some-recorded answer (c ∷ past) valid there =
       by_same (is_same REPLY (ternary f v answer) c) refl there (some-recorded answer past valid.0)
     where
-      by_reply : (t : Bool) → is_reply f v c ≡ t → reply_of past f v ≡ some answer
-          → cond t (some c.operands.third) (reply_of past f v) ≡ some answer
+      by_reply : (t : Bool) → is_reply f v c ≡ t → reply_of past f v ≡ Some answer
+          → cond t (Some c.operands.third) (reply_of past f v) ≡ Some answer
       by_reply false p e = e
       by_reply true p e =
           let gone : is_there (reply_of past f v) ≡ false = fresh-reply past c (passes past c valid.2).fresh p in
@@ -83,8 +83,8 @@ module _ (f v : ℕ) where
 
       by_same :
           (t : Bool) → is_same REPLY (ternary f v answer) c ≡ t → (t || occurs REPLY (ternary f v answer) past) ≡ true
-          → (occurs REPLY (ternary f v answer) past ≡ true → reply_of past f v ≡ some answer)
-          → cond (is_reply f v c) (some c.operands.third) (reply_of past f v) ≡ some answer
+          → (occurs REPLY (ternary f v answer) past ≡ true → reply_of past f v ≡ Some answer)
+          → cond (is_reply f v c) (Some c.operands.third) (reply_of past f v) ≡ Some answer
       by_same true p q ih = let s = same-reply answer c p in rw (s.0, s.1)
       by_same false p q ih = by_reply (is_reply f v c) refl (ih q)
 

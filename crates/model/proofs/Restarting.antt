@@ -4,7 +4,7 @@ use Prim.Native.Nat.{ℕ, ◌-◌}
 use mathlib.Core.Path.{◌≡◌, refl, sym, ap, ◌∙◌}
 use mathlib.Core.Bool.{Bool, true, false, cond, ◌&&◌, ◌||◌}
 use mathlib.Core.List.{List, [], ◌∷◌}
-use mathlib.Core.Option.{Option, none, some, get_or}
+use Rattle.std.proofs.Common.{Option, None, Some, unwrap_or}
 use lib.Dec.{eqb}
 use borrow.Author.Tests.{eqb-true, eqb-false, ne_eqb}
 use Rattle.model.specs.Table.{FLOW, NODE, VAR, FUN, REPLY, WIRE, ANY, ARG, READ, WRITE, SPAN, BODY, START, operands_in, operands_of}
@@ -124,11 +124,11 @@ module _ (x v : ℕ) where
   reply_re [] f argument = refl
   reply_re (c ∷ past) f argument =
       rw (reply_re past f argument)
-      (other_re (λ (d : Command). cond (is_reply f argument d) (some d.operands.third) (reply_of past f argument))
+      (other_re (λ (d : Command). cond (is_reply f argument d) (Some d.operands.third) (reply_of past f argument))
       (λ t d p. rw (no_other REPLY d refl p)) (eqb (count_of VAR past) x) c)
 
   answer_re : (past : List Command) (f argument : ℕ) → answer_of (restarted x v past) f argument ≡ answer_of past f argument
-  answer_re past f argument = λ i. get_or (reply_re past f argument i) (fun_re past f i)
+  answer_re past f argument = λ i. unwrap_or (reply_re past f argument i) (fun_re past f i)
 
   open_re : (past : List Command) → open_body (restarted x v past) ≡ open_body past
   unfolding restarted open_body
@@ -167,8 +167,8 @@ module _ (x v : ℕ) where
   falls_re (d ∷ past) c = rw (falls_re past c)
 
   reached_re : (o : Option Limit) (past : List Command) → is_reached o (restarted x v past) ≡ is_reached o past
-  reached_re none past = refl
-  reached_re (some l) past = rw (among_re l.bytes past)
+  reached_re None past = refl
+  reached_re (Some l) past = rw (among_re l.bytes past)
 
   exceeds_re : (past : List Command) (c : Command) → exceeds_count (restarted x v past) c ≡ exceeds_count past c
   exceeds_re past c = rw (reached_re (largest_of c.byte) past, open_re past, body_re past (open_body past))
@@ -243,7 +243,7 @@ module _ (x v : ℕ) where
   unfolding restarted refuse_first
   first_re k test test' h [] = refl
   first_re k test test' h (c ∷ past) =
-      let found : Bool → Option Refusal = λ b. cond b (some (refuse k c.place)) none in
+      let found : Bool → Option Refusal = λ b. cond b (Some (refuse k c.place)) None in
       λ i. first_of (first_re k test test' h past i) (found (h past (is_declaration_of x past c) c i))
 
   pub far_re : (past : List Command) → far_jump (restarted x v past) ≡ far_jump past

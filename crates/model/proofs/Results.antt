@@ -3,7 +3,7 @@ use Prim.Native.Nat.{ℕ, ◌*◌, ◌≤◌, ◌<◌}
 use mathlib.Core.Path.{◌≡◌, refl}
 use mathlib.Core.Bool.{Bool, true, false, cond}
 use mathlib.Core.List.{List}
-use mathlib.Core.Option.{Option, none, some}
+use Rattle.std.proofs.Common.{Option, None, Some}
 use native.Mathlib.Omega.{arith}
 use lib.Dec.{ltb}
 use lib.ListN.{length}
@@ -22,18 +22,18 @@ pub decode-job-rejected : (job : List ℕ) (r : Refusal) → decode job ≡ reje
 unfolding decode_job
 decode-job-rejected job r e = rw e
 
-pub decode_job_jump : (job : List ℕ) (all : List Command) (r : Refusal) → decode job ≡ accepted all → far_jump all ≡ some r
+pub decode_job_jump : (job : List ℕ) (all : List Command) (r : Refusal) → decode job ≡ accepted all → far_jump all ≡ Some r
     → decode_job job ≡ rejected r
 unfolding decode_job
 decode_job_jump job all r e f = rw (e, f)
 
-pub decode_job_unused : (job : List ℕ) (all : List Command) (r : Refusal) → decode job ≡ accepted all → far_jump all ≡ none
-    → unused_permission all ≡ some r → decode_job job ≡ rejected r
+pub decode_job_unused : (job : List ℕ) (all : List Command) (r : Refusal) → decode job ≡ accepted all → far_jump all ≡ None
+    → unused_permission all ≡ Some r → decode_job job ≡ rejected r
 unfolding decode_job
 decode_job_unused job all r e f u = rw (e, f, u)
 
-pub decode-job-accepted : (job : List ℕ) (all : List Command) → decode job ≡ accepted all → far_jump all ≡ none
-    → unused_permission all ≡ none → decode_job job ≡ accepted all
+pub decode-job-accepted : (job : List ℕ) (all : List Command) → decode job ≡ accepted all → far_jump all ≡ None
+    → unused_permission all ≡ None → decode_job job ≡ accepted all
 unfolding decode_job
 decode-job-accepted job all e f u = rw (e, f, u)
 
@@ -44,29 +44,29 @@ unfolding decode_job
 decode-job-later job all e = rw e (by_jumps (far_jump all))
   where
     by_jumps : (o : Option Refusal) → and_then unused_permission (accept_unless all o) ≡ accept_unless all (first_of o (unused_permission all))
-    by_jumps none = refl
-    by_jumps (some r) = refl
+    by_jumps None = refl
+    by_jumps (Some r) = refl
 
 -- accepted after a further test: accepted before it, and the test finds nothing
 pub and_then_accepted : (test : List Command → Option Refusal) (d : Decoded) (past : List Command) → and_then test d ≡ accepted past
-    → (d ≡ accepted past) × (test past ≡ none)
+    → (d ≡ accepted past) × (test past ≡ None)
 and_then_accepted test (accepted all) past e = by_test (test all) refl e
   where
-    by_test : (r : Option Refusal) → test all ≡ r → accept_unless all r ≡ accepted past → (accepted all ≡ accepted past) × (test past ≡ none)
-    by_test none p q = let same : all ≡ past = cc in (q, rw (← same) p)
-    by_test (some r) p q = let w : ◌≡◌ {A = ℕ} 0 1 = cc in absurd (omega arith)
+    by_test : (r : Option Refusal) → test all ≡ r → accept_unless all r ≡ accepted past → (accepted all ≡ accepted past) × (test past ≡ None)
+    by_test None p q = let same : all ≡ past = cc in (q, rw (← same) p)
+    by_test (Some r) p q = let w : ◌≡◌ {A = ℕ} 0 1 = cc in absurd (omega arith)
 and_then_accepted test (rejected r) past e = let w : ◌≡◌ {A = ℕ} 0 1 = cc in absurd (omega arith)
 
 -- no buffer is too short for so many turns
-pub buffers_fit_for : (job : List ℕ) (b : Sizes) (turns : ℕ) → short_buffer_for job b turns ≡ none
+pub buffers_fit_for : (job : List ℕ) (b : Sizes) (turns : ℕ) → short_buffer_for job b turns ≡ None
     → (7 * turns ≤ b.trace) × (3136 ≤ b.snapshot) × (4096 ≤ b.work)
 buffers_fit_for job b turns e = by_tests (ltb b.trace (7 * turns)) refl (ltb b.snapshot 3136) refl (ltb b.work 4096) refl e
   where
     by_tests :
         (t : Bool) → ltb b.trace (7 * turns) ≡ t → (u : Bool) → ltb b.snapshot 3136 ≡ u → (v : Bool)
         → ltb b.work 4096 ≡ v
-        → cond t (some (refuse 10 (length job))) (cond u (some (refuse 11 (length job)))
-        (cond v (some (refuse 12 (length job))) none)) ≡ none
+        → cond t (Some (refuse 10 (length job))) (cond u (Some (refuse 11 (length job)))
+        (cond v (Some (refuse 12 (length job))) None)) ≡ None
         → (7 * turns ≤ b.trace) × (3136 ≤ b.snapshot) × (4096 ≤ b.work)
     by_tests true p u q v r z = let w : ◌≡◌ {A = ℕ} 0 1 = cc in absurd (omega arith)
     by_tests false p true q v r z = let w : ◌≡◌ {A = ℕ} 0 1 = cc in absurd (omega arith)
@@ -74,7 +74,7 @@ buffers_fit_for job b turns e = by_tests (ltb b.trace (7 * turns)) refl (ltb b.s
     by_tests false p false q false r z = (ltb-false b.trace (7 * turns) p, ltb-false b.snapshot 3136 q, ltb-false b.work 4096 r)
 
 -- for the turns of the job
-pub buffers_fit : (job : List ℕ) (b : Sizes) (past : List Command) → short_buffer job b past ≡ none
+pub buffers_fit : (job : List ℕ) (b : Sizes) (past : List Command) → short_buffer job b past ≡ None
     → (7 * count_of TURN past ≤ b.trace) × (3136 ≤ b.snapshot) × (4096 ≤ b.work)
 buffers_fit job b past = buffers_fit_for job b (count_of TURN past)
 

@@ -3,7 +3,7 @@ use Prim.Native.Nat.{ℕ, zero, suc, ◌+◌, ◌≤◌, ◌<◌}
 use mathlib.Core.Path.{◌≡◌, refl, sym, ◌∙◌}
 use mathlib.Core.Bool.{Bool, true, false, cond, ◌||◌}
 use mathlib.Core.List.{List, [], ◌∷◌}
-use mathlib.Core.Option.{Option, none, some}
+use Rattle.std.proofs.Common.{Option, None, Some}
 use native.Mathlib.Omega.{arith}
 use lib.Dec.{ltb, eqb}
 use lib.ListN.{length}
@@ -18,9 +18,9 @@ use Rattle.model.proofs.Reading.{read_at}
 use Rattle.model.proofs.Decoding.{decode_end, fuel-left}
 
 -- the first of two refusals, if the second is not there
-pub first_of_none : (r : Option Refusal) → first_of r none ≡ r
-first_of_none none = refl
-first_of_none (some q) = refl
+pub first_of_none : (r : Option Refusal) → first_of r None ≡ r
+first_of_none None = refl
+first_of_none (Some q) = refl
 
 -- an accepted job is decoded from its start
 pub accepted-from : (job : List ℕ) (all : List Command) → decode job ≡ accepted all → decode_from (length job) job 0 [] ≡ accepted all
@@ -156,11 +156,11 @@ module _ {job : List ℕ} {all : List Command} {place : ℕ} {past : List Comman
           record { fuel = left.0; enough = omega (arith, r.later); goes_on = rw (same-command, same_next) at read.goes_on }
 
       -- a later test that found none before it and finds it refuses it
-      pub scanning-found : (k : ℕ) (test : List Command → Command → Bool) → refuse_first k test past ≡ none → test past c ≡ true
-          → refuse_first k test all ≡ some (refuse k place)
+      pub scanning-found : (k : ℕ) (test : List Command → Command → Bool) → refuse_first k test past ≡ None → test past c ≡ true
+          → refuse_first k test all ≡ Some (refuse k place)
       unfolding refuse_first
       scanning-found k test fine t =
-          holds_of_all (λ past. refuse_first k test past ≡ some (refuse k place)) (λ past d v f. rw f) job all scanning-on.fuel next
+          holds_of_all (λ past. refuse_first k test past ≡ Some (refuse k place)) (λ past d v f. rw f) job all scanning-on.fuel next
           (c ∷ past) scanning-on.goes_on (rw (fine, t, (read_at job place c next e).here))
 
       -- it is of a group above g, and a value does not change by commands of those groups

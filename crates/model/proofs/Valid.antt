@@ -3,7 +3,7 @@ use Prim.Native.Nat.{ℕ, suc, ◌+◌, ◌≤◌, ◌<◌, zero-le}
 use mathlib.Core.Path.{◌≡◌, refl, sym}
 use mathlib.Core.Bool.{Bool, true, false, cond, not, ◌&&◌, ◌||◌}
 use mathlib.Core.List.{List, [], ◌∷◌}
-use mathlib.Core.Option.{some}
+use Rattle.std.proofs.Common.{Some}
 use native.Mathlib.Omega.{arith}
 use lib.Dec.{leb, eqb}
 use borrow.Author.Tests.{leb-false, ltb-false, eqb-true}
@@ -56,7 +56,7 @@ job-valid job past e = let j = job-accepted job past e in record { commands = re
 -- each of these bytes has this largest count, which is the count of `all`; and no byte stands twice among them
 abbrev Share : List ℕ → ℕ → List ℕ → Type 0
 Share all most [] = Unit {0}
-Share all most (b ∷ bytes) = (largest_of b ≡ some (limit all most)) × ((is_among b bytes ≡ false) × Share all most bytes)
+Share all most (b ∷ bytes) = (largest_of b ≡ Some (limit all most)) × ((is_among b bytes ≡ false) × Share all most bytes)
 
 -- one command more counts once, if its byte is among them
 among-grows :
@@ -86,14 +86,14 @@ among-grows all most c past (b ∷ bytes) s = by_byte (is b c) refl (among-grows
 
 -- the largest count of a byte that is among them
 among-limit : (all : List ℕ) (most d : ℕ) (bytes : List ℕ) → Share all most bytes
-    → is_among d bytes ≡ true → largest_of d ≡ some (limit all most)
+    → is_among d bytes ≡ true → largest_of d ≡ Some (limit all most)
 unfolding is_among
 among-limit all most d [] s e = true_false (sym e)
 among-limit all most d (b ∷ bytes) s e = by_byte (eqb d b) refl e (among-limit all most d bytes s.1.1)
   where
     by_byte :
-        (t : Bool) → eqb d b ≡ t → (t || is_among d bytes) ≡ true → (is_among d bytes ≡ true → largest_of d ≡ some (limit all most))
-        → largest_of d ≡ some (limit all most)
+        (t : Bool) → eqb d b ≡ t → (t || is_among d bytes) ≡ true → (is_among d bytes ≡ true → largest_of d ≡ Some (limit all most))
+        → largest_of d ≡ Some (limit all most)
     by_byte true p e rest = rw (eqb-true d b p) s.0
     by_byte false p e rest = rest e
 

@@ -3,7 +3,7 @@ use Prim.Native.Nat.{ℕ, zero, suc, ◌+◌, ◌≤◌, ◌<◌}
 use mathlib.Core.Path.{◌≡◌, refl}
 use mathlib.Core.Bool.{Bool, true, false, cond, ◌||◌}
 use mathlib.Core.List.{List, [], ◌∷◌}
-use mathlib.Core.Option.{Option, none, some}
+use Rattle.std.proofs.Common.{Option, None, Some}
 use native.Mathlib.Omega.{arith}
 use lib.Dec.{ltb, eqb}
 use lib.ListN.{length}
@@ -92,20 +92,20 @@ decode-walked job b = by_length (eqb (length job) 0) refl (ltb max_job (length j
 -- a further test, if all commands are accepted so far
 pub and_then_walked :
     (Q S : List Command → Type 0) (R : Refusal → Type 0) (test : List Command → Option Refusal) (d : Decoded)
-    → ((past : List Command) → Q past → test past ≡ none → S past)
-    → ((past : List Command) (r : Refusal) → Q past → test past ≡ some r → R r)
+    → ((past : List Command) → Q past → test past ≡ None → S past)
+    → ((past : List Command) (r : Refusal) → Q past → test past ≡ Some r → R r)
     → Decides Q R d → Decides S R (and_then test d)
 and_then_walked Q S R test (rejected r) pass fail q = q
 and_then_walked Q S R test (accepted past) pass fail q = by_test (test past) refl
   where
     by_test : (o : Option Refusal) → test past ≡ o → Decides S R (accept_unless past o)
-    by_test none e = pass past q e
-    by_test (some r) e = fail past r q e
+    by_test None e = pass past q e
+    by_test (Some r) e = fail past r q e
 
 -- after the tests 1 to 9 and 15
 record PassedNine (job : List ℕ) (past : List Command) : Type 0 where
   read : PassedEight job past
-  jumps : far_jump past ≡ none
+  jumps : far_jump past ≡ None
 
 jumps-walked : (job : List ℕ) (b : Sizes) → Decides (PassedNine job) (Refuses job b) (and_then far_jump (decode job))
 jumps-walked job b =
@@ -117,8 +117,8 @@ jumps-walked job b =
 -- after the tests 1 to 9, 15 and 19
 pub record PassedJob (job : List ℕ) (past : List Command) : Type 0 where
   pub read : PassedEight job past
-  pub jumps : far_jump past ≡ none
-  pub permissions : unused_permission past ≡ none
+  pub jumps : far_jump past ≡ None
+  pub permissions : unused_permission past ≡ None
 
 pub decode-job-walked : (job : List ℕ) (b : Sizes) → Decides (PassedJob job) (Refuses job b) (decode_job job)
 unfolding decode_job

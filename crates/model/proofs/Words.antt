@@ -3,8 +3,7 @@ use Prim.Native.Nat.{ℕ, zero, suc, ◌+◌, ◌^◌, ◌<◌, ◌/◌, ◌*◌
 use mathlib.Core.Path.{◌≡◌, ◌∙◌}
 use mathlib.Core.Bool.{Bool, true, false, cond, ◌&&◌}
 use mathlib.Core.List.{List, [], ◌∷◌}
-use mathlib.Core.Option
-use mathlib.Core.Option.{some}
+use Rattle.std.proofs.Common.{Some, unwrap_or}
 use native.Mathlib.Omega.{arith}
 use native.Mathlib.Nat.{div-div-eq-div-mul, div-add-mod', mod-eq_of_lt}
 use lib.Dec.{eqb}
@@ -107,14 +106,14 @@ handler-fits (c ∷ past) fit n =
     (handler-fits past fit.0 n) (λ _. fit.1.first)
 
 -- an answer, with any number below 2^32 where there is no REPLY
-reply-fits : (past : List Command) → CommandsFit past → (f v other : ℕ) → other < 2 ^ 32 → Option.get_or (reply_of past f v) other < 2 ^ 32
+reply-fits : (past : List Command) → CommandsFit past → (f v other : ℕ) → other < 2 ^ 32 → unwrap_or (reply_of past f v) other < 2 ^ 32
 unfolding reply_of
 reply-fits [] fit f v other h = h
 reply-fits (c ∷ past) fit f v other h = by_reply (is_reply f v c) (reply-fits past fit.0 f v other h)
   where
     by_reply :
-        (t : Bool) → Option.get_or (reply_of past f v) other < 2 ^ 32
-        → Option.get_or (cond t (some c.operands.third) (reply_of past f v)) other < 2 ^ 32
+        (t : Bool) → unwrap_or (reply_of past f v) other < 2 ^ 32
+        → unwrap_or (cond t (Some c.operands.third) (reply_of past f v)) other < 2 ^ 32
     by_reply true ih = fit.1.third
     by_reply false ih = ih
 

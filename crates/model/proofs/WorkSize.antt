@@ -4,7 +4,7 @@ use mathlib.Core.Path.{◌≡◌, refl}
 use mathlib.Core.Logic.{◌⊎◌, inl, inr}
 use mathlib.Core.Bool.{Bool, true, false, cond}
 use mathlib.Core.List.{List}
-use mathlib.Core.Option.{none, some}
+use Rattle.std.proofs.Common.{None, Some}
 use native.Mathlib.Omega.{arith}
 use lib.Dec.{ltb}
 use lib.ListN.{length}
@@ -38,11 +38,11 @@ module _ (run : Program → List ℕ → Run) (job : List ℕ) where
     where
       by_tests :
           (t s w : Bool) → ltb b.work former_work_size ≡ w
-          → (result_of run (accept_unless past (cond t (some (refuse 10 (length job))) (cond s (some (refuse 11 (length job)))
-          (cond w (some (refuse 12 (length job))) none)))) ≡ refused (refuse 12 (length job)))
-          ⊎ (result_of run (accept_unless past (cond t (some (refuse 10 (length job))) (cond s (some (refuse 11 (length job)))
-          (cond w (some (refuse 12 (length job))) none)))) ≡ result_of run (accept_unless past (cond t (some (refuse 10 (length job)))
-          (cond s (some (refuse 11 (length job))) (cond (ltb b.work work_size) (some (refuse 12 (length job))) none)))))
+          → (result_of run (accept_unless past (cond t (Some (refuse 10 (length job))) (cond s (Some (refuse 11 (length job)))
+          (cond w (Some (refuse 12 (length job))) None)))) ≡ refused (refuse 12 (length job)))
+          ⊎ (result_of run (accept_unless past (cond t (Some (refuse 10 (length job))) (cond s (Some (refuse 11 (length job)))
+          (cond w (Some (refuse 12 (length job))) None)))) ≡ result_of run (accept_unless past (cond t (Some (refuse 10 (length job)))
+          (cond s (Some (refuse 11 (length job))) (cond (ltb b.work work_size) (Some (refuse 12 (length job))) None)))))
       by_tests true s w e = inr refl
       by_tests false true w e = inr refl
       by_tests false false true e = inl refl

@@ -1,6 +1,6 @@
 -- One command, and how it is read from the bytes of a job ("The job").
 use Rattle.std.specs.Prelude.{ℕ, zero, suc, ◌+◌, ◌*◌, Bool, cond, ◌&&◌, List, leb, eqb, length, get_or}
-use Rattle.std.proofs.Math.Option.{Option, none, some}
+use Rattle.std.specs.Prelude.{Option, None, Some}
 use Rattle.model.specs.Table.{OperandKind, width, operands_of, operand_at}
 
 -- the operands of a command, 0 where it has none
@@ -79,8 +79,8 @@ pub data Parsed : Type 0 where
 
 -- what is read at a place of a job, by the operands of the byte there
 abbrev pub read_as : List ℕ → ℕ → Option (List OperandKind) → Parsed
-read_as job place none = unknown
-read_as job place (some kinds) = cond (leb (end_at place kinds) (length job)) (whole (command_at job place kinds) (end_at place kinds)) cut_short
+read_as job place None = unknown
+read_as job place (Some kinds) = cond (leb (end_at place kinds) (length job)) (whole (command_at job place kinds) (end_at place kinds)) cut_short
 
 -- what is read at a place of a job
 unfoldable pub read_command : List ℕ → ℕ → Parsed

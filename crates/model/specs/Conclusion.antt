@@ -1,7 +1,7 @@
 -- Demand 1 of the definitions: a job is refused at the first test that it fails, by number and place, buffers untouched; every other job
 -- runs to one of the stops 0 to 3.
 use Rattle.std.specs.Prelude.{ℕ, ◌*◌, ◌≤◌, ◌<◌, ◌≡◌, ◌↔◌, ◌⊎◌, List, [], ◌∷◌, length, take, drop, replicate}
-use Rattle.std.proofs.Math.Option.{none, some}
+use Rattle.std.specs.Prelude.{None, Some}
 use Rattle.model.specs.Table.{max_turns, max_job}
 use Rattle.model.specs.Command.{Command, whole, unknown, cut_short, read_command}
 use Rattle.model.specs.Declared.{turns_of}
@@ -43,24 +43,24 @@ pub data Refuses (job : List ℕ) (b : Sizes) : Refusal → Type 0 where
   -- 9, after all commands
   jumps_far :
       HasLength job → (past : List Command) (r : Refusal)
-      → Reads job (length job) past → far_jump past ≡ some r → Refuses job b r
+      → Reads job (length job) past → far_jump past ≡ Some r → Refuses job b r
   -- 19, after 9
   permits_unused :
       HasLength job → (past : List Command) (r : Refusal)
-      → Reads job (length job) past → far_jump past ≡ none → unused_permission past ≡ some r → Refuses job b r
+      → Reads job (length job) past → far_jump past ≡ None → unused_permission past ≡ Some r → Refuses job b r
   -- 10 to 12
   has_short_buffer :
       HasLength job → (past : List Command) (r : Refusal)
-      → Reads job (length job) past → far_jump past ≡ none → unused_permission past ≡ none → short_buffer job b past ≡ some r
+      → Reads job (length job) past → far_jump past ≡ None → unused_permission past ≡ None → short_buffer job b past ≡ Some r
       → Refuses job b r
 
 -- a job with these commands fails no test
 pub record Accepts (job : List ℕ) (b : Sizes) (past : List Command) : Type 0 where
   pub size : HasLength job
   pub reads : Reads job (length job) past
-  pub jumps : far_jump past ≡ none
-  pub permissions : unused_permission past ≡ none
-  pub buffers : short_buffer job b past ≡ none
+  pub jumps : far_jump past ≡ None
+  pub permissions : unused_permission past ≡ None
+  pub buffers : short_buffer job b past ≡ None
 
 -- a run ends with a stop from 0 to 3 after at most 4,096 turns; its trace has 7 bytes a completed turn, its snapshot at most 3,136, and the
 -- buffers hold them

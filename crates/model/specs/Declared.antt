@@ -1,7 +1,7 @@
 -- What commands declare ("The job"), as functions of the commands read so far, the latest first (`past`).
 -- Each value for `c ∷ past` is made from `c` and the values for `past`. Numbers are counted from 0 over the whole job.
 use Rattle.std.specs.Prelude.{ℕ, ◌+◌, ◌-◌, Bool, true, false, cond, not, ◌&&◌, ◌||◌, List, [], ◌∷◌, ◌++◌, leb, eqb}
-use Rattle.std.proofs.Math.Option.{Option, none, some, get_or}
+use Rattle.std.specs.Prelude.{Option, None, Some, unwrap_or}
 use Rattle.model.specs.Table.{FLOW, NODE, VAR, FUN, REPLY, SPAN, BODY, SET, SKIP, START, TURN, is_among}
 use Rattle.model.specs.Command.{Operands, same_operands, Command, is}
 
@@ -74,17 +74,17 @@ is_reply f argument c = is REPLY c && (eqb c.operands.first f && eqb c.operands.
 
 -- the answer in the last such REPLY, if there is one
 unfoldable pub reply_of : List Command → ℕ → ℕ → Option ℕ
-reply_of [] f argument = none
-reply_of (c ∷ past) f argument = cond (is_reply f argument c) (some c.operands.third) (reply_of past f argument)
+reply_of [] f argument = None
+reply_of (c ∷ past) f argument = cond (is_reply f argument c) (Some c.operands.third) (reply_of past f argument)
 
 -- there is a value
 abbrev pub is_there : {A : Type 0} → Option A → Bool
-is_there none = false
-is_there (some a) = true
+is_there None = false
+is_there (Some a) = true
 
 -- the answer of a function to an argument: that of its REPLY, and without one FUN's (S-1)
 abbrev pub answer_of : List Command → ℕ → ℕ → ℕ
-answer_of past f argument = get_or (reply_of past f argument) (fun_answer_of past f)
+answer_of past f argument = unwrap_or (reply_of past f argument) (fun_answer_of past f)
 
 -- a variable of this scope is shared: flow and global ones are
 abbrev pub is_shared : ℕ → Bool

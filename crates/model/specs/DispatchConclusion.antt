@@ -1,6 +1,6 @@
 -- What a dispatched job comes to (S-2): every job, with any budget and any buffers.
 use Rattle.std.specs.Prelude.{ℕ, ◌*◌, ◌≤◌, ◌<◌, ◌≡◌, ◌↔◌, ◌⊎◌, List, ◌++◌, length}
-use Rattle.std.proofs.Math.Option.{none, some}
+use Rattle.std.specs.Prelude.{None, Some}
 use Rattle.model.specs.Table.{max_turns, max_job}
 use Rattle.model.specs.Command.{Command}
 use Rattle.model.specs.Program.{Program, program_of}
@@ -31,19 +31,19 @@ pub data DispatchRefuses (budget : ℕ) (job : List ℕ) (b : Sizes) : Refusal �
   as_written : HasBudget budget → (r : Refusal) → Refuses job longest r → DispatchRefuses budget job b r
   -- 14, after those
   holds_turn :
-      HasBudget budget → (past : List Command) (r : Refusal) → Accepts job longest past → written_turn past ≡ some r
+      HasBudget budget → (past : List Command) (r : Refusal) → Accepts job longest past → written_turn past ≡ Some r
       → DispatchRefuses budget job b r
   -- 10 to 12
   has_short_buffer :
-      HasBudget budget → (past : List Command) (r : Refusal) → Accepts job longest past → written_turn past ≡ none
-      → short_buffer_for job b budget ≡ some r → DispatchRefuses budget job b r
+      HasBudget budget → (past : List Command) (r : Refusal) → Accepts job longest past → written_turn past ≡ None
+      → short_buffer_for job b budget ≡ Some r → DispatchRefuses budget job b r
 
 -- a dispatched job with these commands fails no test
 pub record DispatchAccepts (budget : ℕ) (job : List ℕ) (b : Sizes) (past : List Command) : Type 0 where
   pub has_budget : HasBudget budget
   pub accepts : Accepts job longest past
-  pub without_turns : written_turn past ≡ none
-  pub buffers : short_buffer_for job b budget ≡ none
+  pub without_turns : written_turn past ≡ None
+  pub buffers : short_buffer_for job b budget ≡ None
 
 -- a dispatched run makes at most the budgeted turns; its trace has 7 bytes a completed turn, its snapshot at most 3,136, and the buffers
 -- hold them

@@ -1,7 +1,7 @@
 -- Test 5 ("Largest counts"; S-1, S-5): what the largest counts over the whole job say of every job, where a row of `Readings` would show
 -- one case. The commands of a body have a count of their own.
 use Rattle.std.specs.Prelude.{◌≤◌, ◌<◌, ◌≡◌, true, false, List, [], ◌∷◌}
-use Rattle.std.proofs.Math.Option.{some}
+use Rattle.std.specs.Prelude.{Some}
 use Rattle.model.specs.Table.{REPLY, ARG, SPAN, is_range_byte, Limit, limit, largest_of}
 use Rattle.model.specs.Command.{Command}
 use Rattle.model.specs.Declared.{count_among}
@@ -15,7 +15,7 @@ pub record Limited (l : Limit) (past : List Command) (c : Command) : Type 0 wher
 
 -- the claim: every largest count over the whole job, after any commands
 abbrev pub LargestCountsHold : Type 0
-LargestCountsHold = (past : List Command) (c : Command) (l : Limit) → largest_of c.byte ≡ some l → Limited l past c
+LargestCountsHold = (past : List Command) (c : Command) (l : Limit) → largest_of c.byte ≡ Some l → Limited l past c
 
 -- so "at most 128 in a job", of REPLY (S-1)
 abbrev pub ReplyLimitHolds : Type 0

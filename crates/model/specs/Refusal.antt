@@ -1,7 +1,7 @@
 -- When a job is refused ("When a job is turned away"): the tests 1 to 12, after test 8 the test 15 of request S-5, and after test 9 the
 -- test 19 of request S-7, each with its number and place, in their order.
 use Rattle.std.specs.Prelude.{ℕ, zero, suc, ◌*◌, Bool, false, cond, not, ◌&&◌, ◌||◌, List, [], ◌∷◌, leb, ltb, eqb, length}
-use Rattle.std.proofs.Math.Option.{Option, none, some}
+use Rattle.std.specs.Prelude.{Option, None, Some}
 use Rattle.model.specs.Table.{FLOW, NODE, VAR, FUN, REPLY, WIRE, ANY, ARG, READ, WRITE, SPAN, BODY, GET, PUT, PLUS, JUMPZ, JUMP}
 use Rattle.model.specs.Table.{CALL, START, TURN, OperandKind, scope, owner, start, answer, node, port, target, function, argument}
 use Rattle.model.specs.Table.{value, low, high, variable, jump, absent, kind_at, group_of, Limit, largest_of, max_port, max_handler}
@@ -22,8 +22,8 @@ group_falls (d ∷ past) c = ltb (group_of c.byte) (group_of d.byte) || group_fa
 
 -- the largest count, if there is one, is reached
 abbrev pub is_reached : Option Limit → List Command → Bool
-is_reached none past = false
-is_reached (some l) past = leb l.most (count_among l.bytes past)
+is_reached None past = false
+is_reached (Some l) past = leb l.most (count_among l.bytes past)
 
 -- 5: a largest count would be passed: one over the whole job, or that of the commands of a body
 abbrev pub exceeds_count : List Command → Command → Bool
@@ -163,8 +163,8 @@ decode job = cond (eqb (length job) 0 || ltb max_job (length job)) (rejected (re
 
 -- the commands are accepted unless a refusal is there
 abbrev pub accept_unless : List Command → Option Refusal → Decoded
-accept_unless past none = accepted past
-accept_unless past (some r) = rejected r
+accept_unless past None = accepted past
+accept_unless past (Some r) = rejected r
 
 -- a further test, if all commands are accepted so far
 abbrev pub and_then : (List Command → Option Refusal) → Decoded → Decoded
@@ -173,13 +173,13 @@ and_then test (rejected r) = rejected r
 
 -- the first of two refusals that is there
 abbrev pub first_of : Option Refusal → Option Refusal → Option Refusal
-first_of none r = r
-first_of (some q) r = some q
+first_of None r = r
+first_of (Some q) r = Some q
 
 -- the refusal of this number at the first command that the test finds, given the commands before it
 unfoldable pub refuse_first : ℕ → (List Command → Command → Bool) → List Command → Option Refusal
-refuse_first k test [] = none
-refuse_first k test (c ∷ past) = first_of (refuse_first k test past) (cond (test past c) (some (refuse k c.place)) none)
+refuse_first k test [] = None
+refuse_first k test (c ∷ past) = first_of (refuse_first k test past) (cond (test past c) (Some (refuse k c.place)) None)
 
 -- a jump target that exceeds the command count of its body, when the job's commands are `all`
 abbrev pub is_far_jump : List Command → List Command → Command → Bool
@@ -253,10 +253,10 @@ work_size = 4096
 -- is the job's length
 abbrev pub short_buffer_asking : ℕ → List ℕ → Sizes → ℕ → Option Refusal
 short_buffer_asking asked job b turns =
-    cond (ltb b.trace (7 * turns)) (some (refuse 10 (length job)))
-    (cond (ltb b.snapshot snapshot_size) (some (refuse 11 (length job)))
-    (cond (ltb b.work asked) (some (refuse 12 (length job)))
-    none))
+    cond (ltb b.trace (7 * turns)) (Some (refuse 10 (length job)))
+    (cond (ltb b.snapshot snapshot_size) (Some (refuse 11 (length job)))
+    (cond (ltb b.work asked) (Some (refuse 12 (length job)))
+    None))
 
 -- 10 to 12, for so many turns
 abbrev pub short_buffer_for : List ℕ → Sizes → ℕ → Option Refusal

@@ -1,7 +1,7 @@
 -- The command table ("The job"): each command byte with its operands, in the paper's order and under the paper's names; the largest counts.
 -- REPLY is that of request S-1, SPAN that of S-5.
 use Rattle.std.specs.Prelude.{ℕ, ◌/◌, Bool, false, cond, ◌||◌, List, [], ◌∷◌, eqb, get_or}
-use Rattle.std.proofs.Math.Option.{Option, none, some}
+use Rattle.std.specs.Prelude.{Option, None, Some}
 
 -- the command bytes
 abbrev pub FLOW : ℕ
@@ -143,8 +143,8 @@ table =
 
 -- the operands in the first row with this byte
 unfoldable pub operands_in : List Row → ℕ → Option (List OperandKind)
-operands_in [] b = none
-operands_in (r ∷ rows) b = cond (eqb r.byte b) (some r.operands) (operands_in rows b)
+operands_in [] b = None
+operands_in (r ∷ rows) b = cond (eqb r.byte b) (Some r.operands) (operands_in rows b)
 
 -- the operands of a command byte; none where the byte is no command
 unfoldable pub operands_of : ℕ → Option (List OperandKind)
@@ -156,8 +156,8 @@ operand_at kinds i = get_or kinds i absent
 
 -- the operands that were found, or the empty list
 abbrev pub list_of : Option (List OperandKind) → List OperandKind
-list_of none = []
-list_of (some kinds) = kinds
+list_of None = []
+list_of (Some kinds) = kinds
 
 -- what operand i of a command byte is
 abbrev pub kind_at : ℕ → ℕ → OperandKind
@@ -237,8 +237,8 @@ is_among b (d ∷ bytes) = eqb b d || is_among b bytes
 
 -- the first of these largest counts that the byte belongs to
 unfoldable pub largest_in : List Limit → ℕ → Option Limit
-largest_in [] b = none
-largest_in (l ∷ ls) b = cond (is_among b l.bytes) (some l) (largest_in ls b)
+largest_in [] b = None
+largest_in (l ∷ ls) b = cond (is_among b l.bytes) (Some l) (largest_in ls b)
 
 -- the largest count that a command byte belongs to, if there is one
 unfoldable pub largest_of : ℕ → Option Limit

@@ -1,7 +1,7 @@
 -- What holds of the commands of every accepted job, and of every state of its runs: what proofs about code rest on. No definition above
 -- uses it.
 use Rattle.std.specs.Prelude.{ℕ, ◌+◌, ◌^◌, ◌≤◌, ◌<◌, ◌≡◌, true, false, ◌&&◌, List, [], ◌∷◌, ◌⊎◌, leb, length, get_or}
-use Rattle.std.proofs.Math.Option.{none}
+use Rattle.std.specs.Prelude.{None}
 use Rattle.model.specs.Table.{FLOW, NODE, VAR, FUN, REPLY, ARG, SPAN, SET, SKIP, TURN, OperandKind, scope, owner, start, answer}
 use Rattle.model.specs.Table.{node, port, target, function, argument, value, low, high, variable, jump, absent, operands_of, kind_at}
 use Rattle.model.specs.Table.{max_flows, max_nodes, max_variables, max_functions, max_replies, max_handler, max_ranges, max_turns, max_port}
@@ -34,7 +34,7 @@ Allowed absent x = x ≡ 0
 
 -- a command as it is read: its byte is in the table, and its absent operands are 0
 pub record Plain (c : Command) : Type 0 where
-  pub known : operands_of c.byte ≡ none → ⊥
+  pub known : operands_of c.byte ≡ None → ⊥
   pub first : kind_at c.byte 0 ≡ absent → c.operands.first ≡ 0
   pub second : kind_at c.byte 1 ≡ absent → c.operands.second ≡ 0
   pub third : kind_at c.byte 2 ≡ absent → c.operands.third ≡ 0
@@ -57,7 +57,7 @@ pub record Passes (past : List Command) (c : Command) : Type 0 where
 -- the commands of an accepted job: what a run asks of them
 pub record ValidJob (past : List Command) : Type 0 where
   pub commands : Valid past
-  pub jumps : far_jump past ≡ none
+  pub jumps : far_jump past ≡ None
 
 -- the operands of a command byte are allowed
 pub record Named (b : ℕ) (x : Operands) : Type 0 where

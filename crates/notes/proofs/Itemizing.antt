@@ -3,7 +3,7 @@ use Prim.Native.Nat.{ℕ, ◌+◌, ◌/◌, ◌≤◌, ◌<◌}
 use mathlib.Core.Path.{◌≡◌, refl, sym, ◌∙◌}
 use mathlib.Core.Bool.{Bool, true, false, cond, ◌&&◌, ◌||◌, and_assoc}
 use mathlib.Core.List.{List, ◌∷◌}
-use mathlib.Core.Option.{Option, some}
+use Rattle.std.proofs.Common.{Option, Some}
 use native.Mathlib.Omega.{arith}
 use lib.Dec.{ltb, eqb}
 use borrow.Author.Tests.{eqb-true}
@@ -148,6 +148,6 @@ module _ {t : List ℕ} {past : List Command} {c : Command} (one : Admitted t pa
       (found (is_reply f w c) (found_item (is_to w) (replies_in t f)))
     where
       found : (b : Bool) (o : Option Item)
-          → second_of (cond b (some (reply_item_of c)) o) ≡ cond b (some c.operands.third) (second_of o)
+          → second_of (cond b (Some (reply_item_of c)) o) ≡ cond b (Some c.operands.third) (second_of o)
       found true o = refl
       found false o = refl

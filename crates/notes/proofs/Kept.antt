@@ -4,7 +4,7 @@ use Prim.Native.Nat.{ℕ, ◌+◌, ◌-◌, ◌*◌, ◌/◌, ◌%◌, ◌≤◌
 use mathlib.Core.Path.{◌≡◌, refl, ◌∙◌}
 use mathlib.Core.Bool.{Bool, true, false, cond, ◌&&◌, ◌||◌, and-false}
 use mathlib.Core.List.{List, ◌∷◌}
-use mathlib.Core.Option.{some}
+use Rattle.std.proofs.Common.{Some}
 use native.Mathlib.Omega.{arith}
 use lib.Dec.{ltb, eqb}
 use borrow.Author.Tests.{ltb-true, ltb-false, lt-ltb, eqb-true, eqb-false, eq-eqb, ne_eqb}
@@ -182,7 +182,7 @@ module _ (t u : List ℕ) (c : Command) (w : ItemWritten t u c) where
 
 -- the first item that passes a test, with one more
 pub found-next : (test : Item → Bool) (here : Bool) (x : Item) (items : List Item)
-    → found_item test (cond here (x ∷ items) items) ≡ cond (here && test x) (some x) (found_item test items)
+    → found_item test (cond here (x ∷ items) items) ≡ cond (here && test x) (Some x) (found_item test items)
 unfolding found_item
 found-next test true x items = refl
 found-next test false x items = refl
@@ -192,6 +192,6 @@ pub some_next : (test : Item → Bool) (here : Bool) (x : Item) (items : List It
     → is_there (found_item test (cond here (x ∷ items) items)) ≡ ((here && test x) || is_there (found_item test items))
 some_next test here x items = rw (found-next test here x items) (by_test (here && test x))
   where
-    by_test : (b : Bool) → is_there (cond b (some x) (found_item test items)) ≡ (b || is_there (found_item test items))
+    by_test : (b : Bool) → is_there (cond b (Some x) (found_item test items)) ≡ (b || is_there (found_item test items))
     by_test true = refl
     by_test false = refl

@@ -3,7 +3,7 @@ use Prim.Native.Nat.{ℕ, ◌≤◌, ◌<◌}
 use mathlib.Core.Path.{◌≡◌, refl, sym, ◌∙◌, ap, subst}
 use mathlib.Core.Bool.{Bool, true, false, not, ◌&&◌}
 use mathlib.Core.Logic.{◌⊎◌, inl, inr}
-use mathlib.Core.Option.{none, some}
+use Rattle.std.proofs.Common.{None, Some}
 use native.Mathlib.Omega.{arith}
 use lib.ListN.{length}
 use Rattle.model.specs.Program.{Program}
@@ -80,14 +80,14 @@ module _ (P : Program) (s : State) (node : NodeNum) (monitored : Bool) (l : Regi
       ∙ ap (λ (j : Instruction). judged monitored P (executed P s node.0 j)) (ap (instruction_at P node.0) at ∙ sym same))) plans
 
 -- where a command was fetched, it is not the end; and the next position can be counted
-pub not_end : {A : Type 0} (fetched : Fetched) (i : Code) → fetched ≡ f.Command i → fetched_of fetched ≡ none → A
+pub not_end : {A : Type 0} (fetched : Fetched) (i : Code) → fetched ≡ f.Command i → fetched_of fetched ≡ None → A
 not_end fetched i is e =
-    let never : some (instruction_of i) ≡ none = sym (ap fetched_of is) ∙ e in
+    let never : Some (instruction_of i) ≡ None = sym (ap fetched_of is) ∙ e in
     let z : ◌≡◌ {A = ℕ} 0 1 = cc in
     absurd (omega arith)
 
 pub countable :
-    (fetched : Fetched) (i : Code) (position : ℕ) → (fetched_of fetched ≡ none) ⊎ (position < 4294967295) → fetched ≡ f.Command i
+    (fetched : Fetched) (i : Code) (position : ℕ) → (fetched_of fetched ≡ None) ⊎ (position < 4294967295) → fetched ≡ f.Command i
     → position < 4294967295
 countable fetched i position (inl e) is = not_end fetched i is e
 countable fetched i position (inr h) is = h

@@ -1,6 +1,6 @@
 -- A turn as a plan: the node's registers after it, what it changes besides, its outcome, and the ready count after it.
 use Rattle.std.specs.Prelude.{ℕ, ◌≤◌, ◌≡◌, Bool, true, cond, List, ◌⊎◌, get_or, set}
-use Rattle.std.proofs.Math.Option.{none}
+use Rattle.std.specs.Prelude.{None}
 use Rattle.model.specs.Table.{NODE}
 use Rattle.model.specs.Program.{Program}
 use Rattle.model.specs.State.{Message, State, idle, waiting_at}
@@ -68,7 +68,7 @@ PlansTurn t fetched n monitored l first ws variables p =
 -- a turn makes its node idle only at the end of its handler, by the node's position before and after it: as it is with handlers of at most
 -- 64 commands, where no command leads to the position that stands for idle
 abbrev pub IdlesAtEnd : Fetched → ℕ → ℕ → Type 0
-IdlesAtEnd fetched before after = after ≡ idle → (before ≡ idle) ⊎ (fetched_of fetched ≡ none)
+IdlesAtEnd fetched before after = after ≡ idle → (before ≡ idle) ⊎ (fetched_of fetched ≡ None)
 
 -- the plan has the ready count (S-4) of the arrays after it, over the nodes of the tables
 abbrev pub PlansReady : List ℕ → ℕ → List ℕ → List ℕ → Plan → Type 0

@@ -2,7 +2,7 @@
 #![tactic(auto)]
 
 ghost use Rattle.std.specs.Prelude.{◌≡◌, ◌⊎◌, not, ◌&&◌, ◌<◌, get_or};
-ghost use Rattle.std.proofs.Math.Option.{none};
+ghost use Rattle.std.specs.Prelude.{None};
 ghost use Rattle.model.specs.Permission.{permitted};
 ghost use Rattle.model.specs.State.{message_from, idle};
 ghost use Rattle.command.specs.Instructions.{fetched_of};
@@ -140,7 +140,7 @@ pub fn plan_turn<'a>(
     position: &'a [u32; 32],
     ready: u32,
 ) -> Plan
-    requires fact { (fetched_of fetched ≡ none) ⊎ (registers.position < 4294967295) }
+    requires fact { (fetched_of fetched ≡ None) ⊎ (registers.position < 4294967295) }
     requires ready_counted { ReadyCounted tables.now n.0 position.now waiting.now ready }
     requires position_value { registers.position ≡ get_or position.now n.0 0 }
     ensures plans_turn { PlansTurn tables.now fetched n monitored registers (message_from sender oldest) waiting.now

@@ -3,7 +3,7 @@ use Prim.Native.Nat.{ℕ, ◌+◌, ◌-◌, ◌*◌, ◌≤◌}
 use mathlib.Core.Path.{◌≡◌, refl, sym, ap, subst, ◌∙◌}
 use mathlib.Core.Bool.{Bool, true, false}
 use mathlib.Core.List.{List, [], ◌∷◌, ◌++◌}
-use mathlib.Core.Option.{none}
+use Rattle.std.proofs.Common.{None}
 use native.Mathlib.Omega.{arith}
 use lib.ListN.{length, get_or, drop, replicate, length-drop, length-replicate}
 use lib.Seq.{ext_get_or, get_or-drop}
@@ -56,7 +56,7 @@ over-same size xs ys e same =
 accepted_by : (schedule : Schedule) (job t : List ℕ) (b : Sizes) (past : List Command) → decode_by schedule job b ≡ accepted past →
     Stands t past
     → (decode_job job ≡ accepted past) × (7 * turns_by schedule t ≤ b.trace) × (snapshot_size ≤ b.snapshot) × (work_size ≤ b.work)
-    × (budget_refusal schedule ≡ none)
+    × (budget_refusal schedule ≡ None)
 unfolding decode_for
 accepted_by s.Written job t b past e stands =
     let d = and_then_accepted (short_buffer job b) (decode_job job) past e in
@@ -72,7 +72,7 @@ module _ (schedule : Schedule) (job t : List ℕ) (b : Sizes) (f : AcceptedWith 
   past = f.past
 
   passed : (decode_job job ≡ accepted past) × (7 * turns_by schedule t ≤ b.trace) × (snapshot_size ≤ b.snapshot) × (work_size ≤ b.work)
-      × (budget_refusal schedule ≡ none)
+      × (budget_refusal schedule ≡ None)
   passed = accepted_by schedule job t b past f.decoded f.stands
 
   valid : ValidJob past
@@ -94,7 +94,7 @@ module _ (schedule : Schedule) (job t : List ℕ) (b : Sizes) (f : AcceptedWith 
   pub work-fits : work_size ≤ b.work
   work-fits = passed.3
 
-  pub good-budget : budget_refusal schedule ≡ none
+  pub good-budget : budget_refusal schedule ≡ None
   good-budget = passed.4
 
   pub is-ready : (w after : List ℕ) → work_size ≤ length w → after ≡ loaded w (commands_of (decode_job job)) → Loaded job t after

@@ -3,7 +3,7 @@ use Prim.Native.Nat.{ℕ, ◌+◌, ◌*◌, ◌/◌, ◌%◌, ◌≤◌, zero-le
 use mathlib.Core.Path.{◌≡◌, refl, sym, ◌∙◌}
 use mathlib.Core.Bool.{Bool, true, false, cond, and-false}
 use mathlib.Core.List.{[]}
-use mathlib.Core.Option.{none}
+use Rattle.std.proofs.Common.{None}
 use native.Mathlib.Omega.{arith}
 use lib.Dec.{ltb, eqb}
 use lib.ListN.{replicate, length-replicate, get_or-replicate}
@@ -68,7 +68,7 @@ unfolding chain_in found_item
 some-blank test n f = rw (last-blank n f)
 
 -- no function has a reply
-reply-blank : (f v : ℕ) → reply_in blank f v ≡ none
+reply-blank : (f v : ℕ) → reply_in blank f v ≡ None
 unfolding chain_in found_item
 reply-blank f v = rw (entry-blank last_reply_cells f (omega arith))
 

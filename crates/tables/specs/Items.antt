@@ -1,7 +1,7 @@
 -- Items: what is kept of each ARG, SPAN and REPLY command. Those of a range of arguments and those of a reply differ in what their numbers
 -- mean.
 use Rattle.std.specs.Prelude.{ℕ, Bool, cond, ◌&&◌, ◌||◌, List, [], ◌∷◌, leb, eqb}
-use Rattle.std.proofs.Math.Option.{Option, none, some, map}
+use Rattle.std.specs.Prelude.{Option, None, Some, option_map}
 use Rattle.model.specs.Table.{REPLY, SPAN, is_range_byte}
 use Rattle.model.specs.Command.{Command, is}
 
@@ -41,8 +41,8 @@ item_of c = cond (is REPLY c) (reply_item_of c) (range_of c)
 
 -- the first item that passes a test, if there is one
 unfoldable pub found_item : (Item → Bool) → List Item → Option Item
-found_item test [] = none
-found_item test (i ∷ items) = cond (test i) (some i) (found_item test items)
+found_item test [] = None
+found_item test (i ∷ items) = cond (test i) (Some i) (found_item test items)
 
 -- the range holds the argument, whatever its command
 abbrev pub holds : ℕ → Item → Bool
@@ -58,4 +58,4 @@ is_to v i = eqb i.first v
 
 -- the second number of the item that was found: the answer of a reply
 abbrev pub second_of : Option Item → Option ℕ
-second_of = map (λ (i : Item). i.second)
+second_of = option_map (λ (i : Item). i.second)

@@ -1,6 +1,6 @@
 -- What the tables say: the sections, and the value of each name that a job declares, by the cells.
 use Rattle.std.specs.Prelude.{ℕ, zero, suc, ◌+◌, ◌*◌, ◌/◌, ◌%◌, Bool, cond, ◌&&◌, ◌||◌, List, [], ◌∷◌, ltb, eqb}
-use Rattle.std.proofs.Math.Option.{Option, get_or}
+use Rattle.std.specs.Prelude.{Option, unwrap_or}
 use Rattle.model.specs.Declared.{only, is_there, is_shared, is_seen}
 use Rattle.tables.specs.declared.cells.Section.{Section}
 use Rattle.tables.specs.Cells.{section, entry_in, flag_in, mark_in, half_in}
@@ -198,4 +198,4 @@ reply_in t f v = second_of (found_item (is_to v) (replies_in t f))
 
 -- the answer of a function to an argument: that reply's, and without one FUN's
 abbrev pub answer_in : List ℕ → ℕ → ℕ → ℕ
-answer_in t f v = get_or (reply_in t f v) (fun_answer_in t f)
+answer_in t f v = unwrap_or (reply_in t f v) (fun_answer_in t f)

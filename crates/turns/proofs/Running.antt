@@ -3,7 +3,7 @@ use Prim.Native.Nat.{ℕ, suc, ◌+◌, ◌*◌, ◌-◌, ◌≤◌, ◌<◌}
 use mathlib.Core.Path.{◌≡◌, refl, sym, ap, subst, ◌∙◌}
 use mathlib.Core.Bool.{Bool}
 use mathlib.Core.List.{List, [], ◌∷◌, ◌++◌}
-use mathlib.Core.Option.{none}
+use Rattle.std.proofs.Common.{None}
 use native.Mathlib.Omega.{arith}
 use lib.ListN.{length, length-append, length-map}
 use Rattle.model.specs.Table.{NODE, VAR}
@@ -96,7 +96,7 @@ pub record Reached (schedule : Schedule) (monitored : Bool) (job t w : List ℕ)
   pub ended : last ≤ k → (x : Ending) → answer_of x ≡ answer_at k halt
       → Over (whole_run schedule monitored past) before trace s x examined
 
-module _ (schedule : Schedule) (monitored : Bool) (job t w : List ℕ) (ready : Loaded job t w) (good : budget_refusal schedule ≡ none) where
+module _ (schedule : Schedule) (monitored : Bool) (job t w : List ℕ) (ready : Loaded job t w) (good : budget_refusal schedule ≡ None) where
   abbrev past : List Command
   past = ready.past
 

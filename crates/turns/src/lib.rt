@@ -4,7 +4,7 @@
 pub mod ending;
 
 ghost use Rattle.std.specs.Prelude.{◌≡◌, List, ◌*◌, ◌≤◌, length};
-ghost use Rattle.std.proofs.Math.Option.{none};
+ghost use Rattle.std.specs.Prelude.{None};
 ghost use Rattle.model.specs.Table.{NODE};
 ghost use Rattle.model.specs.Command.{Command};
 ghost use Rattle.model.specs.Program.{program_of};
@@ -66,7 +66,7 @@ pub fn run_turns(
     monitored: bool,
 ) -> CountedEnding
     requires loaded { Loaded job.now tables.now work.now }
-    requires schedule_value { budget_refusal schedule ≡ none }
+    requires schedule_value { budget_refusal schedule ≡ None }
     requires tables_in_bounds { (7 * turns_by schedule tables.now ≤ length trace.old) × (snapshot_size ≤ length snapshot.old) }
     ensures { (past : List Command) → decode_job job.now ≡ accepted past
         → RunsAs (program_of past) (run_of schedule monitored past) trace.old snapshot.old

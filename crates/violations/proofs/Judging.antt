@@ -3,7 +3,7 @@ use Prim.Native.Nat.{ℕ, zero, suc, ◌-◌}
 use mathlib.Core.Path.{◌≡◌, refl, sym, ◌∙◌}
 use mathlib.Core.Bool.{Bool, true, false, cond, not, ◌&&◌, ◌||◌, or-false}
 use mathlib.Core.List.{List, [], ◌∷◌}
-use mathlib.Core.Option.{none}
+use Rattle.std.proofs.Common.{None}
 use native.Mathlib.Omega.{arith}
 use lib.Dec.{ltb, leb, eqb}
 use lib.ListN.{get_or}
@@ -28,7 +28,7 @@ use Rattle.tables.specs.Stands.{Stands}
 use Rattle.violations.specs.Tests.{counts_in}
 
 -- a known byte is in the table
-is_known : (b : ℕ) (row : Shape) → Says b row → ¬ (operands_of b ≡ none)
+is_known : (b : ℕ) (row : Shape) → Says b row → ¬ (operands_of b ≡ None)
 is_known b row says e = let o = says.known in let w : ◌≡◌ {A = ℕ} 0 1 = cc in omega arith
 
 -- a handler command is no permission
