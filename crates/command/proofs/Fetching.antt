@@ -3,14 +3,13 @@ use Prim.Native.Nat.{ℕ, ◌+◌, ◌≤◌, ◌<◌}
 use mathlib.Core.Path.{◌≡◌, refl, sym, ap, ◌∙◌}
 use mathlib.Core.Bool.{Bool, true, false, cond}
 use mathlib.Core.List.{List, []}
-use Rattle.std.proofs.Common.{None, Some}
+use Rattle.std.proofs.Common.{Option, None, Some}
 use lib.Dec.{ltb}
 use lib.ListN.{length, get_or, replicate, length-replicate, get_or-replicate}
 use native.Mathlib.Omega.{arith}
 use borrow.Author.Tests.{ltb-true, ltb-false, lt-ltb, le-ltb}
 use Rattle.model.specs.Declared.{Instruction, instruction}
-use Rattle.command.specs.declared.instruction.Fetched.{Fetched}
-use Rattle.command.specs.declared.instruction.Fetched.TheVariants as f
+use Rattle.command.specs.declared.instruction.Instruction.{Instruction as Code}
 use Rattle.command.specs.Instructions.{instruction_of, fetched_of, command_in}
 
 module _ (handler : List Instruction) (position : ℕ) where
@@ -40,14 +39,14 @@ module _ (handler : List Instruction) (position : ℕ) where
       by_test false t q = ltb-false position (length handler) t
 
 -- a handler in which this stands at a position
-abbrev pub standing : Fetched → ℕ → List Instruction
-standing (f.Command i) position = replicate (position + 1) (instruction_of i)
-standing f.End position = []
+abbrev pub standing : Option Code → ℕ → List Instruction
+standing (Some i) position = replicate (position + 1) (instruction_of i)
+standing None position = []
 
-pub standing-there : (fetched : Fetched) (position : ℕ) → fetched_of fetched ≡ command_in (standing fetched position) position
-standing-there (f.Command i) position =
+pub standing-there : (fetched : Option Code) (position : ℕ) → fetched_of fetched ≡ command_in (standing fetched position) position
+standing-there (Some i) position =
     let many = replicate (position + 1) (instruction_of i) in
     let long = length-replicate (position + 1) (instruction_of i) in
     sym (command-inside many position (omega (arith, long)) ∙ ap Some
     (get_or-replicate (position + 1) position (instruction_of i) (instruction 0 0) (omega arith)))
-standing-there f.End position = sym (command-after [] position (omega arith))
+standing-there None position = sym (command-after [] position (omega arith))

@@ -3,7 +3,7 @@ use Prim.Native.Nat.{ℕ, ◌+◌, ◌≤◌, ◌<◌}
 use mathlib.Core.Path.{◌≡◌, refl}
 use mathlib.Core.Bool.{Bool, true, false, ◌&&◌}
 use mathlib.Core.List.{List}
-use mathlib.Core.Logic.{inl, inr}
+use Rattle.std.proofs.Common.{None}
 use native.Mathlib.Omega.{arith}
 use lib.Dec.{leb}
 use lib.ListN.{length, get_or, get_or-eq_default}
@@ -15,7 +15,7 @@ use Rattle.model.proofs.Logic.{true_false}
 use Rattle.model.proofs.Reading.{read-unknown, read_short, read_whole, read_at}
 use Rattle.command.specs.declared.table.Row.{Row as Shape}
 use Rattle.command.specs.Instructions.{recognised, instruction_in, instruction_from}
-use Rattle.command.specs.Rows.{unpacked, Says, IsRow, is_handler_byte}
+use Rattle.command.specs.Rows.{unpacked, Says, is_handler_byte}
 use Rattle.command.specs.Reading.{IsWidth}
 use Rattle.command.proofs.Known.{OneOperand, handler-single}
 use Rattle.command.proofs.Shaped.{width_is}
@@ -39,6 +39,10 @@ module _ (job : List ℕ) (place : ℕ) where
   unfolding operands_of operands_in
   read_behind h = rw (read-unknown job place (rw (get_or-eq_default job 0 h)))
 
+  -- no command
+  pub read_none : operands_of (get_or job place 0) ≡ None → instruction SKIP 0 ≡ instruction_from job place
+  read_none h = rw (read-unknown job place h)
+
   -- no handler command
   pub read-other : is_handler_byte (get_or job place 0) ≡ false → instruction SKIP 0 ≡ instruction_from job place
   read-other h = by_read (read_command job place) refl
@@ -49,17 +53,13 @@ module _ (job : List ℕ) (place : ℕ) where
       by_read (whole c next) e = other_skipped c.byte _ (rw (read_at job place c next e).byte h)
 
   -- by the row of its byte
-  module _ (row : ℕ) (is_row : IsRow (get_or job place 0) row) (handler : is_handler_byte (get_or job place 0) ≡ true) (s : Shape)
+  module _ (row : ℕ) (of_row : Says (get_or job place 0) (unpacked row)) (handler : is_handler_byte (get_or job place 0) ≡ true) (s : Shape)
       (is : s ≡ unpacked row) where
     one : OneOperand (get_or job place 0)
     one = handler-single (get_or job place 0) handler
 
-    says_row : IsRow (get_or job place 0) row → Says (get_or job place 0) (unpacked row)
-    says_row (inl t) = t
-    says_row (inr z) = absurd (one.known z.0)
-
     says : Says (get_or job place 0) s
-    says = rw is (says_row is_row)
+    says = rw is of_row
 
     ends : end_at place (list_of (operands_of (get_or job place 0))) ≡ place + 1 + s.first_width
     ends = omega (arith, says.width₁, one.others)

@@ -3,7 +3,7 @@ use Prim.Native.Nat.{ℕ, ◌+◌, ◌≤◌, ◌<◌}
 use mathlib.Core.Path.{◌≡◌, refl, sym, ap, ◌∙◌}
 use mathlib.Core.Bool.{Bool, true, false, cond}
 use mathlib.Core.List.{List, [], ◌∷◌, map}
-use mathlib.Core.Logic.{◌⊎◌, inl, inr}
+use mathlib.Core.Logic.{inl, inr}
 use Rattle.std.proofs.Common.{Option, None, Some}
 use native.Mathlib.Omega.{arith}
 use native.Mathlib.Numerals.{add-one}
@@ -15,7 +15,7 @@ use Rattle.model.specs.Table.{OperandKind, scope, owner, start, answer, node, po
 use Rattle.model.specs.Table.{jump, absent, width, Row, table, operands_in, operands_of, list_of, kind_at, group_of, Limit, largest_of}
 use Rattle.model.specs.Command.{number_at}
 use Rattle.model.proofs.Reading.{number-none}
-use Rattle.command.specs.Rows.{unpacked, kind_of, limit_of, Says, row_in, IsRow}
+use Rattle.command.specs.Rows.{unpacked, kind_meant, limit_of, Says, row_in, Finds}
 use Rattle.command.specs.Reading.{IsWidth}
 
 -- what a row says, all columns together: byte, group, length and widths; kinds; largest count; that its byte is a command
@@ -31,7 +31,7 @@ given p =
     let s = unpacked p in
     record {
       numbers = s.byte ∷ s.group ∷ s.length ∷ s.first_width ∷ s.second_width ∷ s.third_width ∷ s.fourth_width ∷ [];
-      kinds = kind_of s.first_kind ∷ kind_of s.second_kind ∷ kind_of s.third_kind ∷ kind_of s.fourth_kind ∷ [];
+      kinds = kind_meant s.first_kind ∷ kind_meant s.second_kind ∷ kind_meant s.third_kind ∷ kind_meant s.fourth_kind ∷ [];
       most = limit_of s.byte s.most;
       operands = Some (list_of (operands_of s.byte));
     }
@@ -74,11 +74,15 @@ says_as b p e =
     }
 
 -- of rows that agree with those of a table, the first with a byte is the row of that byte; if none has it, the byte is not in the table
+Found : ℕ → Option (List OperandKind) → Option ℕ → Type 0
+Found b o (Some p) = Says b (unpacked p)
+Found b o None = o ≡ None
+
 found_in :
     (b : ℕ) (rows : List ℕ) (of : List Row) → map given rows ≡ map (λ (r : Row). wanted r.byte) of
-    → Says b (unpacked (row_in rows b)) ⊎ ((operands_in of b ≡ None) × (row_in rows b ≡ 0))
-unfolding row_in operands_in
-found_in b [] [] e = inr (refl, refl)
+    → Found b (operands_in of b) (row_in rows b)
+unfolding row_in operands_in Found
+found_in b [] [] e = refl
 found_in b [] (r ∷ of) e = let z = ap length e in absurd (omega arith)
 found_in b (p ∷ rows) [] e = let z = ap length e in absurd (omega arith)
 found_in b (p ∷ rows) (r ∷ of) e =
@@ -91,19 +95,22 @@ found_in b (p ∷ rows) (r ∷ of) e =
     same = ap (λ (x : Said). get_or x.numbers 0 0) said
 
     by_byte :
-        (t : Bool) → eqb (unpacked p).byte b ≡ t → Says b (unpacked (row_in rows b)) ⊎ ((operands_in of b ≡ None) × (row_in rows b ≡ 0))
-        → Says b (unpacked (cond t p (row_in rows b)))
-        ⊎ ((cond (eqb r.byte b) (Some r.operands) (operands_in of b) ≡ None) × (cond t p (row_in rows b) ≡ 0))
-    by_byte true t ih = inl (says_as b p (rw (sym same ∙ eqb-true (unpacked p).byte b t) at said))
+        (t : Bool) → eqb (unpacked p).byte b ≡ t → Found b (operands_in of b) (row_in rows b)
+        → Found b (cond (eqb r.byte b) (Some r.operands) (operands_in of b)) (cond t (Some p) (row_in rows b))
+    by_byte true t ih = says_as b p (rw (sym same ∙ eqb-true (unpacked p).byte b t) at said)
     by_byte false t ih = rw (← same, t) ih
 
-pub row-found : (b p : ℕ) (rows : List ℕ) → p ≡ row_in rows b → Agree rows → IsRow b p
-unfolding operands_of
-row-found b p rows e agree = rw e (found_in b rows table agree.same)
+pub row-found : (b : ℕ) (p : Option ℕ) (rows : List ℕ) → p ≡ row_in rows b → Agree rows → Finds b p
+unfolding operands_of Found
+row-found b p rows e agree = rw e (finds (row_in rows b) (found_in b rows table agree.same))
+  where
+    finds : (o : Option ℕ) → Found b (operands_in table b) o → Finds b o
+    finds (Some p) f = f
+    finds None f = f
 
 -- the search for a byte, from row i on: row i has it, or has not; none is left
 module _ (rows : List ℕ) (b i : ℕ) where
-  pub row_here : i < length rows → (unpacked (get_or rows i 0)).byte ≡ b → row_in (drop i rows) b ≡ get_or rows i 0
+  pub row_here : i < length rows → (unpacked (get_or rows i 0)).byte ≡ b → row_in (drop i rows) b ≡ Some (get_or rows i 0)
   unfolding row_in
   row_here h e = rw (drop-cons rows i 0 h, eq-eqb (unpacked (get_or rows i 0)).byte b e)
 
@@ -111,21 +118,9 @@ module _ (rows : List ℕ) (b i : ℕ) where
   unfolding row_in
   row-passed h n = rw (drop-cons rows i 0 h, add-one, ne_eqb (unpacked (get_or rows i 0)).byte b n)
 
-  pub row_missing : length rows ≤ i → row_in (drop i rows) b ≡ 0
+  pub row_missing : length rows ≤ i → row_in (drop i rows) b ≡ None
   unfolding row_in
   row_missing h = ap (λ (l : List ℕ). row_in l b) (drop_of_length-le rows h)
-
--- a row that is not 0 is that of its byte, and 0 stands for no command
-pub row-there : (b p : ℕ) → IsRow b p → ¬ (p ≡ 0) → Says b (unpacked p)
-row-there b p (inl s) n = s
-row-there b p (inr z) n = absurd (n z.1)
-
-pub row-none : (b p : ℕ) → IsRow b p → p ≡ 0 → operands_of b ≡ None
-unfolding operands_of operands_in
-row-none b p (inr z) e = z.0
-row-none b p (inl s) e =
-    let zero-byte : 0 ≡ b = rw e at s.byte in
-    rw (← zero-byte)
 
 -- the width of each kind
 pub width_is : (k : OperandKind) (w : ℕ) → w ≡ width k → IsWidth w

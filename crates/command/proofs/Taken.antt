@@ -2,7 +2,7 @@
 use Prim.Native.Nat.{ℕ, ◌+◌, ◌≤◌, ◌<◌}
 use mathlib.Core.Path.{◌≡◌, refl, ◌∙◌}
 use mathlib.Core.List.{List}
-use Rattle.std.proofs.Common.{None, Some}
+use Rattle.std.proofs.Common.{Option, None, Some}
 use native.Mathlib.Omega.{arith}
 use lib.ListN.{length, get_or}
 use Rattle.model.specs.Table.{operands_of, list_of, kind_at, group_of}
@@ -10,29 +10,12 @@ use Rattle.model.specs.Command.{Command, number_at, quaternary, Parsed as Parsed
 use Rattle.model.specs.Refusal.{Refusal as RefusedFor, refuse}
 use Rattle.model.proofs.Reading.{number-none, read-unknown, read_short, read_whole}
 use Rattle.command.specs.declared.table.Row.{Row as Shape}
-use Rattle.command.specs.declared.table.Lookup.{Lookup}
-use Rattle.command.specs.declared.table.Lookup.TheVariants.{Found, Missing}
-use Rattle.command.specs.declared.read.Command.{Command as Code}
-use Rattle.command.specs.declared.refusal.Refusal.{Refusal}
-use Rattle.command.specs.declared.read.Parsed.{Parsed}
-use Rattle.command.specs.declared.read.Parsed.TheVariants.{Whole, Refused}
-use Rattle.command.specs.declared.read.Extent.{Extent}
-use Rattle.command.specs.declared.read.Extent.TheVariants as e
 use Rattle.command.specs.declared.read.Others.{Others}
 use Rattle.command.specs.declared.read.Head.{Head}
-use Rattle.command.specs.declared.read.HeadParsed.{HeadParsed}
-use Rattle.command.specs.declared.read.HeadParsed.TheVariants as h
-use Rattle.command.specs.Rows.{unpacked, Says, Finds}
-use Rattle.command.specs.Reading.{command_of, refusal_of, refusal_at, Known, ParsesAs, Reaches, Extends, others_at, head_of, head_in}
+use Rattle.command.specs.Rows.{unpacked, Says}
+use Rattle.command.specs.Reading.{refusal_at, Known, Reaches, others_at, head_in}
 use Rattle.command.specs.Reading.{IsWidth}
 use Rattle.command.proofs.Shaped.{width_is}
-
--- a byte that is found, and one that is not
-pub finds_row : (b p : ℕ) (l : Lookup) → Finds b l → l ≡ Found p → Says b (unpacked p)
-finds_row b p l f e = rw e at f
-
-finds_none : (b : ℕ) (l : Lookup) → Finds b l → l ≡ Missing → operands_of b ≡ None
-finds_none b l f e = rw e at f
 
 -- the columns of a row, as the code has them
 says-shape : (b p : ℕ) (s : Shape) → Says b (unpacked p) → s ≡ unpacked p → Says b s
@@ -40,9 +23,8 @@ says-shape b p s says e = rw e says
 
 module _ (job : List ℕ) (place : ℕ) where
   -- no command
-  pub read_missing : (l : Lookup) → Finds (get_or job place 0) l → l ≡ Missing
-      → refusal_at place (read_command job place) ≡ Some (refuse 2 place)
-  read_missing l f e = rw (read-unknown job place (finds_none (get_or job place 0) l f e))
+  pub read_missing : operands_of (get_or job place 0) ≡ None → refusal_at place (read_command job place) ≡ Some (refuse 2 place)
+  read_missing h = rw (read-unknown job place h)
 
   -- by the row of its byte
   module _ (row : ℕ) (s : Shape) (says : Says (get_or job place 0) (unpacked row)) (is : s ≡ unpacked row) where
@@ -133,30 +115,10 @@ module _ (job : List ℕ) (place : ℕ) where
     read_first x p = rw (read_all x _ p refl, shape.group)
 
 -- there is no head where a command is refused
-head_none : (place : ℕ) (r : ParsedAs) (q : RefusedFor) → refusal_at place r ≡ Some q → None ≡ head_in r
+pub head_none : (place : ℕ) (r : ParsedAs) (q : RefusedFor) → refusal_at place r ≡ Some q → None ≡ head_in r
 head_none place unknown q e = refl
 head_none place cut_short q e = refl
 head_none place (whole c next) q e = let w : ◌≡◌ {A = ℕ} 0 1 = cc in absurd (omega arith)
-
--- what was read, by the code's answer
-module _ (job : List ℕ) (place : ℕ) where
-  pub reads_whole : (p : Parsed) (c : Code) (next : ℕ) → ParsesAs job place p → p ≡ Whole c next
-      → (read_command job place ≡ whole (command_of c) next) × Known c
-  reads_whole p c next r e = rw e at r
-
-  pub reads-refused : (p : Parsed) (q : Refusal) → ParsesAs job place p → p ≡ Refused q
-      → refusal_at place (read_command job place) ≡ Some (refusal_of q)
-  reads-refused p q r e = rw e at r
-
-  pub extends_known : (x : Extent) (row next : ℕ) → Extends job place x → x ≡ e.Whole row next → Reaches job place row next
-  extends_known x row next r e = rw e at r
-
-  pub extends_refused : (x : Extent) (q : Refusal) → Extends job place x → x ≡ e.Refused q
-      → refusal_at place (read_command job place) ≡ Some (refusal_of q)
-  extends_refused x q r e = rw e at r
-
-  pub extends_headless : (x : Extent) (q : Refusal) → Extends job place x → x ≡ e.Refused q → None ≡ head_in (read_command job place)
-  extends_headless x q r e = head_none place (read_command job place) (refusal_of q) (extends_refused x q r e)
 
 -- what a head says of the command that is read there
 pub record HeadAt (job : List ℕ) (place : ℕ) (head : Head) : Type 0 where
@@ -166,8 +128,8 @@ pub record HeadAt (job : List ℕ) (place : ℕ) (head : Head) : Type 0 where
   pub group : head.group ≡ group_of command.byte
   pub first : head.first ≡ command.operands.first
 
-module _ (job : List ℕ) (place : ℕ) (p : HeadParsed) (same : head_of p ≡ head_in (read_command job place)) where
-  pub head_read : (head : Head) → p ≡ h.Whole head → HeadAt job place head
+module _ (job : List ℕ) (place : ℕ) (p : Option Head) (same : p ≡ head_in (read_command job place)) where
+  pub head_read : (head : Head) → p ≡ Some head → HeadAt job place head
   head_read head e = by_read (read_command job place) refl (rw e at same)
     where
       by_read : (r : ParsedAs) → read_command job place ≡ r → Some head ≡ head_in r → HeadAt job place head
@@ -178,7 +140,7 @@ module _ (job : List ℕ) (place : ℕ) (p : HeadParsed) (same : head_of p ≡ h
       by_read cut_short i f = let w : ◌≡◌ {A = ℕ} 0 1 = cc in absurd (omega arith)
 
   -- where a whole command is read there is a head
-  pub head_there : {A : Type 0} (c : Command) (next : ℕ) → read_command job place ≡ whole c next → p ≡ h.Refused → A
+  pub head_there : {A : Type 0} (c : Command) (next : ℕ) → read_command job place ≡ whole c next → p ≡ None → A
   head_there c next i e =
       let f = rw (e, i) at same in
       let w : ◌≡◌ {A = ℕ} 0 1 = cc in

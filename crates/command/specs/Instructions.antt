@@ -6,8 +6,6 @@ use Rattle.model.specs.Command.{Parsed, whole, unknown, cut_short, read_command}
 use Rattle.model.specs.Declared.{Instruction as Meant, instruction}
 use Rattle.command.specs.declared.instruction.Instruction.{Instruction}
 use Rattle.command.specs.declared.instruction.Instruction.TheVariants as i
-use Rattle.command.specs.declared.instruction.Fetched.{Fetched}
-use Rattle.command.specs.declared.instruction.Fetched.TheVariants as f
 
 -- the model's handler command that a handler command of the code stands for
 abbrev pub instruction_of : Instruction → Meant
@@ -41,7 +39,7 @@ instruction_from job place = instruction_in (read_command job place)
 abbrev pub command_in : List Meant → ℕ → Option Meant
 command_in handler position = cond (ltb position (length handler)) (Some (get_or handler position (instruction 0 0))) None
 
--- what each of the code's answers stands for: a command, or none
-abbrev pub fetched_of : Fetched → Option Meant
-fetched_of (f.Command i) = Some (instruction_of i)
-fetched_of f.End = None
+-- what is fetched stands for: a command, or none
+abbrev pub fetched_of : Option Instruction → Option Meant
+fetched_of (Some i) = Some (instruction_of i)
+fetched_of None = None

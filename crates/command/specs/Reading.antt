@@ -1,29 +1,22 @@
 -- What the code reads at a place of a job, in the model's words.
 use Rattle.std.specs.Prelude.{ℕ, ◌+◌, ◌≤◌, ◌≡◌, List, ◌⊎◌, length, get_or}
-use Rattle.std.specs.Prelude.{Option, None, Some}
+use Rattle.std.specs.Prelude.{Option, None, Some, Result, Ok, Err}
 use Rattle.model.specs.Table.{operands_of, list_of, group_of}
 use Rattle.model.specs.Command.{Command as Past, Parsed as ParsedAs, whole, unknown, cut_short, quaternary, number_at, end_at, read_command}
 use Rattle.model.specs.Refusal.{Refusal as RefusedFor, refuse}
 use Rattle.command.specs.declared.read.Command.{Command}
 use Rattle.command.specs.declared.refusal.Refusal.{Refusal}
 use Rattle.command.specs.declared.read.Parsed.{Parsed}
-use Rattle.command.specs.declared.read.Parsed.TheVariants.{Whole, Refused}
 use Rattle.command.specs.declared.read.Extent.{Extent}
-use Rattle.command.specs.declared.read.Extent.TheVariants as e
 use Rattle.command.specs.declared.table.Row.{Row as Shape}
 use Rattle.command.specs.declared.read.Others.{Others}
 use Rattle.command.specs.declared.read.Head.{Head}
-use Rattle.command.specs.declared.read.HeadParsed.{HeadParsed}
-use Rattle.command.specs.declared.read.HeadParsed.TheVariants as h
+use Rattle.command.specs.Refusals.{refusal_of}
 use Rattle.command.specs.Rows.{unpacked, Says}
 
 -- the model's command that a command of the code stands for
 abbrev pub command_of : Command → Past
 command_of c = record { place = c.place; byte = c.byte; operands = quaternary c.first c.second c.third c.fourth }
-
--- the model's refusal that a refusal of the code stands for
-abbrev pub refusal_of : Refusal → RefusedFor
-refusal_of r = refuse r.number r.place
 
 -- the refusal that what is read at a place leads to: 2 or 3
 abbrev pub refusal_at : ℕ → ParsedAs → Option RefusedFor
@@ -37,9 +30,9 @@ pub record Known (c : Command) : Type 0 where
   pub group : c.group ≡ group_of c.byte
 
 -- what the code answers is what the model reads: a whole command, with its row and group, or a refusal
-abbrev pub ParsesAs : List ℕ → ℕ → Parsed → Type 0
-ParsesAs job place (Whole c next) = (read_command job place ≡ whole (command_of c) next) × Known c
-ParsesAs job place (Refused r) = refusal_at place (read_command job place) ≡ Some (refusal_of r)
+abbrev pub ParsesAs : List ℕ → ℕ → Result Parsed Refusal → Type 0
+ParsesAs job place (Ok x) = (read_command job place ≡ whole (command_of x.command) x.next) × Known x.command
+ParsesAs job place (Err r) = refusal_at place (read_command job place) ≡ Some (refusal_of r)
 
 -- a command that is whole: its row, and the place after it
 pub record Reaches (job : List ℕ) (place row next : ℕ) : Type 0 where
@@ -57,14 +50,9 @@ others_at job place s =
     }
 
 -- what is known before the operands are read: that the command is whole, or a refusal
-abbrev pub Extends : List ℕ → ℕ → Extent → Type 0
-Extends job place (e.Whole row next) = Reaches job place row next
-Extends job place (e.Refused r) = refusal_at place (read_command job place) ≡ Some (refusal_of r)
-
--- the head that the code answers; none if it refuses
-abbrev pub head_of : HeadParsed → Option Head
-head_of (h.Whole head) = Some head
-head_of h.Refused = None
+abbrev pub Extends : List ℕ → ℕ → Result Extent Refusal → Type 0
+Extends job place (Ok x) = Reaches job place x.row x.next
+Extends job place (Err r) = refusal_at place (read_command job place) ≡ Some (refusal_of r)
 
 -- the head of what the model reads; none if it is no whole command
 abbrev pub head_in : ParsedAs → Option Head

@@ -1,12 +1,37 @@
 -- The rows of the code's table, and what they say in the model's words.
-use Rattle.std.specs.Prelude.{ℕ, zero, suc, ◌+◌, ◌/◌, ◌%◌, ◌≡◌, Bool, cond, ◌&&◌, List, [], ◌∷◌, ◌⊎◌, leb, eqb, get_or}
+use Rattle.std.specs.Prelude.{ℕ, zero, suc, ◌+◌, ◌/◌, ◌%◌, ◌≡◌, Bool, cond, ◌&&◌, List, [], ◌∷◌, leb, eqb, get_or}
 use Rattle.std.specs.Prelude.{Option, None, Some}
-use Rattle.model.specs.Table.{ARG, SPAN, SET, SKIP, OperandKind, scope, owner, start, answer, node, port, target, function, argument, value}
+use Rattle.model.specs.Table.{ARG, SPAN, SET, SKIP, OperandKind as Meant, scope, owner, start, answer, node, port, target, function, argument, value}
 use Rattle.model.specs.Table.{low, high, variable, jump, absent, is_range_byte, width, operands_of, list_of, kind_at, group_of, Limit, limit}
 use Rattle.model.specs.Table.{largest_of}
 use Rattle.command.specs.declared.table.Row.{Row as Shape}
-use Rattle.command.specs.declared.table.Lookup.{Lookup}
-use Rattle.command.specs.declared.table.Lookup.TheVariants.{Found, Missing}
+use Rattle.command.specs.declared.table.OperandKind.{OperandKind}
+use Rattle.command.specs.declared.table.OperandKind.TheVariants as k
+
+-- the kind that each digit stands for
+abbrev pub kind_of : ℕ → OperandKind
+kind_of i =
+    get_or
+    (k.Absent ∷ k.Scope ∷ k.Owner ∷ k.Node ∷ k.Port ∷ k.Target ∷ k.Function ∷ k.Variable ∷ k.Start ∷ k.Answer ∷ k.Value ∷ k.Jump ∷ k.Low ∷ k.High ∷ k.Argument ∷ [])
+    i k.Absent
+
+-- the model's kind that each kind of the code stands for
+abbrev pub kind_meant : OperandKind → Meant
+kind_meant k.Absent = absent
+kind_meant k.Scope = scope
+kind_meant k.Owner = owner
+kind_meant k.Node = node
+kind_meant k.Port = port
+kind_meant k.Target = target
+kind_meant k.Function = function
+kind_meant k.Variable = variable
+kind_meant k.Start = start
+kind_meant k.Answer = answer
+kind_meant k.Value = value
+kind_meant k.Jump = jump
+kind_meant k.Low = low
+kind_meant k.High = high
+kind_meant k.Argument = argument
 
 -- the columns of a packed row, in hexadecimal digits: largest count (4), kinds (4), widths (4), length (1), group (1), byte (2)
 abbrev pub unpacked : ℕ → Shape
@@ -19,19 +44,12 @@ unpacked p =
       second_width = p / 0x100_0000 % 0x10;
       third_width = p / 0x10_0000 % 0x10;
       fourth_width = p / 0x1_0000 % 0x10;
-      first_kind = p / 0x1000_0000_0000 % 0x10;
-      second_kind = p / 0x100_0000_0000 % 0x10;
-      third_kind = p / 0x10_0000_0000 % 0x10;
-      fourth_kind = p / 0x1_0000_0000 % 0x10;
+      first_kind = kind_of (p / 0x1000_0000_0000 % 0x10);
+      second_kind = kind_of (p / 0x100_0000_0000 % 0x10);
+      third_kind = kind_of (p / 0x10_0000_0000 % 0x10);
+      fourth_kind = kind_of (p / 0x1_0000_0000 % 0x10);
       most = p / 0x1_0000_0000_0000 % 0x1_0000;
     }
-
--- the kind that the code's number stands for
-abbrev pub kind_of : ℕ → OperandKind
-kind_of i =
-    get_or
-    (absent ∷ scope ∷ owner ∷ node ∷ port ∷ target ∷ function ∷ variable ∷ start ∷ answer ∷ value ∷ jump ∷ low ∷ high ∷ argument ∷ [])
-    i absent
 
 -- the bytes that share a largest count with this one: ARG and SPAN do, every other has its own
 abbrev pub sharing : ℕ → List ℕ
@@ -52,25 +70,21 @@ pub record Says (b : ℕ) (s : Shape) : Type 0 where
   pub width₂ : s.second_width ≡ width (kind_at b 1)
   pub width₃ : s.third_width ≡ width (kind_at b 2)
   pub width₄ : s.fourth_width ≡ width (kind_at b 3)
-  pub kind₁ : kind_of s.first_kind ≡ kind_at b 0
-  pub kind₂ : kind_of s.second_kind ≡ kind_at b 1
-  pub kind₃ : kind_of s.third_kind ≡ kind_at b 2
-  pub kind₄ : kind_of s.fourth_kind ≡ kind_at b 3
+  pub kind₁ : kind_meant s.first_kind ≡ kind_at b 0
+  pub kind₂ : kind_meant s.second_kind ≡ kind_at b 1
+  pub kind₃ : kind_meant s.third_kind ≡ kind_at b 2
+  pub kind₄ : kind_meant s.fourth_kind ≡ kind_at b 3
   pub most : limit_of b s.most ≡ largest_of b
 
--- the first of some packed rows with this byte; 0 if none has it
-unfoldable pub row_in : List ℕ → ℕ → ℕ
-row_in [] b = 0
-row_in (p ∷ rows) b = cond (eqb (unpacked p).byte b) p (row_in rows b)
+-- the first of some packed rows with this byte
+unfoldable pub row_in : List ℕ → ℕ → Option ℕ
+row_in [] b = None
+row_in (p ∷ rows) b = cond (eqb (unpacked p).byte b) (Some p) (row_in rows b)
 
--- the packed row of a byte; 0 if the byte is no command
-abbrev pub IsRow : ℕ → ℕ → Type 0
-IsRow b p = Says b (unpacked p) ⊎ ((operands_of b ≡ None) × (p ≡ 0))
-
--- what looking a byte up finds: its row, or that the byte is no command
-abbrev pub Finds : ℕ → Lookup → Type 0
-Finds b (Found p) = Says b (unpacked p)
-Finds b Missing = operands_of b ≡ None
+-- what looking a byte up finds: its packed row, or that the byte is no command
+abbrev pub Finds : ℕ → Option ℕ → Type 0
+Finds b (Some p) = Says b (unpacked p)
+Finds b None = operands_of b ≡ None
 
 -- the byte is that of a handler command: 41 SET to 4B SKIP
 abbrev pub is_handler_byte : ℕ → Bool

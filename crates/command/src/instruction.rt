@@ -22,13 +22,6 @@ pub enum Instruction {
     Skip,
 }
 
-// What stands at a position of a handler: a command, or its end.
-#[derive(Clone, Copy)]
-pub enum Fetched {
-    Command(Instruction),
-    End,
-}
-
 // The handler command with this byte and operand; SKIP for a byte that is none.
 pub fn instruction_of(byte: u8, x: u32) -> Instruction
     ensures { instruction_of result ≡ recognised byte x }
@@ -59,7 +52,10 @@ pub fn read_instruction(job: &[u8], at: usize) -> Instruction
     if !bytes::is_handler(byte) {
         return Instruction::Skip;
     }
-    let shape = unpack(row_of(byte));
+    let Some(row) = row_of(byte) else {
+        return Instruction::Skip;
+    };
+    let shape = unpack(row);
     let width = shape.first_width;
     if job.len() < at + 1 + (width as usize) {
         return Instruction::Skip;

@@ -2,13 +2,13 @@
 ghost use Rattle.std.specs.Prelude.{◌≡◌, cond, ◌+◌, ◌<◌, ◌≤◌, eqb, length, get_or};
 ghost use Rattle.model.specs.Table.{BODY, operands_of, list_of};
 ghost use Rattle.model.specs.Command.{number_at, end_at, read_command};
-ghost use Rattle.command.specs.Rows.{unpacked, Finds};
-ghost use Rattle.command.specs.Reading.{ParsesAs, Reaches, Extends, others_at, head_of, head_in, IsWidth};
+ghost use Rattle.command.specs.Rows.{unpacked};
+ghost use Rattle.command.specs.Reading.{ParsesAs, Reaches, Extends, others_at, head_in, IsWidth};
 
 use crate::bytes;
 use crate::numbers::NodeNum;
-use crate::refusal::Refusal;
-use crate::table::{Lookup, look_up, unpack};
+use crate::refusal::{Reason, Refusal};
+use crate::table::{row_of, unpack};
 
 // A command that was read: its place in the job, its packed row of the table, its byte and group, and its operands, 0 where it has none.
 #[derive(Clone, Copy)]
@@ -31,11 +31,11 @@ struct Others {
     fourth: u32,
 }
 
-// What reading at a place gives: a command with the place after it, or refusal 2 or 3.
+// What is read at a place: a command, and the place after it.
 #[derive(Clone, Copy)]
-pub enum Parsed {
-    Whole(Command, usize),
-    Refused(Refusal),
+pub struct Parsed {
+    pub command: Command,
+    pub next: usize,
 }
 
 // What a further pass over a job needs of a command: its byte and group, its first operand, and the place after it.
@@ -47,25 +47,11 @@ pub struct Head {
     pub next: usize,
 }
 
-// What reading a head at a place gives: a head, or nothing where a command is refused by 2 or 3.
+// What is known of a command before its operands are read: its packed row, and the place after it.
 #[derive(Clone, Copy)]
-pub enum HeadParsed {
-    Whole(Head),
-    Refused,
-}
-
-// What is known of the command at a place before its operands are read: its row and the place after it, or refusal 2 or 3.
-#[derive(Clone, Copy)]
-enum Extent {
-    Whole(u64, usize),
-    Refused(Refusal),
-}
-
-// A byte as a number.
-pub fn wide(x: u8) -> u32
-    ensures { (result ≡ x) × (result < 256) }
-{
-    x as u32
+struct Extent {
+    row: u64,
+    next: usize,
 }
 
 // The operand of a width at a place, lowest byte first.
@@ -74,38 +60,38 @@ pub fn operand(job: &[u8], at: usize, width: u8) -> u32
     ensures { result ≡ number_at job.now at width }
 {
     if width == 4 {
-        let a = wide(job[at]);
-        let b = wide(job[at + 1]);
-        let c = wide(job[at + 2]);
-        let d = wide(job[at + 3]);
+        let a = u32::from(job[at]);
+        let b = u32::from(job[at + 1]);
+        let c = u32::from(job[at + 2]);
+        let d = u32::from(job[at + 3]);
         return a + b * 256 + c * 65536 + d * 16777216;
     }
     if width == 1 {
-        return wide(job[at]);
+        return u32::from(job[at]);
     }
     0
 }
 
-// The extent of the command at a place, by what looking its byte up found: 2 if it is none, 3 if its operands run past the end.
-fn extent_of(job: &[u8], at: usize, found: Lookup) -> Extent
-    requires { (at < length job.now) × Finds (get_or job.now at 0) found }
+// The extent of the command at a place: refused by 2 if its byte is none, by 3 if its operands run past the end.
+fn extent_of(job: &[u8], at: usize) -> Result<Extent, Refusal>
+    requires { at < length job.now }
     ensures { Extends job.now at result }
 {
-    let Lookup::Found(row) = found else {
-        return Extent::Refused(Refusal {
-            number: 2,
+    let Some(row) = row_of(job[at]) else {
+        return Err(Refusal {
+            reason: Reason::UnknownByte,
             place: at,
         });
     };
     let shape = unpack(row);
     let next = at + 1 + (shape.length as usize);
     if job.len() < next {
-        return Extent::Refused(Refusal {
-            number: 3,
+        return Err(Refusal {
+            reason: Reason::CutShort,
             place: at,
         });
     }
-    Extent::Whole(row, next)
+    Ok(Extent { row, next })
 }
 
 // The operands after the first of a whole command, 0 where there is none. Most commands have none.
@@ -135,52 +121,44 @@ fn read_others(job: &[u8], at: usize, row: u64) -> Others
 }
 
 // The command at a place, or its refusal.
-pub fn read_command(job: &[u8], at: usize) -> Parsed
+pub fn read_command(job: &[u8], at: usize) -> Result<Parsed, Refusal>
     requires { at < length job.now }
     ensures { ParsesAs job.now at result }
 {
-    let byte = job[at];
-    let found = look_up(byte);
-    let extent = extent_of(job, at, found);
-    match extent {
-        Extent::Refused(r) => Parsed::Refused(r),
-        Extent::Whole(row, next) => {
-            let shape = unpack(row);
-            let first = operand(job, at + 1, shape.first_width);
-            let others = read_others(job, at, row);
-            let command = Command {
-                place: at,
-                row,
-                byte,
-                group: shape.group,
-                first,
-                second: others.second,
-                third: others.third,
-                fourth: others.fourth,
-            };
-            Parsed::Whole(command, next)
-        }
-    }
-}
-
-// The head of the command at a place, or nothing.
-pub fn read_head(job: &[u8], at: usize) -> HeadParsed
-    requires { at < length job.now }
-    ensures { head_of result ≡ head_in (read_command job.now at) }
-{
-    let byte = job[at];
-    let found = look_up(byte);
-    let extent = extent_of(job, at, found);
-    let Extent::Whole(row, next) = extent else {
-        return HeadParsed::Refused;
-    };
+    let extent = extent_of(job, at)?;
+    let row = extent.row;
+    let next = extent.next;
     let shape = unpack(row);
     let first = operand(job, at + 1, shape.first_width);
-    HeadParsed::Whole(Head {
-        byte,
+    let others = read_others(job, at, row);
+    let command = Command {
+        place: at,
+        row,
+        byte: job[at],
         group: shape.group,
         first,
-        next,
+        second: others.second,
+        third: others.third,
+        fourth: others.fourth,
+    };
+    Ok(Parsed { command, next })
+}
+
+// The head of the command at a place; none where the command is refused by 2 or 3.
+pub fn read_head(job: &[u8], at: usize) -> Option<Head>
+    requires { at < length job.now }
+    ensures { result ≡ head_in (read_command job.now at) }
+{
+    let Ok(extent) = extent_of(job, at) else {
+        return None;
+    };
+    let shape = unpack(extent.row);
+    let first = operand(job, at + 1, shape.first_width);
+    Some(Head {
+        byte: job[at],
+        group: shape.group,
+        first,
+        next: extent.next,
     })
 }
 

@@ -1,8 +1,40 @@
 // Refusals.
+ghost use Rattle.std.specs.Prelude.{◌≡◌};
+ghost use Rattle.command.specs.Refusals.{number_of};
 
-// Why a job is turned away: the number of the refusal and its place.
+// Which test turns a job away; the numbers are 01's.
+#[derive(Clone, Copy)]
+pub enum Reason {
+    Length = 1,
+    UnknownByte = 2,
+    CutShort = 3,
+    LowerGroup = 4,
+    CountExceeded = 5,
+    Undeclared = 6,
+    OutOfReach = 7,
+    Repeated = 8,
+    FarJump = 9,
+    ShortTrace = 10,
+    ShortSnapshot = 11,
+    ShortWork = 12,
+    BadBudget = 13,
+    WrittenTurn = 14,
+    EmptySpan = 15,
+    UnusedPermission = 19,
+}
+
+impl Reason {
+    // The number of the refusal.
+    pub fn number(self) -> u8
+        ensures { result ≡ number_of self }
+    {
+        self as u8
+    }
+}
+
+// Why a job is turned away: the test that it fails, and the place.
 #[derive(Clone, Copy)]
 pub struct Refusal {
-    pub number: u8,
+    pub reason: Reason,
     pub place: usize,
 }

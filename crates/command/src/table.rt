@@ -1,37 +1,26 @@
 // The command table: each command byte with its group, the widths and kinds of its operands, and its largest count.
 ghost use Rattle.std.specs.Prelude.{◌≡◌};
-ghost use Rattle.command.specs.Rows.{unpacked, row_in, IsRow, Finds};
+ghost use Rattle.command.specs.Rows.{kind_of, unpacked, row_in, Finds};
 
-// What an operand is, by the name in its column of the paper's table; NO_OPERAND where the command has none.
-pub const NO_OPERAND: u8 = 0;
-
-pub const SCOPE_OPERAND: u8 = 1;
-
-pub const OWNER_OPERAND: u8 = 2;
-
-pub const NODE_OPERAND: u8 = 3;
-
-pub const PORT_OPERAND: u8 = 4;
-
-pub const TARGET_OPERAND: u8 = 5;
-
-pub const FUNCTION_OPERAND: u8 = 6;
-
-pub const VARIABLE_OPERAND: u8 = 7;
-
-pub const START_OPERAND: u8 = 8;
-
-pub const ANSWER_OPERAND: u8 = 9;
-
-pub const VALUE_OPERAND: u8 = 10;
-
-pub const JUMP_OPERAND: u8 = 11;
-
-pub const LOW_OPERAND: u8 = 12;
-
-pub const HIGH_OPERAND: u8 = 13;
-
-pub const ARGUMENT_OPERAND: u8 = 14;
+// What an operand is, by the name in its column of the paper's table; absent where the command has none.
+#[derive(Clone, Copy)]
+pub enum OperandKind {
+    Absent,
+    Scope,
+    Owner,
+    Node,
+    Port,
+    Target,
+    Function,
+    Variable,
+    Start,
+    Answer,
+    Value,
+    Jump,
+    Low,
+    High,
+    Argument,
+}
 
 // How many commands there are.
 const ROW_COUNT: usize = 25;
@@ -76,11 +65,34 @@ pub struct Row {
     pub second_width: u8,
     pub third_width: u8,
     pub fourth_width: u8,
-    pub first_kind: u8,
-    pub second_kind: u8,
-    pub third_kind: u8,
-    pub fourth_kind: u8,
+    pub first_kind: OperandKind,
+    pub second_kind: OperandKind,
+    pub third_kind: OperandKind,
+    pub fourth_kind: OperandKind,
     pub most: u32,
+}
+
+// The kind of an operand by its digit.
+fn kind_of(digit: u8) -> OperandKind
+    ensures { result ≡ kind_of digit }
+{
+    match digit {
+        1 => OperandKind::Scope,
+        2 => OperandKind::Owner,
+        3 => OperandKind::Node,
+        4 => OperandKind::Port,
+        5 => OperandKind::Target,
+        6 => OperandKind::Function,
+        7 => OperandKind::Variable,
+        8 => OperandKind::Start,
+        9 => OperandKind::Answer,
+        10 => OperandKind::Value,
+        11 => OperandKind::Jump,
+        12 => OperandKind::Low,
+        13 => OperandKind::High,
+        14 => OperandKind::Argument,
+        _ => OperandKind::Absent,
+    }
 }
 
 // The columns of a packed row.
@@ -95,53 +107,30 @@ pub fn unpack(row: u64) -> Row
         second_width: (row / 0x100_0000 % 0x10) as u8,
         third_width: (row / 0x10_0000 % 0x10) as u8,
         fourth_width: (row / 0x1_0000 % 0x10) as u8,
-        first_kind: (row / 0x1000_0000_0000 % 0x10) as u8,
-        second_kind: (row / 0x100_0000_0000 % 0x10) as u8,
-        third_kind: (row / 0x10_0000_0000 % 0x10) as u8,
-        fourth_kind: (row / 0x1_0000_0000 % 0x10) as u8,
+        first_kind: kind_of((row / 0x1000_0000_0000 % 0x10) as u8),
+        second_kind: kind_of((row / 0x100_0000_0000 % 0x10) as u8),
+        third_kind: kind_of((row / 0x10_0000_0000 % 0x10) as u8),
+        fourth_kind: kind_of((row / 0x1_0000_0000 % 0x10) as u8),
         most: (row / 0x1_0000_0000_0000 % 0x1_0000) as u32,
     }
 }
 
-// The first of some rows with this byte; 0 if none has it.
-fn row_in(rows: &[u64], byte: u8) -> u64
+// The first of some rows with this byte.
+fn row_in(rows: &[u64], byte: u8) -> Option<u64>
     ensures { result ≡ row_in rows.now byte }
 {
-    let mut i: usize = 0;
-    while i < rows.len() {
-        let row = rows[i];
-        if (row % 0x100) as u8 == byte {
-            return row;
+    for row in rows {
+        if (*row % 0x100) as u8 == byte {
+            return Some(*row);
         }
-        i += 1;
     }
-    0
+    None
 }
 
-// The row of a command byte; 0 for a byte that is no command.
-pub fn row_of(byte: u8) -> u64
-    ensures { IsRow byte result }
-{
-    let rows = ROWS;
-    row_in(&rows, byte)
-}
-
-// What looking a byte up finds: its packed row, or that it is no command.
-#[derive(Clone, Copy)]
-pub enum Lookup {
-    Found(u64),
-    Missing,
-}
-
-// The row of a command byte, for a reader that takes the answer apart. It does not call `row_of`: the compiler inlines a function that has
-// the rows into one caller only.
-pub fn look_up(byte: u8) -> Lookup
+// The packed row of a command byte; none for a byte that is no command.
+pub fn row_of(byte: u8) -> Option<u64>
     ensures { Finds byte result }
 {
     let rows = ROWS;
-    let row = row_in(&rows, byte);
-    if row == 0 {
-        return Lookup::Missing;
-    }
-    Lookup::Found(row)
+    row_in(&rows, byte)
 }

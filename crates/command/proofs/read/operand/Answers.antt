@@ -6,14 +6,14 @@ pub returns-then-width-eq4 : goal.returns-then-width-eq4
 returns-then-width-eq4 c = rw (
   c.if-width-eq4.true,
   number-four,
-  c.wide-a.ensures.0,
-  c.wide-b.ensures.0,
-  c.wide-c.ensures.0,
-  c.wide-d.ensures.0,
+  c.from-a.ensures,
+  c.from-b.ensures,
+  c.from-c.ensures,
+  c.from-d.ensures,
 )
 
 pub returns-then-width-eq1 : goal.returns-then-width-eq1
-returns-then-width-eq1 c = rw (c.if-width-eq1.true, number-one) c.wide.ensures.0
+returns-then-width-eq1 c = rw (c.if-width-eq1.true, number-one) c.from.ensures
 
 pub returns : goal.returns
 returns c = width-none _ _ _ c.requires.1 c.if-width-eq4.false c.if-width-eq1.false
