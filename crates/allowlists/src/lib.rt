@@ -6,7 +6,7 @@ ghost use Rattle.tables.specs.Tables.{read_in, write_in, any_in, listed_in, call
 
 use command::numbers::{FunNum, NodeNum, VarNum};
 use declared::last_range;
-use items::{Question, find, is_found};
+use items::{Question, find};
 use tables::cells;
 use tables::cells::marked;
 
@@ -35,11 +35,8 @@ pub fn may_call_any(tables: &[u32], n: NodeNum, f: FunNum) -> bool
 pub fn is_listed(tables: &[u32], byte: u8, n: NodeNum, f: FunNum, low: u32, high: u32) -> bool
     ensures { result ≡ listed_in tables.now byte n.0 f.0 low high }
 {
-    is_found(find(
-        tables,
-        last_range(tables, n, f) as usize,
-        Question::Is(byte as u32, low, high),
-    ))
+    let question = Question::Is(byte as u32, low, high);
+    find(tables, last_range(tables, n, f) as usize, question).is_some()
 }
 
 // Whether a node may call a function with this argument.
@@ -50,5 +47,5 @@ pub fn may_call(tables: &[u32], n: NodeNum, f: FunNum, argument: u32) -> bool
         return true;
     }
     let last = last_range(tables, n, f) as usize;
-    is_found(find(tables, last, Question::Holds(argument)))
+    find(tables, last, Question::Holds(argument)).is_some()
 }

@@ -3,12 +3,11 @@ use Prim.Native.Nat.{ℕ, zero, suc, ◌+◌, ◌/◌, ◌≤◌, ◌<◌}
 use mathlib.Core.Path.{◌≡◌, refl, sym, ap, ◌∙◌}
 use mathlib.Core.Bool.{Bool, true, false, cond, not, ◌&&◌, ◌||◌}
 use mathlib.Core.List.{List, [], ◌∷◌}
-use Rattle.std.proofs.Common.{None, Some}
+use Rattle.std.proofs.Common.{None, Some, is_some}
 use native.Mathlib.Omega.{arith}
 use lib.Dec.{leb, ltb, eqb}
 use borrow.Author.Tests.{ltb-true, leb-true, eqb-true, eqb-false}
 use Rattle.model.specs.Table.{SET, SKIP, Row, table, width, kind_at, operands_in, operands_of}
-use Rattle.model.specs.Declared.{is_there}
 use Rattle.model.proofs.Logic.{true_false, and_left, and_right}
 use Rattle.command.specs.Rows.{is_handler_byte}
 
@@ -56,7 +55,7 @@ from-passes test k (suc n) b e l h = by_first (eqb b k) refl (from-passes test (
 
 -- a handler command byte is in the table, and has one operand at most
 abbrev single : ℕ → Bool
-single b = is_there (operands_of b) && eqb (width (kind_at b 1) + width (kind_at b 2) + width (kind_at b 3)) 0
+single b = is_some (operands_of b) && eqb (width (kind_at b 1) + width (kind_at b 2) + width (kind_at b 3)) 0
 
 pub record OneOperand (b : ℕ) : Type 0 where
   pub known : ¬ (operands_of b ≡ None)
@@ -68,6 +67,6 @@ handler-single b h =
     let e = from-passes single SET 11 b refl (leb-true SET b (and_left (leb SET b) _ h))
     (omega (arith, leb-true b SKIP (and_right (leb SET b) _ h))) in
     record {
-      known = λ n. let q = ap is_there (sym n) ∙ and_left (is_there (operands_of b)) _ e in true_false (sym q);
-      others = eqb-true _ 0 (and_right (is_there (operands_of b)) _ e);
+      known = λ n. let q = ap is_some (sym n) ∙ and_left (is_some (operands_of b)) _ e in true_false (sym q);
+      others = eqb-true _ 0 (and_right (is_some (operands_of b)) _ e);
     }

@@ -128,20 +128,19 @@ pub record HeadAt (job : List ℕ) (place : ℕ) (head : Head) : Type 0 where
   pub group : head.group ≡ group_of command.byte
   pub first : head.first ≡ command.operands.first
 
-module _ (job : List ℕ) (place : ℕ) (p : Option Head) (same : p ≡ head_in (read_command job place)) where
-  pub head_read : (head : Head) → p ≡ Some head → HeadAt job place head
-  head_read head e = by_read (read_command job place) refl (rw e at same)
+module _ (job : List ℕ) (place : ℕ) where
+  pub head_read : (head : Head) → Some head ≡ head_in (read_command job place) → HeadAt job place head
+  head_read head e = by_read (read_command job place) refl e
     where
       by_read : (r : ParsedAs) → read_command job place ≡ r → Some head ≡ head_in r → HeadAt job place head
       by_read (whole c next) i f =
           let q : head ≡ record { byte = c.byte; group = group_of c.byte; first = c.operands.first; next = next } = cc in
           rw q (record { command = c; is_read = i; byte = refl; group = refl; first = refl })
-      by_read unknown i f = let w : ◌≡◌ {A = ℕ} 0 1 = cc in absurd (omega arith)
-      by_read cut_short i f = let w : ◌≡◌ {A = ℕ} 0 1 = cc in absurd (omega arith)
+      by_read unknown i f = absurd cc
+      by_read cut_short i f = absurd cc
 
   -- where a whole command is read there is a head
-  pub head_there : {A : Type 0} (c : Command) (next : ℕ) → read_command job place ≡ whole c next → p ≡ None → A
+  pub head_there : {A : Type 0} (c : Command) (next : ℕ) → read_command job place ≡ whole c next → None ≡ head_in (read_command job place) → A
   head_there c next i e =
-      let f = rw (e, i) at same in
-      let w : ◌≡◌ {A = ℕ} 0 1 = cc in
-      absurd (omega arith)
+      let f = rw i at e in
+      absurd cc

@@ -2,17 +2,15 @@
 // node or a function are, each under its own kind of number.
 #![tactic(auto)]
 
-ghost use Rattle.std.specs.Prelude.{◌≡◌, ℕ, ◌<◌};
+ghost use Rattle.std.specs.Prelude.{◌≡◌, ℕ, ◌<◌, is_some, option_to_list};
 ghost use Rattle.model.specs.Table.{max_nodes};
-ghost use Rattle.model.specs.Declared.{is_there, is_seen};
+ghost use Rattle.model.specs.Declared.{is_seen};
 ghost use Rattle.tables.specs.Bits.{bit_of};
 ghost use Rattle.tables.specs.Tables.{count_in, group_in, open_in, flow_in, start_in, shared_in, sees_in, length_in, body_in, started_at};
 ghost use Rattle.tables.specs.Tables.{firsts_in, wired_in, last_range_in, last_reply_in, reply_in, answer_in};
-ghost use Rattle.items.specs.Asking.{found_by};
-ghost use Rattle.declared.specs.Asked.{messages_of};
 
 use command::numbers::{FlowNum, FunNum, NodeNum, VarNum};
-use items::{Found, Question, find, is_found};
+use items::{Question, find};
 use tables::cells;
 use tables::cells::{entry, flagged, half, marked, marks_of};
 
@@ -58,22 +56,22 @@ pub fn last_reply(tables: &[u32], f: FunNum) -> u32
     entry(tables, cells::LAST_REPLY, f.0 as usize)
 }
 
-// The reply of a function to an argument, if there is one. A function without replies costs no search.
-fn reply_to(tables: &[u32], f: FunNum, argument: u32) -> Found
-    ensures { found_by result ≡ reply_in tables.now f.0 argument }
+// The answer of the reply of a function to an argument, if there is one. A function without replies costs no search.
+fn reply_to(tables: &[u32], f: FunNum, argument: u32) -> Option<u32>
+    ensures { result ≡ reply_in tables.now f.0 argument }
 {
     let last = last_reply(tables, f) as usize;
     if last == 0 {
-        return Found::Nothing;
+        return None;
     }
     find(tables, last, Question::To(argument))
 }
 
 // Whether a function has a reply to an argument.
 pub fn has_reply(tables: &[u32], f: FunNum, argument: u32) -> bool
-    ensures { result ≡ is_there (reply_in tables.now f.0 argument) }
+    ensures { result ≡ is_some (reply_in tables.now f.0 argument) }
 {
-    is_found(reply_to(tables, f, argument))
+    reply_to(tables, f, argument).is_some()
 }
 
 // The answer of a function to an argument: that of its reply, and without one FUN's.
@@ -81,8 +79,8 @@ pub fn answer_of(tables: &[u32], f: FunNum, argument: u32) -> u32
     ensures { result ≡ answer_in tables.now f.0 argument }
 {
     match reply_to(tables, f, argument) {
-        Found::Second(answer) => answer,
-        Found::Nothing => entry(tables, cells::ANSWER, f.0 as usize),
+        Some(answer) => answer,
+        None => entry(tables, cells::ANSWER, f.0 as usize),
     }
 }
 
@@ -137,22 +135,15 @@ pub fn has_start(tables: &[u32], f: FlowNum) -> bool
     flagged(tables, cells::STARTED, f.0 as usize)
 }
 
-// What waits at a node at the start: a first message, or nothing.
-#[derive(Clone, Copy)]
-pub enum First {
-    Message(u32),
-    Nothing,
-}
-
-// The first message of a node.
-pub fn first_message(tables: &[u32], n: NodeNum) -> First
-    ensures { messages_of result ≡ firsts_in tables.now n.0 }
+// The first message of a node, which waits at it at the start, if it has one.
+pub fn first_message(tables: &[u32], n: NodeNum) -> Option<u32>
+    ensures { option_to_list result ≡ firsts_in tables.now n.0 }
 {
     let i = n.0 as usize;
     if flagged(tables, cells::FIRST, i) {
-        return First::Message(entry(tables, cells::MESSAGE, i));
+        return Some(entry(tables, cells::MESSAGE, i));
     }
-    First::Nothing
+    None
 }
 
 // Whether a port is wired to a target.

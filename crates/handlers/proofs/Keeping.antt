@@ -18,10 +18,9 @@ use Rattle.model.proofs.Retracing.{read-accepted}
 use Rattle.model.proofs.Growth.{open_next, body_next}
 use Rattle.model.proofs.Naming.{body_fresh}
 use Rattle.model.proofs.Valid.{job-accepted, limits}
-use Rattle.command.specs.declared.read.HeadParsed.{HeadParsed}
-use Rattle.command.specs.declared.read.HeadParsed.TheVariants as heads
 use Rattle.command.specs.Rows.{is_handler_byte}
-use Rattle.command.specs.Reading.{head_of, head_in}
+use Rattle.std.proofs.Common.{None}
+use Rattle.command.specs.Reading.{head_in}
 use Rattle.command.proofs.Taken.{head_there}
 use Rattle.handlers.specs.Loading.{slot_of, stored, loaded}
 use Rattle.model.specs.Refusal.{IsAccepted, commands_of}
@@ -72,8 +71,8 @@ module _ {job : List ℕ} {all : List Command} {w u : List ℕ} {place opened in
 
   module _ (h : place < length job) where
     -- a whole command is read
-    pub keeping_reads : {A : Type 0} (p : HeadParsed) → head_of p ≡ head_in (read_command job place) → p ≡ heads.Refused → A
-    keeping_reads p same e = let r = scanning-reads k.scanning h in head_there job place p same r.0 r.1 r.2 e
+    pub keeping_reads : {A : Type 0} → None ≡ head_in (read_command job place) → A
+    keeping_reads e = let r = scanning-reads k.scanning h in head_there job place r.0 r.1 r.2 e
 
     module _ (c : Command) (next : ℕ) (read : read_command job place ≡ whole c next) where
       more : Valid (c ∷ k.past)

@@ -5,9 +5,8 @@ ghost use Rattle.command.specs.Instructions.{instruction_of, fetched_of, command
 ghost use Rattle.handlers.specs.Loading.{slot_in, handlers_in};
 
 use crate::slot_of;
-use command::instruction::{Fetched, Instruction, read_instruction};
+use command::instruction::{Instruction, read_instruction};
 use command::numbers::NodeNum;
-use command::read::wide;
 use declared::length_of;
 
 // What the slot of a node's command stands for, SKIP where there is no slot; inside the handlers of a loaded job, its command.
@@ -18,20 +17,26 @@ fn read_slot(job: &[u8], work: &[u8], n: NodeNum, position: u32) -> Instruction
     if work.len() < at + 2 {
         return Instruction::Skip;
     }
-    let low = wide(work[at]);
-    let high = wide(work[at + 1]);
+    let low = u32::from(work[at]);
+    let high = u32::from(work[at + 1]);
     let place = low + high * 256;
     read_instruction(job, place as usize)
 }
 
 // What stands at a position of a node's handler. Where a command stands, the next position can be counted.
-pub fn fetch(job: &[u8], tables: &[u32], work: &[u8], n: NodeNum, position: u32) -> Fetched
+pub fn fetch(
+    job: &[u8],
+    tables: &[u32],
+    work: &[u8],
+    n: NodeNum,
+    position: u32,
+) -> Option<Instruction>
     ensures fetched { fetched_of result ≡
         command_in (handlers_in job.now tables.now work.now n.0) position }
     ensures countable { (fetched_of result ≡ None) ⊎ (position < 4294967295) }
 {
     if position < length_of(tables, n) {
-        return Fetched::Command(read_slot(job, work, n, position));
+        return Some(read_slot(job, work, n, position));
     }
-    Fetched::End
+    None
 }

@@ -9,7 +9,7 @@ ghost use Rattle.model.specs.Refusal.{commands_of, IsAccepted};
 use crate::slot_of;
 use command::bytes;
 use command::numbers::NodeNum;
-use command::read::{Head, HeadParsed, open_after, read_head};
+use command::read::{Head, open_after, read_head};
 use writing::put_byte;
 
 // Stores a place in the slot of a node's command, if it fits: two bytes, lowest byte first.
@@ -56,8 +56,7 @@ pub fn load(job: &[u8], work: &mut [u8])
     let mut opened = NodeNum(0);
     let mut index: u32 = 0;
     while at < job.len() {
-        let read = read_head(job, at);
-        let HeadParsed::Whole(c) = read else {
+        let Some(c) = read_head(job, at) else {
             return;
         };
         if bytes::HANDLER_GROUP < c.group {

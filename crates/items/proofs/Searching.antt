@@ -3,15 +3,12 @@ use Prim.Native.Nat.{ℕ, ◌-◌, ◌<◌}
 use mathlib.Core.Path.{◌≡◌, refl, ap, ◌∙◌}
 use mathlib.Core.Bool.{Bool, true, false, cond}
 use mathlib.Core.List.{List}
-use Rattle.std.proofs.Common.{Option, None, Some}
+use Rattle.std.proofs.Common.{Option, None, Some, is_some}
 use lib.Dec.{ltb}
 use borrow.Author.Tests.{ltb-true}
-use Rattle.model.specs.Declared.{is_there}
 use Rattle.tables.specs.Items.{Item, found_item, second_of}
 use Rattle.tables.specs.Tables.{item_in, before_in, chain_in}
 use Rattle.tables.proofs.Chains.{chain_first, chain_rest}
-use Rattle.items.specs.declared.Found.{Found}
-use Rattle.items.specs.Asking.{found_by}
 
 module _ (t : List ℕ) (test : Item → Bool) (at : ℕ) where
   found_along : 0 < at
@@ -42,10 +39,10 @@ goes_back at before next h e = rw e (by_test (ltb before at) refl)
     by_test false p = h
 
 -- an item is found if there is one
-pub found-there : (t : List ℕ) (test : Item → Bool) (last : ℕ) (r : Found) → found_by r ≡ second_of (found_item test (chain_in t last last))
-    → is_there (found_by r) ≡ is_there (found_item test (chain_in t last last))
-found-there t test last r e = ap is_there e ∙ by_item (found_item test (chain_in t last last))
+pub found-there : (t : List ℕ) (test : Item → Bool) (last : ℕ) (r : Option ℕ) → r ≡ second_of (found_item test (chain_in t last last))
+    → is_some r ≡ is_some (found_item test (chain_in t last last))
+found-there t test last r e = ap is_some e ∙ by_item (found_item test (chain_in t last last))
   where
-    by_item : (o : Option Item) → is_there (second_of o) ≡ is_there o
+    by_item : (o : Option Item) → is_some (second_of o) ≡ is_some o
     by_item None = refl
     by_item (Some i) = refl

@@ -2,10 +2,9 @@
 #![tactic(auto)]
 
 ghost use Rattle.std.specs.Prelude.{◌≡◌, cond, ltb};
-ghost use Rattle.model.specs.Declared.{is_there};
 ghost use Rattle.tables.specs.Items.{item, found_item, second_of};
 ghost use Rattle.tables.specs.Tables.{item_count_in, chain_in};
-ghost use Rattle.items.specs.Asking.{asked, found_by};
+ghost use Rattle.items.specs.Asking.{asked};
 
 use tables::cells;
 use tables::cells::entry;
@@ -47,26 +46,9 @@ fn go_back(at: usize, before: usize) -> usize
     0
 }
 
-// What a search finds: an item, of which its second number is told, or nothing.
-#[derive(Clone, Copy)]
-pub enum Found {
-    Second(u32),
-    Nothing,
-}
-
-// Whether an item was found.
-pub fn is_found(found: Found) -> bool
-    ensures { result ≡ is_there (found_by found) }
-{
-    match found {
-        Found::Second(_) => true,
-        Found::Nothing => false,
-    }
-}
-
-// The first item that fits a question, from the last one of a chain back, which is given by its number plus 1, or 0 if there is none.
-pub fn find(tables: &[u32], last: usize, q: Question) -> Found
-    ensures { found_by result ≡ second_of (found_item (asked q) (chain_in tables.now last last)) }
+// The second number of the first item that fits a question, from the last one of a chain back, which is given by its number plus 1, or 0 if there is none.
+pub fn find(tables: &[u32], last: usize, q: Question) -> Option<u32>
+    ensures { result ≡ second_of (found_item (asked q) (chain_in tables.now last last)) }
 {
     let mut at = last;
     while 0 < at {
@@ -75,9 +57,9 @@ pub fn find(tables: &[u32], last: usize, q: Question) -> Found
         let first = entry(tables, cells::ITEM_FIRST, i);
         let second = entry(tables, cells::ITEM_SECOND, i);
         if fits(q, link / 65536, first, second) {
-            return Found::Second(second);
+            return Some(second);
         }
         at = go_back(at, (link % 65536) as usize);
     }
-    Found::Nothing
+    None
 }

@@ -3,12 +3,12 @@ use Prim.Native.Nat.{ℕ}
 use mathlib.Core.Path.{◌≡◌, refl, sym, ap}
 use mathlib.Core.Bool.{Bool, true, false, cond, ◌||◌}
 use mathlib.Core.List.{List, [], ◌∷◌}
-use Rattle.std.proofs.Common.{None, Some}
+use Rattle.std.proofs.Common.{None, Some, is_some}
 use lib.Dec.{eqb}
 use borrow.Author.Tests.{eqb-true, eq-eqb}
 use Rattle.model.specs.Table.{REPLY, operands_in, operands_of}
 use Rattle.model.specs.Command.{Operands, Command, ternary, is}
-use Rattle.model.specs.Declared.{is_same, occurs, is_reply, reply_of, is_there}
+use Rattle.model.specs.Declared.{is_same, occurs, is_reply, reply_of}
 use Rattle.model.specs.Program.{program_of}
 use Rattle.model.specs.Refusal.{repeated}
 use Rattle.model.specs.Replies.{RecordedHolds}
@@ -59,7 +59,7 @@ module _ (f v : ℕ) where
           (or_left (is_same REPLY (ternary f v c.operands.third) c) _ (none-there c.operands.third))
 
   -- a REPLY that passed test 8 is the first of its function and argument
-  fresh-reply : (past : List Command) (c : Command) → repeated past c ≡ false → is_reply f v c ≡ true → is_there (reply_of past f v) ≡ false
+  fresh-reply : (past : List Command) (c : Command) → repeated past c ≡ false → is_reply f v c ≡ true → is_some (reply_of past f v) ≡ false
   fresh-reply past c fresh e =
       let q = and_right (is REPLY c) _ e in
       let first = eqb-true c.operands.first f (and_left (eqb c.operands.first f) _ q) in
@@ -78,7 +78,7 @@ module _ (f v : ℕ) where
           → cond t (Some c.operands.third) (reply_of past f v) ≡ Some answer
       by_reply false p e = e
       by_reply true p e =
-          let gone : is_there (reply_of past f v) ≡ false = fresh-reply past c (passes past c valid.2).fresh p in
+          let gone : is_some (reply_of past f v) ≡ false = fresh-reply past c (passes past c valid.2).fresh p in
           true_false (rw e at gone)
 
       by_same :

@@ -4,14 +4,14 @@ use Prim.Native.Nat.{ℕ, ◌-◌}
 use mathlib.Core.Path.{◌≡◌, refl, sym, ap, ◌∙◌}
 use mathlib.Core.Bool.{Bool, true, false, cond, ◌&&◌, ◌||◌}
 use mathlib.Core.List.{List, [], ◌∷◌}
-use Rattle.std.proofs.Common.{Option, None, Some, unwrap_or}
+use Rattle.std.proofs.Common.{Option, None, Some, unwrap_or, is_some}
 use lib.Dec.{eqb}
 use borrow.Author.Tests.{eqb-true, eqb-false, ne_eqb}
 use Rattle.model.specs.Table.{FLOW, NODE, VAR, FUN, REPLY, WIRE, ANY, ARG, READ, WRITE, SPAN, BODY, START, operands_in, operands_of}
 use Rattle.model.specs.Table.{Limit, largest_of}
 use Rattle.model.specs.Command.{Operands, quaternary, ternary, binary, Command, is}
 use Rattle.model.specs.Declared.{count_of, count_among, is_same, occurs, span_permits, in_span, declared, flow_of, scope_of, owner_of}
-use Rattle.model.specs.Declared.{start_of, fun_answer_of, is_reply, reply_of, is_there, answer_of, open_body, body_length, handler_of}
+use Rattle.model.specs.Declared.{start_of, fun_answer_of, is_reply, reply_of, answer_of, open_body, body_length, handler_of}
 use Rattle.model.specs.Declared.{starts_of, started_in, turns_of}
 use Rattle.model.specs.Program.{Program, program_of}
 use Rattle.model.specs.Refusal.{any_of, group_falls, is_reached, exceeds_count, undeclared, out_of_reach, must_differ, repeated, empty_span}
@@ -204,7 +204,7 @@ module _ (x v : ℕ) where
       any_of
       (differs_re past c i
       ∷ (is START c && started_re past (flow_re past c.operands.first i) i)
-      ∷ (is REPLY c && is_there (reply_re past c.operands.first c.operands.second i))
+      ∷ (is REPLY c && is_some (reply_re past c.operands.first c.operands.second i))
       ∷ [])
 
   violation_re : (past : List Command) (c : Command) → violation (restarted x v past) c ≡ violation past c

@@ -77,11 +77,6 @@ unfoldable pub reply_of : List Command → ℕ → ℕ → Option ℕ
 reply_of [] f argument = None
 reply_of (c ∷ past) f argument = cond (is_reply f argument c) (Some c.operands.third) (reply_of past f argument)
 
--- there is a value
-abbrev pub is_there : {A : Type 0} → Option A → Bool
-is_there None = false
-is_there (Some a) = true
-
 -- the answer of a function to an argument: that of its REPLY, and without one FUN's (S-1)
 abbrev pub answer_of : List Command → ℕ → ℕ → ℕ
 answer_of past f argument = unwrap_or (reply_of past f argument) (fun_answer_of past f)

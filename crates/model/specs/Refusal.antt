@@ -1,13 +1,13 @@
 -- When a job is refused ("When a job is turned away"): the tests 1 to 12, after test 8 the test 15 of request S-5, and after test 9 the
 -- test 19 of request S-7, each with its number and place, in their order.
-use Rattle.std.specs.Prelude.{ℕ, zero, suc, ◌*◌, Bool, false, cond, not, ◌&&◌, ◌||◌, List, [], ◌∷◌, leb, ltb, eqb, length}
+use Rattle.std.specs.Prelude.{ℕ, zero, suc, ◌*◌, Bool, false, cond, not, ◌&&◌, ◌||◌, List, [], ◌∷◌, leb, ltb, eqb, length, is_some}
 use Rattle.std.specs.Prelude.{Option, None, Some}
 use Rattle.model.specs.Table.{FLOW, NODE, VAR, FUN, REPLY, WIRE, ANY, ARG, READ, WRITE, SPAN, BODY, GET, PUT, PLUS, JUMPZ, JUMP}
 use Rattle.model.specs.Table.{CALL, START, TURN, OperandKind, scope, owner, start, answer, node, port, target, function, argument}
 use Rattle.model.specs.Table.{value, low, high, variable, jump, absent, kind_at, group_of, Limit, largest_of, max_port, max_handler}
 use Rattle.model.specs.Table.{max_job}
 use Rattle.model.specs.Command.{Command, Parsed, whole, unknown, cut_short, is, read_command}
-use Rattle.model.specs.Declared.{count_of, count_among, occurs, flow_of, reply_of, is_there, shared, sees, is_handler, open_body}
+use Rattle.model.specs.Declared.{count_of, count_among, occurs, flow_of, reply_of, shared, sees, is_handler, open_body}
 use Rattle.model.specs.Declared.{body_length, handler_of, has, started_in}
 
 -- some test passes
@@ -108,7 +108,7 @@ repeated past c =
     any_of
     ((must_differ c && occurs c.byte c.operands past)
     ∷ (is START c && started_in past (flow_of past c.operands.first))
-    ∷ (is REPLY c && is_there (reply_of past c.operands.first c.operands.second))
+    ∷ (is REPLY c && is_some (reply_of past c.operands.first c.operands.second))
     ∷ [])
 
 -- 15 (S-5): a SPAN whose low is above its high

@@ -3,13 +3,13 @@ use Prim.Native.Nat.{ℕ, ◌+◌, ◌/◌, ◌≤◌, ◌<◌}
 use mathlib.Core.Path.{◌≡◌, refl, sym, ◌∙◌}
 use mathlib.Core.Bool.{Bool, true, false, cond, ◌&&◌, ◌||◌, and_assoc}
 use mathlib.Core.List.{List, ◌∷◌}
-use Rattle.std.proofs.Common.{Option, Some}
+use Rattle.std.proofs.Common.{Option, Some, is_some}
 use native.Mathlib.Omega.{arith}
 use lib.Dec.{ltb, eqb}
 use borrow.Author.Tests.{eqb-true}
 use Rattle.model.specs.Table.{REPLY, ARG, SPAN, BODY, operands_in, operands_of}
 use Rattle.model.specs.Command.{Command, is, quaternary, ternary}
-use Rattle.model.specs.Declared.{is_reply, reply_of, is_there, count_of, occurs, in_span}
+use Rattle.model.specs.Declared.{is_reply, reply_of, count_of, occurs, in_span}
 use Rattle.model.proofs.Growth.{occurs-next, span-next, reply-next}
 use Rattle.model.proofs.Logic.{true_false, or_first, or_second, and_left}
 use Rattle.model.proofs.Valid.{limits}
@@ -116,8 +116,8 @@ module _ {t : List ℕ} {past : List Command} {c : Command} (one : Admitted t pa
 
   -- a test of the ranges of a node and a function
   some_range : (test : Item → Bool) (n f : ℕ)
-      → is_there (found_item test (ranges_in (after t c) n f))
-      ≡ ((is_of c n f && test (range_of c)) || is_there (found_item test (ranges_in t n f)))
+      → is_some (found_item test (ranges_in (after t c) n f))
+      ≡ ((is_of c n f && test (range_of c)) || is_some (found_item test (ranges_in t n f)))
   some_range test n f = rw (ranges-next t (after t c) c written-item n f) (some_next test (is_of c n f) (range_of c) (ranges_in t n f))
 
   pub arguments-next : (n f w : ℕ) → listed_in (after t c) ARG n f w w ≡ occurs ARG (ternary n f w) (c ∷ past)

@@ -4,13 +4,12 @@ use Prim.Native.Nat.{ℕ, ◌+◌, ◌-◌, ◌*◌, ◌/◌, ◌%◌, ◌≤◌
 use mathlib.Core.Path.{◌≡◌, refl, ◌∙◌}
 use mathlib.Core.Bool.{Bool, true, false, cond, ◌&&◌, ◌||◌, and-false}
 use mathlib.Core.List.{List, ◌∷◌}
-use Rattle.std.proofs.Common.{Some}
+use Rattle.std.proofs.Common.{Some, is_some}
 use native.Mathlib.Omega.{arith}
 use lib.Dec.{ltb, eqb}
 use borrow.Author.Tests.{ltb-true, ltb-false, lt-ltb, eqb-true, eqb-false, eq-eqb, ne_eqb}
 use Rattle.model.specs.Table.{REPLY}
 use Rattle.model.specs.Command.{Command, is}
-use Rattle.model.specs.Declared.{is_there}
 use Rattle.model.proofs.Logic.{not-both, or_first, or_second, and_left, and_right}
 use Rattle.tables.specs.Bits.{half_of, with_half}
 use Rattle.tables.specs.Cells.{entry_in, half_in, halves_with}
@@ -189,9 +188,9 @@ found-next test false x items = refl
 
 -- whether there is one
 pub some_next : (test : Item → Bool) (here : Bool) (x : Item) (items : List Item)
-    → is_there (found_item test (cond here (x ∷ items) items)) ≡ ((here && test x) || is_there (found_item test items))
+    → is_some (found_item test (cond here (x ∷ items) items)) ≡ ((here && test x) || is_some (found_item test items))
 some_next test here x items = rw (found-next test here x items) (by_test (here && test x))
   where
-    by_test : (b : Bool) → is_there (cond b (Some x) (found_item test items)) ≡ (b || is_there (found_item test items))
+    by_test : (b : Bool) → is_some (cond b (Some x) (found_item test items)) ≡ (b || is_some (found_item test items))
     by_test true = refl
     by_test false = refl

@@ -3,13 +3,13 @@ use Prim.Native.Nat.{ℕ, ◌+◌, ◌*◌, ◌/◌, ◌%◌, ◌≤◌, zero-le
 use mathlib.Core.Path.{◌≡◌, refl, sym, ◌∙◌}
 use mathlib.Core.Bool.{Bool, true, false, cond, and-false}
 use mathlib.Core.List.{[]}
-use Rattle.std.proofs.Common.{None}
+use Rattle.std.proofs.Common.{None, is_some}
 use native.Mathlib.Omega.{arith}
 use lib.Dec.{ltb, eqb}
 use lib.ListN.{replicate, length-replicate, get_or-replicate}
 use borrow.Author.Tests.{ltb-true, ltb-false, le-ltb}
 use Rattle.model.specs.Table.{ARG, SPAN, group_of}
-use Rattle.model.specs.Declared.{count_of, is_there, occurs, in_span, declared, reply_of, open_body, body_length, starts_of, started_in}
+use Rattle.model.specs.Declared.{count_of, occurs, in_span, declared, reply_of, open_body, body_length, starts_of, started_in}
 use Rattle.model.specs.Refusal.{group_falls}
 use Rattle.tables.specs.declared.cells.Section.{Section}
 use Rattle.tables.specs.Cells.{cell_count, entry_in, flag_in, is_mark_place, mark_cell, mark_in, half_in, blank}
@@ -63,7 +63,7 @@ last-blank n f = by_function (ltb f 32)
     by_function true = rw (entry-blank last_range_cells (range_place n f / 2) (omega arith)) (by_half (eqb (range_place n f % 2) 0))
     by_function false = refl
 
-some-blank : (test : Item → Bool) (n f : ℕ) → is_there (found_item test (ranges_in blank n f)) ≡ false
+some-blank : (test : Item → Bool) (n f : ℕ) → is_some (found_item test (ranges_in blank n f)) ≡ false
 unfolding chain_in found_item
 some-blank test n f = rw (last-blank n f)
 

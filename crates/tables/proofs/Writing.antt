@@ -69,10 +69,3 @@ module _ (t : List ℕ) (s : Section) (row column : ℕ) where
   pub marked_beside : row < 128 → 64 ≤ column → mark_at t s row column ≡ t
   unfolding mark_at
   marked_beside h k = rw (lt-ltb row 128 h, le-ltb column 64 k)
-
--- cells that are all 0
-pub blank-each : (t : List ℕ) (i : ℕ) → length t ≡ cell_count → length t ≤ i → ((k : ℕ) → k < i → get_or t k 0 ≡ 0) → t ≡ blank
-unfolding blank
-blank-each t i e h zeros =
-    ext_get_or 0 t _ (e ∙ sym (length-replicate {A = ℕ} cell_count 0))
-    (λ k l. zeros k (omega arith) ∙ sym (get_or-replicate {A = ℕ} cell_count k 0 0 (omega arith)))

@@ -1,7 +1,7 @@
 -- What the tables say: the sections, and the value of each name that a job declares, by the cells.
-use Rattle.std.specs.Prelude.{ℕ, zero, suc, ◌+◌, ◌*◌, ◌/◌, ◌%◌, Bool, cond, ◌&&◌, ◌||◌, List, [], ◌∷◌, ltb, eqb}
+use Rattle.std.specs.Prelude.{ℕ, zero, suc, ◌+◌, ◌*◌, ◌/◌, ◌%◌, Bool, cond, ◌&&◌, ◌||◌, List, [], ◌∷◌, ltb, eqb, is_some}
 use Rattle.std.specs.Prelude.{Option, unwrap_or}
-use Rattle.model.specs.Declared.{only, is_there, is_shared, is_seen}
+use Rattle.model.specs.Declared.{only, is_shared, is_seen}
 use Rattle.tables.specs.declared.cells.Section.{Section}
 use Rattle.tables.specs.Cells.{section, entry_in, flag_in, mark_in, half_in}
 use Rattle.tables.specs.Items.{Item, item, found_item, holds, is_this, is_to, second_of}
@@ -174,11 +174,11 @@ ranges_in t n f = chain_in t (last_range_in t n f) (last_range_in t n f)
 
 -- there is a command with this byte, node, function, low and high
 abbrev pub listed_in : List ℕ → ℕ → ℕ → ℕ → ℕ → ℕ → Bool
-listed_in t b n f low high = is_there (found_item (is_this (item b low high)) (ranges_in t n f))
+listed_in t b n f low high = is_some (found_item (is_this (item b low high)) (ranges_in t n f))
 
 -- a range permits the call with this argument
 abbrev pub in_range_in : List ℕ → ℕ → ℕ → ℕ → Bool
-in_range_in t n f v = is_there (found_item (holds v) (ranges_in t n f))
+in_range_in t n f v = is_some (found_item (holds v) (ranges_in t n f))
 
 -- the call with this argument is permitted
 abbrev pub call_in : List ℕ → ℕ → ℕ → ℕ → Bool

@@ -9,7 +9,7 @@ pub const CELLS: usize = 2720;
 
 // A section: its first cell, and how many cells it has.
 #[derive(Clone, Copy)]
-pub struct Section(pub usize, pub usize);
+pub struct Section(pub u16, pub u16);
 
 // By command byte: how many commands.
 pub const COUNTS: Section = Section(0, 128);
@@ -56,11 +56,10 @@ pub const LAST_RANGE: Section = Section(2208, 512);
 
 // Cell i of a section.
 pub fn entry(tables: &[u32], s: Section, i: usize) -> u32
-    requires { s.0 + s.1 ≤ cell_count }
     ensures { result ≡ entry_in tables.now s i }
 {
-    let base = s.0;
-    let size = s.1;
+    let base = s.0 as usize;
+    let size = s.1 as usize;
     if i < size {
         let at = base + i;
         if at < tables.len() {
@@ -72,11 +71,10 @@ pub fn entry(tables: &[u32], s: Section, i: usize) -> u32
 
 // Sets cell i of a section.
 pub fn put(tables: &mut [u32], s: Section, i: usize, x: u32)
-    requires { s.0 + s.1 ≤ cell_count }
     ensures { tables.new ≡ put_in tables.old s i x }
 {
-    let base = s.0;
-    let size = s.1;
+    let base = s.0 as usize;
+    let size = s.1 as usize;
     if i < size {
         let at = base + i;
         if at < tables.len() {
@@ -87,7 +85,6 @@ pub fn put(tables: &mut [u32], s: Section, i: usize, x: u32)
 
 // Whether cell i of a section is not 0.
 pub fn flagged(tables: &[u32], s: Section, i: usize) -> bool
-    requires { s.0 + s.1 ≤ cell_count }
     ensures { result ≡ flag_in tables.now s i }
 {
     let x = entry(tables, s, i);
@@ -96,7 +93,6 @@ pub fn flagged(tables: &[u32], s: Section, i: usize) -> bool
 
 // Whether there is a mark at a row and a column of a section with 64 marks a row, 32 a cell.
 pub fn marked(tables: &[u32], s: Section, row: usize, column: usize) -> bool
-    requires { s.0 + s.1 ≤ cell_count }
     ensures { result ≡ mark_in tables.now s row column }
 {
     if row < 128 {
@@ -110,7 +106,6 @@ pub fn marked(tables: &[u32], s: Section, row: usize, column: usize) -> bool
 
 // The first 32 marks of a row of such a section, as the bits of a number.
 pub fn marks_of(tables: &[u32], s: Section, row: usize) -> u32
-    requires { s.0 + s.1 ≤ cell_count }
     ensures { (k : ℕ) → k < 32 → bit_of result k ≡ mark_in tables.now s row k }
 {
     if row < 128 {
@@ -121,7 +116,6 @@ pub fn marks_of(tables: &[u32], s: Section, row: usize) -> u32
 
 // Makes a mark at a row and a column of such a section.
 pub fn mark(tables: &mut [u32], s: Section, row: usize, column: usize)
-    requires { s.0 + s.1 ≤ cell_count }
     ensures { tables.new ≡ mark_at tables.old s row column }
 {
     if row < 128 {
@@ -135,7 +129,6 @@ pub fn mark(tables: &mut [u32], s: Section, row: usize, column: usize)
 
 // Half i of a section with two halves a cell.
 pub fn half(tables: &[u32], s: Section, i: usize) -> u32
-    requires { s.0 + s.1 ≤ cell_count }
     ensures { result ≡ half_in tables.now s i }
 {
     let x = entry(tables, s, i / 2);
@@ -144,7 +137,6 @@ pub fn half(tables: &[u32], s: Section, i: usize) -> u32
 
 // Sets half i of such a section.
 pub fn put_half(tables: &mut [u32], s: Section, i: usize, h: u32)
-    requires { s.0 + s.1 ≤ cell_count }
     ensures { tables.new ≡ put_half tables.old s i h }
 {
     let x = entry(tables, s, i / 2);
@@ -156,9 +148,5 @@ pub fn clear(tables: &mut [u32])
     requires { length tables.old ≡ cell_count }
     ensures { tables.new ≡ blank }
 {
-    let mut i = 0;
-    while i < tables.len() {
-        tables[i] = 0;
-        i += 1;
-    }
+    tables.fill(0);
 }

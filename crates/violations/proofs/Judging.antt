@@ -3,7 +3,7 @@ use Prim.Native.Nat.{ℕ, zero, suc, ◌-◌}
 use mathlib.Core.Path.{◌≡◌, refl, sym, ◌∙◌}
 use mathlib.Core.Bool.{Bool, true, false, cond, not, ◌&&◌, ◌||◌, or-false}
 use mathlib.Core.List.{List, [], ◌∷◌}
-use Rattle.std.proofs.Common.{None}
+use Rattle.std.proofs.Common.{None, is_some}
 use native.Mathlib.Omega.{arith}
 use lib.Dec.{ltb, leb, eqb}
 use lib.ListN.{get_or}
@@ -11,7 +11,7 @@ use borrow.Author.Tests.{eqb-true, ne_eqb}
 use Rattle.model.specs.Table.{FLOW, NODE, VAR, FUN, REPLY, WIRE, ANY, ARG, READ, WRITE, SPAN, BODY, GET, PUT, PLUS, START, operands_in}
 use Rattle.model.specs.Table.{operands_of, is_range_byte, kind_at, start, answer, value, jump, low, high, argument, absent, group_of}
 use Rattle.model.specs.Command.{Command, Operands, quaternary, ternary, binary}
-use Rattle.model.specs.Declared.{count_among, occurs, open_body, flow_of, is_there, sees, started_in}
+use Rattle.model.specs.Declared.{count_among, occurs, open_body, flow_of, sees, started_in}
 use Rattle.model.specs.Refusal.{any_of, is_reached, exceeds_count, Counts, names_nothing, undeclared, out_of_reach, must_differ, repeated}
 use Rattle.model.specs.Refusal.{empty_span, violation}
 use Rattle.model.specs.Valid.{Plain}
@@ -276,7 +276,7 @@ module _ (t : List ℕ) (c : Code) (past : List Command) (s : Stands t past) whe
     start-same r f e p q = rw (any_next, any_next, any_last, e, q, p, s.flow c.first, s.started (flow_of past c.first))
         (sym (or-false (started_in past (flow_of past c.first))))
 
-    pub reply-same : (r : Bool) → c.byte ≡ REPLY → r ≡ is_there (reply_in t c.first c.second) → r ≡ repeated past (command_of c)
+    pub reply-same : (r : Bool) → c.byte ≡ REPLY → r ≡ is_some (reply_in t c.first c.second) → r ≡ repeated past (command_of c)
     reply-same r e q = rw (any_next, any_next, any_last, e, q, s.replies c.first c.second)
 
     pub other-same :

@@ -8,4 +8,4 @@ returns-then-may_call_any c = rw (sym c.may_call_any.ensures ∙ c.if-may_call_a
 pub returns : goal.returns
 returns c = rw (sym c.may_call_any.ensures ∙ c.if-may_call_any.false)
     (rw c.last_range-last.ensures at
-    (c.is_found.ensures ∙ found-there _ _ _ c.find.result c.find.ensures))
+    (c.is_some.ensures ∙ found-there _ _ _ c.find.result c.find.ensures))

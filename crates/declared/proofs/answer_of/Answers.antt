@@ -1,7 +1,7 @@
 use Rattle.declared.proofs.answer_of.Goals as goal
 
-pub returns-in-Second : goal.returns-in-Second
-returns-in-Second c = rw (← c.reply_to.ensures, c.in-Second.is)
+pub returns-in-Some : goal.returns-in-Some
+returns-in-Some c = rw (← c.reply_to.ensures, c.in-Some.is)
 
-pub returns-in-Nothing : goal.returns-in-Nothing
-returns-in-Nothing c = rw (← c.reply_to.ensures, c.in-Nothing.is) c.entry.ensures
+pub returns-in-None : goal.returns-in-None
+returns-in-None c = rw (← c.reply_to.ensures, c.in-None.is) c.entry.ensures

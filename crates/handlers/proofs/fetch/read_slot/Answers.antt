@@ -7,4 +7,4 @@ returns-then-work-at c = no_slot c.args.job.now c.args.work.now c.args.n.0 c.arg
 
 pub returns : goal.returns
 returns c = from_bytes c.args.job.now c.args.work.now c.args.n.0 c.args.position _ _ _ _ c.slot_of-at.ensures
-    (omega (arith, c.if-work-at.false)) c.wide-low.ensures.0 c.wide-high.ensures.0 c.read_instruction.ensures
+    (omega (arith, c.if-work-at.false)) c.from-low.ensures c.from-high.ensures c.read_instruction.ensures

@@ -8,14 +8,11 @@ use Rattle.handlers.proofs.load.load.Goals as goal
 pub loop-at-init : goal.loop-at-init
 loop-at-init c = keeping_start _ _ _ (accepted-is _ c.requires)
 
-pub read_head-read-requires : goal.read_head-read-requires
-read_head-read-requires c = c.loop-at-test.true
-
 pub returns-in_default : goal.returns-in_default
-returns-in_default c = keeping_reads c.loop-at.invariant c.loop-at-test.true _ c.read_head-read.ensures c.in_default.is
+returns-in_default c = keeping_reads c.loop-at.invariant c.loop-at-test.true c.in_default.ensures
 
 pub returns-then-c-gt-HANDLER_GROUP : goal.returns-then-c-gt-HANDLER_GROUP
-returns-then-c-gt-HANDLER_GROUP c = let r = head_read _ _ _ c.read_head-read.ensures c.in-Whole.c c.in-Whole.is in
+returns-then-c-gt-HANDLER_GROUP c = let r = head_read _ _ _ c.in-Some.ensures in
     keeping_behind c.loop-at.invariant c.loop-at-test.true r.command _ r.is_read
     (rw r.group at c.if-c-gt-HANDLER_GROUP.true)
 
@@ -23,11 +20,11 @@ pub index_after-index-requires : goal.index_after-index-requires
 index_after-index-requires c = omega (arith, keeping_position c.loop-at.invariant)
 
 pub loop-at-smaller : goal.loop-at-smaller
-loop-at-smaller c = let r = head_read _ _ _ c.read_head-read.ensures c.in-Whole.c c.in-Whole.is in
+loop-at-smaller c = let r = head_read _ _ _ c.in-Some.ensures in
     omega (arith, (read_at _ _ _ _ r.is_read).later, c.loop-at-test.true)
 
 pub loop-at-preserved : goal.loop-at-preserved
-loop-at-preserved c = let r = head_read _ _ _ c.read_head-read.ensures c.in-Whole.c c.in-Whole.is in
+loop-at-preserved c = let r = head_read _ _ _ c.in-Some.ensures in
     keeping_on c.loop-at.invariant c.loop-at-test.true r.command _ r.is_read _ _ r.byte r.first _ _ _
     c.keep.ensures c.index_after-index.ensures c.open_after-opened.ensures
 
