@@ -2,7 +2,7 @@
 use Prim.Native.Nat.{ℕ, suc, ◌+◌, ◌≤◌, ◌<◌}
 use mathlib.Core.Path.{◌≡◌, refl, sym, ◌∙◌}
 use mathlib.Core.List.{List, [], ◌∷◌}
-use Rattle.std.proofs.Common.{Some}
+use Rattle.std.proofs.Common.{Some, Ok, Err}
 use native.Mathlib.Omega.{arith}
 use lib.ListN.{length}
 use Rattle.model.specs.Command.{Command, Parsed as ParsedAs, whole, unknown, cut_short, read_command}
@@ -11,17 +11,36 @@ use Rattle.model.specs.Valid.{Valid, Plain}
 use Rattle.model.proofs.Reading.{read_at}
 use Rattle.model.proofs.Decoding.{decode_end, decode-unknown, decode-short, decode-refused, decode-on, decoding_start, fuel-left}
 use Rattle.command.specs.declared.read.Command.{Command as Code}
+use Rattle.command.specs.declared.refusal.Reason.{Reason}
+use Rattle.command.specs.declared.refusal.Reason.TheVariants as r
 use Rattle.command.specs.declared.refusal.Refusal.{Refusal}
-use Rattle.command.specs.Reading.{command_of, refusal_of, refusal_at}
+use Rattle.command.specs.Refusals.{number_of, refusal_of}
+use Rattle.command.specs.Reading.{command_of, refusal_at}
 use Rattle.tables.specs.Cells.{blank}
 use Rattle.tables.specs.Stands.{Stands}
 use Rattle.tables.proofs.Blank.{stands-blank}
 use Rattle.uses.specs.Uses.{Uses}
-use Rattle.job.specs.declared.walk.Continuation.{Continuation}
-use Rattle.job.specs.declared.walk.Continuation.TheVariants as s
-use Rattle.job.specs.declared.Verdict.TheVariants as v
-use Rattle.job.specs.Decoding.{Onward, Continues, Walks}
+use Rattle.job.specs.Decoding.{Onward, Walks}
 use Rattle.job.proofs.Judged.{walk_accepts, walk_refuses}
+
+-- no test has number 0
+reason-counts : (r : Reason) → ¬ (number_of r ≡ 0)
+reason-counts r.Length e = absurd (omega arith)
+reason-counts r.UnknownByte e = absurd (omega arith)
+reason-counts r.CutShort e = absurd (omega arith)
+reason-counts r.LowerGroup e = absurd (omega arith)
+reason-counts r.CountExceeded e = absurd (omega arith)
+reason-counts r.Undeclared e = absurd (omega arith)
+reason-counts r.OutOfReach e = absurd (omega arith)
+reason-counts r.Repeated e = absurd (omega arith)
+reason-counts r.FarJump e = absurd (omega arith)
+reason-counts r.ShortTrace e = absurd (omega arith)
+reason-counts r.ShortSnapshot e = absurd (omega arith)
+reason-counts r.ShortWork e = absurd (omega arith)
+reason-counts r.BadBudget e = absurd (omega arith)
+reason-counts r.WrittenTurn e = absurd (omega arith)
+reason-counts r.EmptySpan e = absurd (omega arith)
+reason-counts r.UnusedPermission e = absurd (omega arith)
 
 module _ (job : List ℕ) (place : ℕ) (inside : place < length job) (past : List Command) where
   -- 2 and 3
@@ -39,13 +58,13 @@ module _ (job : List ℕ) (place : ℕ) (inside : place < length job) (past : Li
     read_plain = (read_at job place (command_of c) next read).plain
 
     -- 4 to 8 and 15
-    pub step-refused : (k : ℕ) → k ≡ violation past (command_of c) → ¬ (k ≡ 0) → (fuel : ℕ)
-        → decode_from (suc fuel) job place past ≡ rejected (refuse k place)
-    step-refused k v n fuel = decode-refused fuel job place past inside (command_of c) next k read (sym v) n
+    pub step-refused : (r : Reason) → number_of r ≡ violation past (command_of c) → (fuel : ℕ)
+        → decode_from (suc fuel) job place past ≡ rejected (refuse (number_of r) place)
+    step-refused r v fuel = decode-refused fuel job place past inside (command_of c) next (number_of r) read (sym v) (reason-counts r)
 
     -- a command that passes
-    pub step-valid : (k : ℕ) → k ≡ violation past (command_of c) → k ≡ 0 → Valid past → Valid (command_of c ∷ past)
-    step-valid k v z valid = (valid, read_plain, sym v ∙ z)
+    pub step-valid : 0 ≡ violation past (command_of c) → Valid past → Valid (command_of c ∷ past)
+    step-valid v valid = (valid, read_plain, sym v)
 
     pub step-on : (t u : List ℕ) → Stands t (command_of c ∷ past) → Uses u (command_of c ∷ past) → Valid (command_of c ∷ past)
         → Onward job place past t u next
@@ -60,15 +79,6 @@ module _ (job : List ℕ) (place : ℕ) (inside : place < length job) (past : Li
           inside = r.inside;
           same = λ fuel. decode-on fuel job place past inside (command_of c) next read valid.2;
         }
-
--- a step, by the code's answer
-module _ (job : List ℕ) (place : ℕ) (past : List Command) (t u : List ℕ) (r : Continuation) (continues : Continues job place past t u r)
-  where
-    pub steps_next : (next : ℕ) → r ≡ s.Next next → Onward job place past t u next
-    steps_next next e = rw e at continues
-
-    pub steps-stop : (q : Refusal) → r ≡ s.Refused q → (fuel : ℕ) → decode_from (suc fuel) job place past ≡ rejected (refusal_of q)
-    steps-stop q e = rw e at continues
 
 -- what the loop keeps
 pub record Going (job t u : List ℕ) (place : ℕ) : Type 0 where
@@ -98,7 +108,7 @@ going_start job t u n l e uses =
     }
 
 module _ (job t u : List ℕ) (place : ℕ) (g : Going job t u place) where
-  pub going_end : length job ≤ place → Walks (decode job) t u v.Accepted
+  pub going_end : length job ≤ place → Walks (decode job) t u (Ok tt)
   going_end h = walk_accepts (decode job) t u g.past (sym g.goes_on ∙ decode_end g.fuel job place g.past h) g.stands g.uses
 
   module _ (h : place < length job) where
@@ -106,7 +116,7 @@ module _ (job t u : List ℕ) (place : ℕ) (g : Going job t u place) where
     left = let f = fuel-left job place g.fuel h g.enough in (f.0, rw f.1 at g.goes_on, f.1)
 
     pub going-stop : (t₁ u₁ : List ℕ) (r : Refusal) → ((fuel : ℕ) → decode_from (suc fuel) job place g.past ≡ rejected (refusal_of r))
-        → Walks (decode job) t₁ u₁ (v.Refused r)
+        → Walks (decode job) t₁ u₁ (Err r)
     going-stop t₁ u₁ r e = walk_refuses (decode job) t₁ u₁ r (sym left.1 ∙ e left.0)
 
     pub going_on : (t₁ u₁ : List ℕ) (next : ℕ) → Onward job place g.past t₁ u₁ next → Going job t₁ u₁ next

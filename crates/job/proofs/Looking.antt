@@ -19,9 +19,7 @@ use Rattle.model.proofs.Reading.{read_at, number-one}
 use Rattle.model.proofs.Growth.{open_next}
 use Rattle.model.proofs.Scanning.{Scanning, scanning-start, scanning_end, scanning-reads, scanning-found, scanning-on, scanning-behind}
 use Rattle.model.proofs.Scanning.{first_of_none, refuse-on}
-use Rattle.command.specs.declared.read.HeadParsed.{HeadParsed}
-use Rattle.command.specs.declared.read.HeadParsed.TheVariants as heads
-use Rattle.command.specs.Reading.{head_of, head_in}
+use Rattle.command.specs.Reading.{head_in}
 use Rattle.command.proofs.Taken.{head_there}
 use Rattle.tables.specs.declared.cells.Section.{Section}
 use Rattle.tables.specs.Cells.{mark_in}
@@ -132,8 +130,8 @@ module _ {job : List ℕ} {all : List Command} {place opened unused : ℕ} (l : 
 
   module _ (h : place < length job) where
     -- a whole command is read
-    pub looking_reads : {A : Type 0} (p : HeadParsed) → head_of p ≡ head_in (read_command job place) → p ≡ heads.Refused → A
-    looking_reads p same e = let r = scanning-reads l.scanning h in head_there job place p same r.0 r.1 r.2 e
+    pub looking_reads : {A : Type 0} → None ≡ head_in (read_command job place) → A
+    looking_reads e = let r = scanning-reads l.scanning h in head_there job place r.0 r.1 r.2 e
 
     module _ (c : Command) (next : ℕ) (read : read_command job place ≡ whole c next) where
       -- neither a jump nor a permission stands behind a command of a group above 4

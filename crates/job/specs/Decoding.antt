@@ -1,22 +1,19 @@
 -- What the code's steps and verdicts say, in the model's words.
 use Rattle.std.specs.Prelude.{ℕ, suc, ◌≤◌, ◌<◌, ◌≡◌, cond, List, ◌∷◌, ltb, length}
-use Rattle.std.specs.Prelude.{Option, None, Some}
+use Rattle.std.specs.Prelude.{Option, None, Some, Result, Ok, Err}
 use Rattle.model.specs.Command.{Command}
 use Rattle.model.specs.Refusal.{Refusal, refuse, Decoded, accepted, rejected, decode_from}
 use Rattle.model.specs.Valid.{Valid}
-use Rattle.command.specs.Reading.{refusal_of}
+use Rattle.command.specs.declared.refusal.Refusal.{Refusal as Refused}
+use Rattle.command.specs.Refusals.{refusal_of}
 use Rattle.tables.specs.Cells.{blank}
 use Rattle.tables.specs.Stands.{Stands}
 use Rattle.uses.specs.Uses.{Uses}
-use Rattle.job.specs.declared.walk.Continuation.{Continuation}
-use Rattle.job.specs.declared.walk.Continuation.TheVariants as s
-use Rattle.job.specs.declared.Verdict.{Verdict}
-use Rattle.job.specs.declared.Verdict.TheVariants as v
 
 -- the refusal that a verdict of the code stands for; none if it accepts
-abbrev pub verdict_of : Verdict → Option Refusal
-verdict_of v.Accepted = None
-verdict_of (v.Refused r) = Some (refusal_of r)
+abbrev pub verdict_of : Result (Unit {0}) Refused → Option Refusal
+verdict_of (Ok x) = None
+verdict_of (Err r) = Some (refusal_of r)
 
 -- the refusal of a job of this length whose first unused permission stands at this place; none if that is its length
 abbrev pub unused_at : ℕ → ℕ → Option Refusal
@@ -38,21 +35,21 @@ pub record Onward (job : List ℕ) (place : ℕ) (past : List Command) (t u : Li
   pub same : (fuel : ℕ) → decode_from (suc fuel) job place past ≡ decode_from fuel job next (command ∷ past)
 
 -- a step from a place: one command further, or the refusal of the job
-abbrev pub Continues : List ℕ → ℕ → List Command → List ℕ → List ℕ → Continuation → Type 0
-Continues job place past t u (s.Next next) = Onward job place past t u next
-Continues job place past t u (s.Refused r) = (fuel : ℕ) → decode_from (suc fuel) job place past ≡ rejected (refusal_of r)
+abbrev pub Continues : List ℕ → ℕ → List Command → List ℕ → List ℕ → Result ℕ Refused → Type 0
+Continues job place past t u (Ok next) = Onward job place past t u next
+Continues job place past t u (Err r) = (fuel : ℕ) → decode_from (suc fuel) job place past ≡ rejected (refusal_of r)
 
 -- the verdict is the model's, and the tables stand for the commands of an accepted job
-pub record Verdicts (d : Decoded) (t : List ℕ) (r : Verdict) : Type 0 where
+pub record Verdicts (d : Decoded) (t : List ℕ) (r : Result (Unit {0}) Refused) : Type 0 where
   pub verdict : verdict_of r ≡ refusal_in d
   pub tables : (past : List Command) → d ≡ accepted past → Stands t past
 
 -- the same, and the cells of the uses say what the handlers of an accepted job use
-pub record Walks (d : Decoded) (t u : List ℕ) (r : Verdict) : Type 0 where
+pub record Walks (d : Decoded) (t u : List ℕ) (r : Result (Unit {0}) Refused) : Type 0 where
   pub verdicts : Verdicts d t r
   pub uses : (past : List Command) → d ≡ accepted past → Uses u past
 
 -- the verdict is the model's, and a refused job leaves blank tables
-pub record Decides (d : Decoded) (t : List ℕ) (r : Verdict) : Type 0 where
+pub record Decides (d : Decoded) (t : List ℕ) (r : Result (Unit {0}) Refused) : Type 0 where
   pub judged : Verdicts d t r
   pub cleared : (q : Refusal) → d ≡ rejected q → t ≡ blank

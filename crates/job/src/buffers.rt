@@ -8,10 +8,10 @@ ghost use Rattle.model.specs.Refusal.{accepted, decode_job, sizes, short_buffer_
 ghost use Rattle.job.specs.Decoding.{verdict_of, Decides};
 ghost use Rattle.job.specs.Scheduling.{budget_refusal, schedule_refusal, decode_by};
 
-use crate::schedule::{Schedule, less};
-use crate::{Verdict, decode};
+use crate::decode;
+use crate::schedule::Schedule;
 use command::bytes;
-use command::refusal::Refusal;
+use command::refusal::{Reason, Refusal};
 use declared::count_of;
 use tables::cells::{CELLS, clear};
 
@@ -24,45 +24,51 @@ pub const WORK: usize = 4096;
 const BUDGET: u64 = 4096;
 
 // The tests 10 to 12: a job of this length, with buffers of these lengths, for so many turns.
-fn check_buffers(size: usize, turns: usize, trace: usize, snapshot: usize, work: usize) -> Verdict
+fn check_buffers(
+    size: usize,
+    turns: usize,
+    trace: usize,
+    snapshot: usize,
+    work: usize,
+) -> Result<(), Refusal>
     requires { turns < 4294967296 }
     ensures { (job : List ℕ) → length job ≡ size → verdict_of result ≡ short_buffer_for job (sizes trace snapshot work) turns }
 {
     if trace < 7 * turns {
-        return Verdict::Refused(Refusal {
-            number: 10,
+        return Err(Refusal {
+            reason: Reason::ShortTrace,
             place: size,
         });
     }
     if snapshot < SNAPSHOT {
-        return Verdict::Refused(Refusal {
-            number: 11,
+        return Err(Refusal {
+            reason: Reason::ShortSnapshot,
             place: size,
         });
     }
     if work < WORK {
-        return Verdict::Refused(Refusal {
-            number: 12,
+        return Err(Refusal {
+            reason: Reason::ShortWork,
             place: size,
         });
     }
-    Verdict::Accepted
+    Ok(())
 }
 
 // Test 13 (S-2): a budget that is 0 or above 4,096.
-fn check_budget(schedule: Schedule) -> Verdict
+fn check_budget(schedule: Schedule) -> Result<(), Refusal>
     ensures { verdict_of result ≡ budget_refusal schedule }
 {
     match schedule {
-        Schedule::Written => Verdict::Accepted,
+        Schedule::Written => Ok(()),
         Schedule::Dispatched(budget) => {
             if (budget == 0) | (BUDGET < budget) {
-                return Verdict::Refused(Refusal {
-                    number: 13,
+                return Err(Refusal {
+                    reason: Reason::BadBudget,
                     place: 0,
                 });
             }
-            Verdict::Accepted
+            Ok(())
         }
     }
 }
@@ -75,7 +81,7 @@ fn check_schedule(
     trace: usize,
     snapshot: usize,
     work: usize,
-) -> Verdict
+) -> Result<(), Refusal>
     requires { budget_refusal schedule ≡ None }
     ensures { (job : List ℕ) (past : List Command) → decode_job job ≡ accepted past → length job ≡ size → count_of TURN past ≡ turns
         → verdict_of result ≡ schedule_refusal schedule job (sizes trace snapshot work) past }
@@ -84,9 +90,9 @@ fn check_schedule(
         Schedule::Written => check_buffers(size, turns as usize, trace, snapshot, work),
         Schedule::Dispatched(budget) => {
             if turns != 0 {
-                return Verdict::Refused(Refusal {
-                    number: 14,
-                    place: less(size, 2 * (turns as usize)),
+                return Err(Refusal {
+                    reason: Reason::WrittenTurn,
+                    place: size.saturating_sub(2 * (turns as usize)),
                 });
             }
             check_buffers(size, budget as usize, trace, snapshot, work)
@@ -102,25 +108,17 @@ fn judge_under(
     trace: usize,
     snapshot: usize,
     work: usize,
-) -> Verdict
+) -> Result<(), Refusal>
     requires { budget_refusal schedule ≡ None }
     ensures { Decides (decode_by schedule job.now (sizes trace snapshot work)) tables.new result }
 {
-    let decoded = decode(job, tables);
-    match decoded {
-        Verdict::Refused(r) => Verdict::Refused(r),
-        Verdict::Accepted => {
-            let turns = count_of(tables, bytes::TURN);
-            let checked = check_schedule(schedule, job.len(), turns, trace, snapshot, work);
-            match checked {
-                Verdict::Refused(r) => {
-                    clear(tables);
-                    Verdict::Refused(r)
-                }
-                Verdict::Accepted => Verdict::Accepted,
-            }
-        }
+    decode(job, tables)?;
+    let turns = count_of(tables, bytes::TURN);
+    if let Err(refusal) = check_schedule(schedule, job.len(), turns, trace, snapshot, work) {
+        clear(tables);
+        return Err(refusal);
     }
+    Ok(())
 }
 
 // The verdict on a job of any length, its turns given in either way, with buffers of any lengths, whatever the tables held before: an
@@ -132,15 +130,12 @@ pub fn judge(
     trace: usize,
     snapshot: usize,
     work: usize,
-) -> Verdict
+) -> Result<(), Refusal>
     ensures { Decides (decode_by schedule job.now (sizes trace snapshot work)) tables.new result }
 {
-    let budgeted = check_budget(schedule);
-    match budgeted {
-        Verdict::Refused(r) => {
-            clear(tables);
-            Verdict::Refused(r)
-        }
-        Verdict::Accepted => judge_under(job, schedule, tables, trace, snapshot, work),
+    if let Err(refusal) = check_budget(schedule) {
+        clear(tables);
+        return Err(refusal);
     }
+    judge_under(job, schedule, tables, trace, snapshot, work)
 }

@@ -7,11 +7,10 @@ ghost use Rattle.tables.specs.Stands.{Stands};
 ghost use Rattle.uses.specs.Uses.{Uses, unused_in};
 ghost use Rattle.job.specs.Decoding.{verdict_of, unused_at};
 
-use crate::Verdict;
 use command::bytes;
 use command::numbers::NodeNum;
-use command::read::{Head, HeadParsed, open_after, read_head, wide};
-use command::refusal::Refusal;
+use command::read::{Head, open_after, read_head};
+use command::refusal::{Reason, Refusal};
 use declared::length_of;
 use uses::is_unused;
 
@@ -28,7 +27,7 @@ fn second_of(job: &[u8], at: usize) -> u32
     ensures { result ≡ get_or job.now (at + 2) 0 }
 {
     if 2 < job.len() - at {
-        return wide(job[at + 2]);
+        return u32::from(job[at + 2]);
     }
     0
 }
@@ -50,18 +49,21 @@ fn first_unused(job: &[u8], uses: &[u32], at: usize, c: Head, before: usize) -> 
 }
 
 // 19 at the place of the first unused permission of a job of this length, if there is one.
-fn refuse_unused(size: usize, place: usize) -> Verdict
+fn refuse_unused(size: usize, place: usize) -> Result<(), Refusal>
     ensures { verdict_of result ≡ unused_at size place }
 {
     if place < size {
-        return Verdict::Refused(Refusal { number: 19, place });
+        return Err(Refusal {
+            reason: Reason::UnusedPermission,
+            place,
+        });
     }
-    Verdict::Accepted
+    Ok(())
 }
 
 // 9: refused at the first jump whose target exceeds its handler's command count. 19: if there is none, refused at the first permission that
 // its node's handler has no command for. Neither stands behind a command of a group above 4.
-pub(crate) fn check_later(job: &[u8], tables: &[u32], uses: &[u32]) -> Verdict
+pub(crate) fn check_later(job: &[u8], tables: &[u32], uses: &[u32]) -> Result<(), Refusal>
     ensures { (all : List Past) → decode job.now ≡ accepted all → Stands tables.now all
         → Uses uses.now all → verdict_of result ≡ first_of (far_jump all) (unused_permission all) }
 {
@@ -69,17 +71,16 @@ pub(crate) fn check_later(job: &[u8], tables: &[u32], uses: &[u32]) -> Verdict
     let mut opened = NodeNum(0);
     let mut unused = job.len();
     while at < job.len() {
-        let read = read_head(job, at);
-        let HeadParsed::Whole(c) = read else {
-            return Verdict::Accepted;
+        let Some(c) = read_head(job, at) else {
+            return Ok(());
         };
         if bytes::HANDLER_GROUP < c.group {
             return refuse_unused(job.len(), unused);
         }
         let len = length_of(tables, opened);
         if is_far(c, len) {
-            return Verdict::Refused(Refusal {
-                number: 9,
+            return Err(Refusal {
+                reason: Reason::FarJump,
                 place: at,
             });
         }

@@ -16,36 +16,23 @@ use later::check_later;
 use tables::cells::{CELLS, clear};
 use walk::walk;
 
-// The verdict on a job.
-#[derive(Clone, Copy)]
-pub enum Verdict {
-    Accepted,
-    Refused(Refusal),
-}
-
-// The tests 1 to 9, 15 and 19: the verdict, and the tables of an accepted job.
-fn judge_commands(job: &[u8], tables: &mut [u32]) -> Verdict
+// The tests 1 to 9, 15 and 19: the verdict on a job, accepted or refused, and the tables of an accepted one.
+fn judge_commands(job: &[u8], tables: &mut [u32]) -> Result<(), Refusal>
     requires { length tables.old ≡ cell_count }
     ensures { Verdicts (decode_job job.now) tables.new result }
 {
     let mut uses = [0; uses::CELLS];
-    let walked = walk(job, tables, &mut uses);
-    match walked {
-        Verdict::Refused(r) => Verdict::Refused(r),
-        Verdict::Accepted => check_later(job, tables, &uses),
-    }
+    walk(job, tables, &mut uses)?;
+    check_later(job, tables, &uses)
 }
 
 // The verdict on a job of any length, whatever the tables held before: an accepted job leaves its tables, a refused one blank ones.
-pub fn decode(job: &[u8], tables: &mut [u32; CELLS]) -> Verdict
+pub fn decode(job: &[u8], tables: &mut [u32; CELLS]) -> Result<(), Refusal>
     ensures { Decides (decode_job job.now) tables.new result }
 {
-    let judged = judge_commands(job, tables);
-    match judged {
-        Verdict::Refused(r) => {
-            clear(tables);
-            Verdict::Refused(r)
-        }
-        Verdict::Accepted => Verdict::Accepted,
+    if let Err(refusal) = judge_commands(job, tables) {
+        clear(tables);
+        return Err(refusal);
     }
+    Ok(())
 }

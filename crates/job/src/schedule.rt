@@ -1,12 +1,11 @@
 // How the turns of a run are given; the turns of an accepted job are its last commands, 2 bytes each.
-ghost use Rattle.std.specs.Prelude.{◌≡◌, ◌-◌, ◌*◌};
+ghost use Rattle.std.specs.Prelude.{◌≡◌};
 ghost use Rattle.std.specs.Prelude.{None};
 ghost use Rattle.job.specs.Prepared.{turn_in};
 ghost use Rattle.job.specs.Scheduling.{budget_refusal, turns_by};
 
 use command::bytes;
 use command::numbers::NodeNum;
-use command::read::wide;
 use declared::count_of;
 
 // How the turns of a run are given: as the TURN commands of the job, or chosen by the dispatcher (S-2), with a budget of turns.
@@ -16,27 +15,17 @@ pub enum Schedule {
     Dispatched(u64),
 }
 
-// a less b, and 0 where b is larger.
-pub(crate) fn less(a: usize, b: usize) -> usize
-    ensures { result ≡ a - b }
-{
-    if b < a {
-        return a - b;
-    }
-    0
-}
-
 // The node of turn k, counted from 0, of the job that the tables stand for; node 0 after the last turn.
 pub fn turn_at(job: &[u8], tables: &[u32], k: u32) -> NodeNum
     ensures { result.0 ≡ turn_in job.now tables.now k }
 {
     let count = count_of(tables, bytes::TURN) as usize;
-    let first = less(job.len(), 2 * count);
+    let first = job.len().saturating_sub(2 * count);
     let offset = 2 * (k as usize) + 1;
-    let left = less(job.len(), first);
+    let left = job.len().saturating_sub(first);
     if offset < left {
         let at = first + offset;
-        return NodeNum(wide(job[at]));
+        return NodeNum(u32::from(job[at]));
     }
     NodeNum(0)
 }

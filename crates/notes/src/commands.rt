@@ -7,7 +7,7 @@ ghost use Rattle.tables.specs.Tables.{count_in, open_in, flow_in, length_in, flo
 ghost use Rattle.tables.specs.Tables.{length_cells, progress_cells, body_cells, started_cells, first_cells, message_cells};
 ghost use Rattle.tables.specs.Writes.{one_more};
 
-use crate::{one_less, one_more};
+use crate::one_more;
 use command::bytes;
 use command::numbers::NodeNum;
 use command::read::Command;
@@ -22,7 +22,7 @@ pub(crate) fn note_node(tables: &mut [u32])
 {
     let flows = count_of(tables, bytes::FLOW);
     let nodes = count_of(tables, bytes::NODE) as usize;
-    put(tables, cells::FLOW, nodes, one_less(flows));
+    put(tables, cells::FLOW, nodes, flows.saturating_sub(1));
 }
 
 // Scope, owner and start of the next variable.

@@ -4,7 +4,7 @@
 mod chains;
 mod commands;
 
-ghost use Rattle.std.specs.Prelude.{◌≡◌, ◌-◌};
+ghost use Rattle.std.specs.Prelude.{◌≡◌};
 ghost use Rattle.command.specs.Reading.{command_of};
 ghost use Rattle.notes.specs.Notes.{Notes};
 ghost use Rattle.tables.specs.Writes.{command_writes, one_more, written};
@@ -26,16 +26,6 @@ pub(crate) fn one_more(n: u32) -> u32
         return n + 1;
     }
     n
-}
-
-// One less, and 0 for 0.
-pub(crate) fn one_less(n: u32) -> u32
-    ensures { result ≡ n - 1 }
-{
-    if 0 < n {
-        return n - 1;
-    }
-    0
 }
 
 // Notes what a command says besides its byte and group: nothing, for FLOW and TURN.

@@ -7,15 +7,17 @@ ghost use Rattle.model.specs.Command.{Command as Past};
 ghost use Rattle.model.specs.Refusal.{exceeds_count, no_owner, names_nothing, undeclared, out_of_reach, repeated, empty_span};
 ghost use Rattle.model.specs.Refusal.{violation};
 ghost use Rattle.model.specs.Valid.{Plain};
-ghost use Rattle.command.specs.Rows.{kind_of};
+ghost use Rattle.command.specs.Rows.{kind_meant};
 ghost use Rattle.command.specs.Reading.{command_of, Known};
 ghost use Rattle.tables.specs.Tables.{count_in, item_count_in};
 ghost use Rattle.tables.specs.Stands.{Stands};
-ghost use Rattle.violations.specs.Tests.{counts_as, counts_in};
+ghost use Rattle.violations.specs.Tests.{counts_as, counts_in, number_if};
 
+use command::bytes;
 use command::numbers::{FunNum, NodeNum, VarNum};
 use command::read::Command;
-use command::{bytes, table};
+use command::refusal::Reason;
+use command::table::{OperandKind, unpack};
 
 // How many flows, nodes, variables and functions are declared.
 #[derive(Clone, Copy)]
@@ -48,10 +50,7 @@ fn range_count(tables: &[u32]) -> u32
 {
     let all = items::count(tables);
     let replies = declared::count_of(tables, bytes::REPLY);
-    if replies < all {
-        return all - replies;
-    }
-    0
+    all.saturating_sub(replies)
 }
 
 // How many commands count to the largest count of this byte: ARG and SPAN share theirs.
@@ -70,7 +69,7 @@ fn exceeds_count(tables: &[u32], c: Command) -> bool
     requires { Known c }
     ensures { (past : List Past) → Stands tables.now past → result ≡ exceeds_count past (command_of c) }
 {
-    let shape = table::unpack(c.row);
+    let shape = unpack(c.row);
     let most = shape.most;
     let have = counted(tables, c.byte);
     let opened = declared::open_node(tables);
@@ -91,17 +90,17 @@ fn has_no_owner(d: Counts, scope: u32, x: u32) -> bool
 }
 
 // An operand of this kind names nothing that is declared or allowed.
-fn names_nothing(d: Counts, scope: u32, kind: u8, x: u32) -> bool
-    ensures { result ≡ names_nothing (counts_as d) scope (kind_of kind) x }
+fn names_nothing(d: Counts, scope: u32, kind: OperandKind, x: u32) -> bool
+    ensures { result ≡ names_nothing (counts_as d) scope (kind_meant kind) x }
 {
     match kind {
-        table::SCOPE_OPERAND => 2 < x,
-        table::OWNER_OPERAND => has_no_owner(d, scope, x),
-        table::NODE_OPERAND => d.nodes <= x,
-        table::PORT_OPERAND => 3 < x,
-        table::TARGET_OPERAND => d.nodes <= x,
-        table::FUNCTION_OPERAND => d.functions <= x,
-        table::VARIABLE_OPERAND => d.variables <= x,
+        OperandKind::Scope => 2 < x,
+        OperandKind::Owner => has_no_owner(d, scope, x),
+        OperandKind::Node => d.nodes <= x,
+        OperandKind::Port => 3 < x,
+        OperandKind::Target => d.nodes <= x,
+        OperandKind::Function => d.functions <= x,
+        OperandKind::Variable => d.variables <= x,
         _ => false,
     }
 }
@@ -111,7 +110,7 @@ fn is_undeclared(tables: &[u32], c: Command) -> bool
     requires { Known c }
     ensures { (past : List Past) → Stands tables.now past → result ≡ undeclared past (command_of c) }
 {
-    let shape = table::unpack(c.row);
+    let shape = unpack(c.row);
     let d = counts_of(tables);
     let bodies = declared::count_of(tables, bytes::BODY);
     if (c.byte == bytes::NODE) & (d.flows == 0) {
@@ -195,39 +194,40 @@ fn is_repeated(tables: &[u32], c: Command) -> bool
     }
 }
 
-// The number of the first of the tests 7, 8 and 15 that refuses a command, or 0. 15: the low of a SPAN is above its high.
-fn late_violation(tables: &[u32], c: Command) -> u8
+// The first of the tests 7, 8 and 15 that refuses a command, if one does. 15: the low of a SPAN is above its high.
+fn late_violation(tables: &[u32], c: Command) -> Option<Reason>
     ensures { (past : List Past) → Stands tables.now past → Plain (command_of c)
-        → result ≡ cond (out_of_reach past (command_of c)) 7 (cond (repeated past (command_of c)) 8 (cond (empty_span (command_of c)) 15 0)) }
+        → number_if result ≡ cond (out_of_reach past (command_of c)) 7 (cond (repeated past (command_of c)) 8 (cond (empty_span (command_of c)) 15 0)) }
 {
     if is_out_of_reach(tables, c) {
-        return 7;
+        return Some(Reason::OutOfReach);
     }
     let repeated = is_repeated(tables, c);
     let empty = (c.byte == bytes::SPAN) & (c.fourth < c.third);
     if repeated {
-        return 8;
+        return Some(Reason::Repeated);
     }
     if empty {
-        return 15;
+        return Some(Reason::EmptySpan);
     }
-    0
+    None
 }
 
-// The number of the first of the tests 4 to 8 and 15 that refuses a command, or 0.
-pub fn violation_of(tables: &[u32], c: Command) -> u8
+// The first of the tests 4 to 8 and 15 that refuses a command, if one does.
+pub fn violation_of(tables: &[u32], c: Command) -> Option<Reason>
     requires { Known c }
-    ensures { (past : List Past) → Stands tables.now past → Plain (command_of c) → result ≡ violation past (command_of c) }
+    ensures { (past : List Past) → Stands tables.now past → Plain (command_of c)
+        → number_if result ≡ violation past (command_of c) }
 {
     let group = c.group as u32;
     if group < declared::group(tables) {
-        return 4;
+        return Some(Reason::LowerGroup);
     }
     if exceeds_count(tables, c) {
-        return 5;
+        return Some(Reason::CountExceeded);
     }
     if is_undeclared(tables, c) {
-        return 6;
+        return Some(Reason::Undeclared);
     }
     late_violation(tables, c)
 }

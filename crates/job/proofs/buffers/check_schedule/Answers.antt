@@ -10,7 +10,7 @@ use Rattle.job.proofs.buffers.check_schedule.Goals as goal
 
 pub returns-then-turns-ne0 : goal.returns-then-turns-ne0
 returns-then-turns-ne0 c job past decoded long counted = let place : length job - 2 * count_of TURN past ≡ c.args.size - 2 * c.args.turns = rw (long, counted) in
-    rw (c.less.ensures, ← place)
+    rw (c.saturating_sub.ensures, ← place)
     (turn-found c.args.schedule _ c.in-Dispatched.is job (sizes c.args.trace c.args.snapshot c.args.work) past decoded
     (λ e. c.if-turns-ne0.true (sym counted ∙ e)))
 

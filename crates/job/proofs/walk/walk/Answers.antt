@@ -1,7 +1,8 @@
 use native.Mathlib.Omega.{arith}
+use Rattle.std.proofs.lemmas.Result.{err_from_is_err_and}
 use Rattle.model.proofs.Decoding.{decode-empty, decode-long}
 use Rattle.job.proofs.Judged.{walk_refuses}
-use Rattle.job.proofs.Going.{going_start, going_end, going-stop, going_on, steps_next, steps-stop}
+use Rattle.job.proofs.Going.{going_start, going_end, going-stop, going_on}
 use Rattle.job.proofs.walk.walk.Goals as goal
 
 pub returns-then-job-eq0 : goal.returns-then-job-eq0
@@ -13,23 +14,22 @@ returns-then-job-gt16384 c = walk_refuses _ _ _ _ (decode-long _ c.if-job-eq0.fa
 pub loop-at-init : goal.loop-at-init
 loop-at-init c = (c.if-job-gt16384.false, going_start _ _ _ c.if-job-eq0.false c.if-job-gt16384.false c.clear.ensures c.requires.uses)
 
-pub advance-s-requires : goal.advance-s-requires
-advance-s-requires c = (c.loop-at-test.true, c.loop-at.invariant.0)
+pub advance-requires : goal.advance-requires
+advance-requires c = (c.loop-at-test.true, c.loop-at.invariant.0)
 
-pub returns-in-Refused : goal.returns-in-Refused
-returns-in-Refused c = going-stop _ _ _ _ c.loop-at.invariant.1 c.loop-at-test.true _ _ _
-    (steps-stop _ _ c.loop-at.invariant.1.past _ _ _ (c.advance-s.ensures c.loop-at.invariant.1.past c.loop-at.invariant.1.stands c.loop-at.invariant.1.uses c.loop-at.invariant.1.valid c.loop-at.invariant.1.short) _
-    c.in-Refused.is)
+pub returns-in_err-at : goal.returns-in_err-at
+returns-in_err-at c = let g = c.loop-at.invariant.1 in
+    let p = err_from_is_err_and c.from_residual.result c.from_residual.ensures.1 in rw (p.1, p.2)
+    (going-stop _ _ _ _ g c.loop-at-test.true _ _ _ (c.in_err-at.ensures g.past g.stands g.uses g.valid g.short))
 
 pub loop-at-smaller : goal.loop-at-smaller
-loop-at-smaller c = let next = c.advance-s.ensures c.loop-at.invariant.1.past c.loop-at.invariant.1.stands c.loop-at.invariant.1.uses c.loop-at.invariant.1.valid c.loop-at.invariant.1.short in
-    let o = steps_next _ _ c.loop-at.invariant.1.past _ _ _ next _ c.in-Next.is in
+loop-at-smaller c = let g = c.loop-at.invariant.1 in
+    let o = c.in_ok-at.ensures g.past g.stands g.uses g.valid g.short in
     omega (arith, o.later, c.loop-at-test.true)
 
 pub loop-at-preserved : goal.loop-at-preserved
-loop-at-preserved c = let next = c.advance-s.ensures c.loop-at.invariant.1.past c.loop-at.invariant.1.stands c.loop-at.invariant.1.uses c.loop-at.invariant.1.valid c.loop-at.invariant.1.short in
-    let o = steps_next _ _ c.loop-at.invariant.1.past _ _ _ next _ c.in-Next.is in
-    (c.loop-at.invariant.0, going_on _ _ _ _ c.loop-at.invariant.1 c.loop-at-test.true _ _ _ o)
+loop-at-preserved c = let g = c.loop-at.invariant.1 in
+    (c.loop-at.invariant.0, going_on _ _ _ _ g c.loop-at-test.true _ _ _ (c.in_ok-at.ensures g.past g.stands g.uses g.valid g.short))
 
 pub returns : goal.returns
 returns c = going_end _ _ _ _ c.loop-at.invariant.1 c.loop-at-test.false
