@@ -17,8 +17,7 @@ use tables::cells::{CELLS, clear};
 use walk::walk;
 
 // The tests 1 to 9, 15 and 19: the verdict on a job, accepted or refused, and the tables of an accepted one.
-fn judge_commands(job: &[u8], tables: &mut [u32]) -> Result<(), Refusal>
-    requires { length tables.old ≡ cell_count }
+fn judge_commands(job: &[u8], tables: &mut [u32; CELLS]) -> Result<(), Refusal>
     ensures { Verdicts (decode_job job.now) tables.new result }
 {
     let mut uses = [0; uses::CELLS];

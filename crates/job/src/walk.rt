@@ -13,7 +13,7 @@ use command::read::{Command, read_command};
 use command::refusal::{Reason, Refusal};
 use declared::open_node;
 use notes::note;
-use tables::cells::clear;
+use tables::cells::{CELLS, clear};
 use uses::note_use;
 use violations::violation_of;
 
@@ -52,9 +52,8 @@ fn advance(job: &[u8], at: usize, tables: &mut [u32], uses: &mut [u32]) -> Resul
 }
 
 // The tests 1 to 8 and 15: the verdict, the tables of an accepted job, and what its handlers use.
-pub(crate) fn walk(job: &[u8], tables: &mut [u32], uses: &mut [u32]) -> Result<(), Refusal>
-    requires tables_len { length tables.old ≡ cell_count }
-    requires uses { Uses uses.old [] }
+pub(crate) fn walk(job: &[u8], tables: &mut [u32; CELLS], uses: &mut [u32]) -> Result<(), Refusal>
+    requires { Uses uses.old [] }
     ensures { Walks (decode job.now) tables.new uses.new result }
 {
     clear(tables);

@@ -156,7 +156,7 @@ fn is_out_of_reach(tables: &[u32], c: Command) -> bool
     if c.byte == bytes::WIRE {
         let from = declared::flow_of(tables, NodeNum(c.first));
         let to = declared::flow_of(tables, NodeNum(c.third));
-        return from.0 != to.0;
+        return from != to;
     }
     if uses_variable(c.byte) {
         let opened = declared::open_node(tables);

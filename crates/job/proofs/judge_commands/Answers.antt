@@ -4,10 +4,7 @@ use Rattle.job.proofs.Judged.{is-accepted, is-refused, refused-early, later_deci
 use Rattle.job.proofs.judge_commands.Goals as goal
 
 pub walk-requires : goal.walk-requires
-walk-requires c = record {
-  tables_len = c.requires;
-  uses = uses-none;
-}
+walk-requires c = uses-none
 
 pub returns-in_err-walk : goal.returns-in_err-walk
 returns-in_err-walk c = let p = err_from_is_err_and c.from_residual.result c.from_residual.ensures.1 in rw (p.1, p.2) (refused-early _ _ _ (is-refused _ _ _ c.in_err-walk.ensures.verdicts))

@@ -5,7 +5,7 @@ use Rattle.violations.proofs.is_out_of_reach.Goals as goal
 pub returns-then-c-eq-WIRE : goal.returns-then-c-eq-WIRE
 returns-then-c-eq-WIRE c = λ past s. wire_reach _ c.args.c past s _ _ _
     c.if-c-eq-WIRE.true c.flow_of-from.ensures
-    c.flow_of-to.ensures refl
+    c.flow_of-to.ensures c.ne.ensures
 
 pub returns-then-uses_variable : goal.returns-then-uses_variable
 returns-then-uses_variable c = λ past s. use_reach _ c.args.c past s

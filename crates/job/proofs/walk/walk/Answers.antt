@@ -12,7 +12,7 @@ pub returns-then-job-gt16384 : goal.returns-then-job-gt16384
 returns-then-job-gt16384 c = walk_refuses _ _ _ _ (decode-long _ c.if-job-eq0.false c.if-job-gt16384.true)
 
 pub loop-at-init : goal.loop-at-init
-loop-at-init c = (c.if-job-gt16384.false, going_start _ _ _ c.if-job-eq0.false c.if-job-gt16384.false c.clear.ensures c.requires.uses)
+loop-at-init c = (c.if-job-gt16384.false, going_start _ _ _ c.if-job-eq0.false c.if-job-gt16384.false c.clear.ensures c.requires)
 
 pub advance-requires : goal.advance-requires
 advance-requires c = (c.loop-at-test.true, c.loop-at.invariant.0)
