@@ -3,11 +3,16 @@ use Rattle.std.specs.Prelude.{ℕ, cond, List}
 use Rattle.std.specs.Prelude.{Option, None, Some}
 use Rattle.model.specs.Table.{TURN}
 use Rattle.model.specs.Command.{Command}
-use Rattle.model.specs.Refusal.{Refusal, refuse, Decoded, first_of, Sizes, short_buffer, short_buffer_for, decode_for}
+use Rattle.model.specs.Refusal.{Refusal, refuse, Decoded, first_of, Sizes, sizes, short_buffer, short_buffer_for, decode_for}
 use Rattle.model.specs.DispatchResult.{bad_budget, written_turn, decode_dispatch}
 use Rattle.tables.specs.Tables.{count_in}
+use Rattle.job.specs.declared.buffers.Lengths.{Lengths}
 use Rattle.job.specs.declared.schedule.Schedule.{Schedule}
 use Rattle.job.specs.declared.schedule.Schedule.TheVariants as s
+
+-- the lengths of the three buffers
+abbrev pub sizes_of : Lengths → Sizes
+sizes_of b = sizes b.trace b.snapshot b.work
 
 -- the commands of a job after all tests, or its refusal
 abbrev pub decode_by : Schedule → List ℕ → Sizes → Decoded

@@ -4,9 +4,9 @@ ghost use Rattle.std.specs.Prelude.{None};
 ghost use Rattle.model.specs.Command.{Command};
 ghost use Rattle.model.specs.Declared.{count_of};
 ghost use Rattle.model.specs.Table.{TURN};
-ghost use Rattle.model.specs.Refusal.{accepted, decode_job, sizes, short_buffer_for};
+ghost use Rattle.model.specs.Refusal.{accepted, decode_job, short_buffer_for};
 ghost use Rattle.job.specs.Decoding.{verdict_of, Decides};
-ghost use Rattle.job.specs.Scheduling.{budget_refusal, schedule_refusal, decode_by};
+ghost use Rattle.job.specs.Scheduling.{sizes_of, budget_refusal, schedule_refusal, decode_by};
 
 use crate::decode;
 use crate::schedule::Schedule;
@@ -20,20 +20,27 @@ pub const SNAPSHOT: usize = 3136;
 
 pub const WORK: usize = 4096;
 
+// The lengths of the three buffers of a run.
+#[derive(Clone, Copy)]
+pub struct Lengths {
+    pub trace: usize,
+    pub snapshot: usize,
+    pub work: usize,
+}
+
 // The largest budget of turns (S-2).
 const BUDGET: u64 = 4096;
 
 // The tests 10 to 12: a job of this length, with buffers of these lengths, for so many turns.
-fn check_buffers(
-    size: usize,
-    turns: usize,
-    trace: usize,
-    snapshot: usize,
-    work: usize,
-) -> Result<(), Refusal>
+fn check_buffers(size: usize, turns: usize, lengths: Lengths) -> Result<(), Refusal>
     requires { turns < 4294967296 }
-    ensures { (job : List ℕ) → length job ≡ size → verdict_of result ≡ short_buffer_for job (sizes trace snapshot work) turns }
+    ensures { (job : List ℕ) → length job ≡ size → verdict_of result ≡ short_buffer_for job (sizes_of lengths) turns }
 {
+    let Lengths {
+        trace,
+        snapshot,
+        work,
+    } = lengths;
     if trace < 7 * turns {
         return Err(Refusal {
             reason: Reason::ShortTrace,
@@ -78,16 +85,14 @@ fn check_schedule(
     schedule: Schedule,
     size: usize,
     turns: u32,
-    trace: usize,
-    snapshot: usize,
-    work: usize,
+    lengths: Lengths,
 ) -> Result<(), Refusal>
     requires { budget_refusal schedule ≡ None }
     ensures { (job : List ℕ) (past : List Command) → decode_job job ≡ accepted past → length job ≡ size → count_of TURN past ≡ turns
-        → verdict_of result ≡ schedule_refusal schedule job (sizes trace snapshot work) past }
+        → verdict_of result ≡ schedule_refusal schedule job (sizes_of lengths) past }
 {
     match schedule {
-        Schedule::Written => check_buffers(size, turns as usize, trace, snapshot, work),
+        Schedule::Written => check_buffers(size, turns as usize, lengths),
         Schedule::Dispatched(budget) => {
             if turns != 0 {
                 return Err(Refusal {
@@ -95,7 +100,7 @@ fn check_schedule(
                     place: size.saturating_sub(2 * (turns as usize)),
                 });
             }
-            check_buffers(size, budget as usize, trace, snapshot, work)
+            check_buffers(size, budget as usize, lengths)
         }
     }
 }
@@ -105,16 +110,14 @@ fn judge_under(
     job: &[u8],
     schedule: Schedule,
     tables: &mut [u32; CELLS],
-    trace: usize,
-    snapshot: usize,
-    work: usize,
+    lengths: Lengths,
 ) -> Result<(), Refusal>
     requires { budget_refusal schedule ≡ None }
-    ensures { Decides (decode_by schedule job.now (sizes trace snapshot work)) tables.new result }
+    ensures { Decides (decode_by schedule job.now (sizes_of lengths)) tables.new result }
 {
     decode(job, tables)?;
     let turns = count_of(tables, bytes::TURN);
-    if let Err(refusal) = check_schedule(schedule, job.len(), turns, trace, snapshot, work) {
+    if let Err(refusal) = check_schedule(schedule, job.len(), turns, lengths) {
         clear(tables);
         return Err(refusal);
     }
@@ -127,15 +130,13 @@ pub fn judge(
     job: &[u8],
     schedule: Schedule,
     tables: &mut [u32; CELLS],
-    trace: usize,
-    snapshot: usize,
-    work: usize,
+    lengths: Lengths,
 ) -> Result<(), Refusal>
-    ensures { Decides (decode_by schedule job.now (sizes trace snapshot work)) tables.new result }
+    ensures { Decides (decode_by schedule job.now (sizes_of lengths)) tables.new result }
 {
     if let Err(refusal) = check_budget(schedule) {
         clear(tables);
         return Err(refusal);
     }
-    judge_under(job, schedule, tables, trace, snapshot, work)
+    judge_under(job, schedule, tables, lengths)
 }

@@ -1,5 +1,5 @@
 use mathlib.Core.Path.{sym}
-use Rattle.model.specs.Refusal.{sizes}
+use Rattle.job.specs.Scheduling.{sizes_of}
 use Rattle.job.proofs.Buffered.{refused-first}
 use Rattle.job.proofs.buffers.judge.Goals as goal
 
@@ -7,5 +7,5 @@ pub judge_under-requires : goal.judge_under-requires
 judge_under-requires c = sym c.in_default.ensures
 
 pub returns-in-Err : goal.returns-in-Err
-returns-in-Err c = refused-first c.args.schedule c.args.job.now (sizes c.args.trace c.args.snapshot c.args.work) _ _
+returns-in-Err c = refused-first c.args.schedule c.args.job.now (sizes_of c.args.lengths) _ _
     c.in-Err.ensures c.clear.ensures
