@@ -4,6 +4,8 @@ use Rattle.model.specs.Refusal.{work_size}
 use Rattle.output.specs.Finding.{part_at}
 use Rattle.run.specs.declared.answer.Answer.{Answer}
 use Rattle.run.specs.declared.answer.Answer.TheVariants as a
+use Rattle.conformance.specs.declared.buffers.Change.{Change}
+use Rattle.conformance.specs.declared.buffers.Change.TheVariants.{FirstOfWork, LastOfWork, LastOfTrace, LastOfSnapshot, Nothing}
 use Rattle.printing.specs.Printing.{nodes_in, variables_in}
 
 -- byte i of a filling
@@ -55,17 +57,26 @@ changed_at buffer at = slice_set buffer at ((slice_index buffer at + 1) % 256)
 abbrev pub changed_last : List ℕ → List ℕ
 changed_last buffer = changed_at buffer (length buffer - 1)
 
--- the trace buffer after the byte with this number is changed: 3 is its last
-abbrev pub changed_trace : ℕ → List ℕ → List ℕ
-changed_trace which trace = cond (which == 3) (changed_last trace) trace
+-- the change that a number asks for
+abbrev pub change_of : ℕ → Change
+change_of number =
+    cond (number == 1) FirstOfWork (cond (number == 2) LastOfWork (cond (number == 3) LastOfTrace (cond (number == 4) LastOfSnapshot Nothing)))
 
--- the snapshot buffer after it: 4 is its last
-abbrev pub changed_snapshot : ℕ → List ℕ → List ℕ
-changed_snapshot which snapshot = cond (which == 4) (changed_last snapshot) snapshot
+-- the trace buffer after a change
+abbrev pub changed_trace : Change → List ℕ → List ℕ
+changed_trace LastOfTrace trace = changed_last trace
+changed_trace _ trace = trace
 
--- the work buffer after it: 1 is its first, 2 its last
-abbrev pub changed_work : ℕ → List ℕ → List ℕ
-changed_work which work = cond (which == 1) (changed_at work 0) (cond (which == 2) (changed_last work) work)
+-- the snapshot buffer after it
+abbrev pub changed_snapshot : Change → List ℕ → List ℕ
+changed_snapshot LastOfSnapshot snapshot = changed_last snapshot
+changed_snapshot _ snapshot = snapshot
+
+-- the work buffer after it
+abbrev pub changed_work : Change → List ℕ → List ℕ
+changed_work FirstOfWork work = changed_at work 0
+changed_work LastOfWork work = changed_last work
+changed_work _ work = work
 
 -- the lines `kept` and `changed`
 abbrev pub verdict_line : Bool → List ℕ

@@ -1,16 +1,14 @@
 // What the buffers hold before a run, which byte is changed after it, and whether a run kept what it has to keep.
-ghost use Rattle.std.specs.Prelude.{◌≡◌, ◌<◌, length, slice_index};
+ghost use Rattle.std.specs.Prelude.{◌≡◌, length};
 ghost use Rattle.conformance.specs.Keeping.{fill_byte, filling, is_kept, is_cleared, length_of, snapshot_length, all_kept, keeps};
-ghost use Rattle.conformance.specs.Keeping.{changed_at, changed_last, changed_trace, changed_snapshot, changed_work};
+ghost use Rattle.conformance.specs.Keeping.{change_of, changed_at, changed_last, changed_trace, changed_snapshot, changed_work};
 
-use crate::input::wide;
 use command::bytes;
 use declared::count_of;
 use job::buffers::WORK;
 use job::decode;
 use output::places::next_part;
 use run::answer::Answer;
-use std::num::wrapping_add_u8;
 use tables::cells::CELLS;
 
 // The bytes at the front of the work buffer that are 0 after a run.
@@ -19,21 +17,45 @@ const CLEARED: usize = WORK;
 // From one byte of a buffer to the next, the value grows by this, modulo 256.
 const STEP: usize = 31;
 
+// Which byte is changed after a run: the first or the last of the work buffer, the last of the trace or of the snapshot buffer, or none.
+// Where a buffer is longer than what a run writes to it, its last byte is one that the run has to keep.
+#[derive(Clone, Copy)]
+pub enum Change {
+    FirstOfWork,
+    LastOfWork,
+    LastOfTrace,
+    LastOfSnapshot,
+    Nothing,
+}
+
+impl From<u8> for Change {
+    ghost from_gives = { λ number change. change ≡ change_of number };
+
+    fn from(number: u8) -> Change {
+        match number {
+            1 => Change::FirstOfWork,
+            2 => Change::LastOfWork,
+            3 => Change::LastOfTrace,
+            4 => Change::LastOfSnapshot,
+            _ => Change::Nothing,
+        }
+    }
+}
+
 // Byte i of a buffer that is filled from a seed.
 fn fill_byte(seed: u8, i: usize) -> u8
     ensures { result ≡ fill_byte seed i }
 {
-    ((wide(seed) + STEP * (i % 256)) % 256) as u8
+    ((usize::from(seed) + STEP * (i % 256)) % 256) as u8
 }
 
 // Fills a buffer from a seed.
+#[tactic(auto, unfolding(crate::specs::Keeping::filling))]
 fn fill(buffer: &mut [u8], seed: u8)
     ensures { buffer.new ≡ filling seed (length buffer.old) }
 {
-    let mut i: usize = 0;
-    while i < buffer.len() {
-        buffer[i] = fill_byte(seed, i);
-        i += 1;
+    for (i, byte) in buffer.iter_mut().enumerate() {
+        *byte = fill_byte(seed, i);
     }
 }
 
@@ -49,11 +71,11 @@ pub fn fill_all(trace: &mut [u8], snapshot: &mut [u8], work: &mut [u8], seed: u8
 }
 
 // Changes a byte of a buffer, if the buffer has this place.
-fn change(buffer: &mut [u8], at: usize)
+fn change_at(buffer: &mut [u8], at: usize)
     ensures { buffer.new ≡ changed_at buffer.old at }
 {
     if at < buffer.len() {
-        buffer[at] = wrapping_add_u8(buffer[at], 1);
+        buffer[at] = buffer[at].wrapping_add(1);
     }
 }
 
@@ -61,77 +83,46 @@ fn change(buffer: &mut [u8], at: usize)
 fn change_last(buffer: &mut [u8])
     ensures { buffer.new ≡ changed_last buffer.old }
 {
-    let size = buffer.len();
-    if 0 < size {
-        change(buffer, size - 1);
-    }
+    change_at(buffer, buffer.len().saturating_sub(1));
 }
 
-// Changes one byte: 1 the first of the work buffer, 2 its last, 3 the last of the trace buffer, 4 that of the snapshot buffer; another
-// number none. Where a buffer is longer than what a run writes to it, its last byte is one that the run has to keep.
-pub fn change_one(trace: &mut [u8], snapshot: &mut [u8], work: &mut [u8], which: u8)
+// Changes the byte that is asked for.
+pub fn change_one(trace: &mut [u8], snapshot: &mut [u8], work: &mut [u8], which: Change)
     ensures trace { trace.new ≡ changed_trace which trace.old }
     ensures snapshot { snapshot.new ≡ changed_snapshot which snapshot.old }
     ensures work { work.new ≡ changed_work which work.old }
 {
     match which {
-        1 => change(work, 0),
-        2 => change_last(work),
-        3 => change_last(trace),
-        4 => change_last(snapshot),
-        _ => {}
+        Change::FirstOfWork => change_at(work, 0),
+        Change::LastOfWork => change_last(work),
+        Change::LastOfTrace => change_last(trace),
+        Change::LastOfSnapshot => change_last(snapshot),
+        Change::Nothing => {}
     }
-}
-
-// A byte of a buffer; 0 outside.
-fn byte_at(buffer: &[u8], at: usize) -> usize
-    ensures value { result ≡ slice_index buffer.now at }
-    ensures upper_bound { result < 256 }
-{
-    if at < buffer.len() {
-        return wide(buffer[at]);
-    }
-    0
 }
 
 // Whether a buffer holds from a place on what it was filled with.
 fn is_kept(buffer: &[u8], from: usize, seed: u8) -> bool
     ensures { result ≡ is_kept buffer.now from seed }
 {
-    let mut i = from;
-    while i < buffer.len() {
-        let byte = buffer[i];
-        if byte != fill_byte(seed, i) {
-            return false;
-        }
-        i += 1;
-    }
-    true
+    (from..buffer.len()).all(|i| buffer[i] == fill_byte(seed, i))
 }
 
-// Whether the front of the work buffer is 0.
+// Whether the front of the work buffer is 0; bytes that it does not have count as 0.
 fn is_cleared(work: &[u8]) -> bool
     ensures { result ≡ is_cleared work.now }
 {
-    let mut i: usize = 0;
-    while i < CLEARED {
-        if byte_at(work, i) != 0 {
-            return false;
-        }
-        i += 1;
-    }
-    true
+    work.iter().take(CLEARED).all(|byte| *byte == 0)
 }
 
 // The bytes of a snapshot (01's "picture") of these nodes and variables.
+#[tactic(auto, using(output::proofs::Finding::part_first))]
 fn size_of(snapshot: &[u8], nodes: u32, variables: u32) -> usize
     ensures { result ≡ length_of snapshot.now nodes variables }
 {
     let mut place: usize = 0;
-    let mut n: u32 = 0;
-    while n < nodes {
+    for n in 0..nodes {
         place = next_part(snapshot, place, n as usize);
-        n += 1;
     }
     place + 4 * (variables as usize)
 }
@@ -159,13 +150,7 @@ fn all_kept(
 ) -> bool
     ensures { result ≡ all_kept trace.now entries snapshot.now shown work.now cleared seed }
 {
-    if !is_kept(trace, entries, seed) {
-        return false;
-    }
-    if !is_kept(snapshot, shown, seed) {
-        return false;
-    }
-    is_kept(work, cleared, seed)
+    is_kept(trace, entries, seed) && is_kept(snapshot, shown, seed) && is_kept(work, cleared, seed)
 }
 
 // Whether a run kept what it has to keep: a refusal all three buffers; a run what follows its entries, its snapshot and the cleared bytes,
@@ -185,10 +170,7 @@ pub fn kept(
         Answer::Ended(ending) => {
             let entries = 7 * (ending.turns as usize);
             let shown = snapshot_size(job, snapshot);
-            if !is_cleared(work) {
-                return false;
-            }
-            all_kept(trace, entries, snapshot, shown, work, CLEARED, seed)
+            is_cleared(work) && all_kept(trace, entries, snapshot, shown, work, CLEARED, seed)
         }
     }
 }

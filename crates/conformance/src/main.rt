@@ -11,7 +11,7 @@ ghost use Rattle.writing.specs.Writing.{Writes};
 ghost use Rattle.conformance.specs.Keeping.{verdict_line};
 
 use buffers::{change_one, fill_all, kept};
-use input::{Head, LONGEST_JOB, LONGEST_SNAPSHOT, LONGEST_TRACE, LONGEST_WORK, Record, read_run};
+use input::{Head, LONGEST_JOB, LONGEST_SNAPSHOT, LONGEST_TRACE, LONGEST_WORK, read_run};
 use printing::{Printed, run_to_text};
 use std::io::{Print, Read};
 use text::put;
@@ -27,47 +27,14 @@ fn put_verdict(text: &mut [u8], at: usize, keeps: bool) -> usize
     ensures { Writes (verdict_line keeps) text.old at text.new result }
 {
     if keeps {
-        return put(text, at, b"kept\n");
+        put(text, at, b"kept\n")
+    } else {
+        put(text, at, b"changed\n")
     }
-    put(text, at, b"changed\n")
 }
 
-// Runs a job with buffers that are filled, changes a byte if the head asks for it, puts the run's lines and the line that says whether the
+// Fills the buffers, runs a job with them, changes a byte if the head asks for it, puts the run's lines and the line that says whether the
 // buffers were kept, and answers the place after them.
-fn run_filled(
-    head: Head,
-    job: &[u8],
-    trace: &mut [u8],
-    snapshot: &mut [u8],
-    work: &mut [u8],
-    text: &mut [u8],
-    at: usize,
-) -> usize
-    requires { at + 131080 ≤ length text.old }
-    ensures { result ≤ at + 131080 }
-{
-    let schedule = head.schedule;
-    let printed = run_to_text(
-        text,
-        at,
-        job,
-        schedule,
-        trace,
-        snapshot,
-        work,
-        head.monitored,
-    );
-    match printed {
-        Printed::Put(next, answer) => {
-            change_one(trace, snapshot, work, head.change);
-            let keeps = kept(answer, job, trace, snapshot, work, head.seed);
-            put_verdict(text, next, keeps)
-        }
-        Printed::NoRoom => at,
-    }
-}
-
-// The same, and fills the buffers before.
 fn conform(
     head: Head,
     job: &[u8],
@@ -81,7 +48,24 @@ fn conform(
     ensures { result ≤ at + 131080 }
 {
     fill_all(trace, snapshot, work, head.seed);
-    run_filled(head, job, trace, snapshot, work, text, at)
+    let printed = run_to_text(
+        text,
+        at,
+        job,
+        head.schedule,
+        trace,
+        snapshot,
+        work,
+        head.monitored,
+    );
+    match printed {
+        Printed::Put(next, answer) => {
+            change_one(trace, snapshot, work, head.change);
+            let keeps = kept(answer, job, trace, snapshot, work, head.seed);
+            put_verdict(text, next, keeps)
+        }
+        Printed::NoRoom => at,
+    }
 }
 
 // Writes text to the standard output. Where that fails, the runs go on.
@@ -102,7 +86,7 @@ fn make_room(rt: &impl Print, text: &[u8], at: usize) -> usize
 }
 
 // Runs one job after another, with room for the largest lengths, and answers where the text that still waits ends. A proved loop has to
-// end, and nothing says that the input does: the rounds are counted down from a number that no input uses up.
+// end, and nothing says that the input does: the rounds are as many as no input uses up.
 fn conform_all(rt: &impl Print, reader: &mut impl Read, text: &mut [u8]) -> usize
     requires { length text.old ≡ 262144 }
     ensures { result ≤ 262144 }
@@ -112,27 +96,20 @@ fn conform_all(rt: &impl Print, reader: &mut impl Read, text: &mut [u8]) -> usiz
     let mut snapshot = [0u8; LONGEST_SNAPSHOT];
     let mut work = [0u8; LONGEST_WORK];
     let mut at: usize = 0;
-    let mut left = u64::MAX;
-    while left > 0 {
-        let found = read_run(reader, &mut job);
-        let Record::Run(head) = found else {
-            return at;
+    for _ in 0..u64::MAX {
+        let Some(head) = read_run(reader, &mut job) else {
+            break;
         };
-        let size = head.job;
-        let entries = head.trace;
-        let shown = head.snapshot;
-        let loaded = head.work;
         let end = conform(
             head,
-            &job[..size],
-            &mut trace[..entries],
-            &mut snapshot[..shown],
-            &mut work[..loaded],
+            &job[..head.job],
+            &mut trace[..head.trace],
+            &mut snapshot[..head.snapshot],
+            &mut work[..head.work],
             text,
             at,
         );
         at = make_room(rt, text, end);
-        left -= 1;
     }
     at
 }

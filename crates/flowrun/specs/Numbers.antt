@@ -1,8 +1,5 @@
 -- Words that stand for numbers.
-use Rattle.std.specs.Prelude.{ℕ, ◌+◌, ◌*◌, ◌-◌, Bool, cond, ◌||◌, List, [], ◌∷◌, eqb, ltb, length}
-use Rattle.std.specs.Prelude.{Option, None, Some}
-use Rattle.flowrun.specs.declared.Number.{Number}
-use Rattle.flowrun.specs.declared.Number.TheVariants as n
+use Rattle.std.specs.Prelude.{ℕ, ◌+◌, ◌*◌, ◌-◌, Bool, cond, ◌||◌, List, [], ◌∷◌, Option, None, Some, eqb, ltb, length}
 
 -- a byte that is no decimal digit
 abbrev pub no_digit : ℕ → Bool
@@ -16,8 +13,3 @@ digits_from value (c ∷ word) = cond (no_digit c) None (digits_from (value * 10
 -- the number that a word of one to nine decimal digits stands for; none for any other word
 abbrev pub number_as : List ℕ → Option ℕ
 number_as word = cond (eqb (length word) 0 || ltb 9 (length word)) None (digits_from 0 word)
-
--- the same of what the code answers
-abbrev pub number_of : Number → Option ℕ
-number_of (n.Value value) = Some value
-number_of n.Not = None

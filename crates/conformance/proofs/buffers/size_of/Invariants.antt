@@ -1,14 +1,10 @@
 -- The place is where the part of the next node begins; a part has at most 1,285 bytes.
-use Rattle.std.proofs.Common.{◌≡◌, ◌-◌, ◌*◌, ◌≤◌}
+use Rattle.std.proofs.Common.{◌≡◌, ◌*◌, ◌≤◌}
 use Rattle.output.specs.Finding.{part_at}
 use Rattle.conformance.proofs.buffers.size_of.Given as goal
 
 abbrev pub invariant-loop-n : goal.invariant-loop-n
 invariant-loop-n l = record {
-  inside : l.n ≤ l.nodes;
   begins : l.place ≡ part_at l.snapshot l.n;
   small : l.place ≤ 1285 * l.n;
 }
-
-abbrev pub decreases-loop-n : goal.decreases-loop-n
-decreases-loop-n l = l.nodes - l.n
