@@ -8,11 +8,11 @@ ghost use Rattle.chooser.specs.Choosing.{choose_in, choice_of, wrapped_to};
 use command::numbers::NodeNum;
 use memory::ready::is_ready;
 
-// A choice: a node, or nobody; and how many nodes were examined for it.
+// A choice: the node that was chosen, if there is one, and how many nodes were examined for it.
 #[derive(Clone, Copy)]
-pub enum Choice {
-    Chosen(NodeNum, u32),
-    Nobody(u32),
+pub struct Choice {
+    pub node: Option<NodeNum>,
+    pub examined: u32,
 }
 
 // A number up to that of the nodes, as a node: after the last one comes node 0.
@@ -33,16 +33,22 @@ pub fn choose(position: &[u32; 32], waiting: &[u8; 32], ready: u32, nodes: u32, 
     ensures { choice_of result ≡ choose_in position.now waiting.now nodes from }
 {
     if ready == 0 {
-        return Choice::Nobody(0);
+        return Choice {
+            node: None,
+            examined: 0,
+        };
     }
     let mut n = wrapped(from, nodes);
-    let mut examined: u32 = 0;
-    let choice = loop {
+    let mut examined = 0;
+    let node = loop {
         examined += 1;
         if is_ready(position, waiting, n) {
-            break Choice::Chosen(NodeNum(n), examined);
+            break NodeNum(n);
         }
         n = wrapped(n + 1, nodes);
     };
-    choice
+    Choice {
+        node: Some(node),
+        examined,
+    }
 }

@@ -17,7 +17,6 @@ use declared::count_of;
 use entries::Outcome;
 use memory::queues::{change_queues, fill_queues};
 use memory::ready::count_ready;
-use memory::senders::change_senders;
 use memory::variables::{change_variable, fill_variables};
 use memory::{IDLE, Registers, START_SENDER};
 use plans::plan_turn;
@@ -60,12 +59,9 @@ pub fn start(tables: &[u32]) -> State
         variable: [0; 64],
         ready: 0,
     };
-    let mut waiting = s.waiting;
-    fill_queues(&mut s.queue, &mut waiting, tables);
-    s.waiting = waiting;
+    fill_queues(&mut s.queue, &mut s.waiting, tables);
     let nodes = count_of(tables, bytes::NODE);
-    let ready = count_ready(&s.position, &waiting, nodes);
-    s.ready = ready;
+    s.ready = count_ready(&s.position, &s.waiting, nodes);
     fill_variables(&mut s.variable, tables);
     s
 }
@@ -88,15 +84,15 @@ impl State {
     {
         let i = n.0 as usize;
         let position = self.position[i];
-        let value = self.accumulator[i];
+        let accumulator = self.accumulator[i];
         let message = self.message[i];
         let oldest = self.queue[i * 16];
         let sender = self.sender[i * 16];
         let ready = self.ready;
         let registers = Registers {
-            position: position,
-            accumulator: value,
-            message: message,
+            position,
+            accumulator,
+            message,
         };
         let plan = plan_turn(
             tables,
@@ -114,18 +110,23 @@ impl State {
         let next = plan.registers;
         let change = plan.change;
         let outcome = plan.outcome;
-        let mut waiting = self.waiting;
-        change_senders(&mut self.sender, &waiting, tables, n, change);
-        change_queues(&mut self.queue, &mut waiting, tables, n, change, value);
-        self.waiting = waiting;
-        change_variable(&mut self.variable, change, value);
+        change_queues(
+            &mut self.queue,
+            &mut self.sender,
+            &mut self.waiting,
+            tables,
+            n,
+            change,
+            accumulator,
+        );
+        change_variable(&mut self.variable, change, accumulator);
         self.position[i] = next.position;
         self.accumulator[i] = next.accumulator;
         self.message[i] = next.message;
         self.ready = plan.ready;
         Turned {
             state: self,
-            outcome: outcome,
+            outcome,
         }
     }
 }

@@ -19,7 +19,7 @@ use Rattle.memory.specs.declared.Change.TheVariants as c'
 use Rattle.memory.specs.Queues.{counted}
 use Rattle.memory.specs.Changes.{counts_after}
 use Rattle.memory.specs.Ready.{ready_in, ready_count_in, woken_in, woken_by, Among, ReadyCounted}
-use Rattle.memory.proofs.Sending.{Ahead, ahead-first, ahead-here, ahead-next, ahead_none, ahead-inside}
+use Rattle.memory.proofs.Sending.{Ahead, ahead-first, ahead-here, ahead-next, ahead_none}
 use Rattle.memory.proofs.Sending.{counted-later}
 
 -- which nodes are ready in a state, and how many, by arrays that show its positions and how many messages wait
@@ -54,22 +54,19 @@ module _ {all : ℕ} {position waiting : List ℕ} {k targets count : ℕ} (s : 
   lowest : wakes all position waiting k ≡ (eqb (targets % 2) 1 && not (ready_in position waiting k))
   lowest = ap (λ (b : Bool). b && not (ready_in position waiting k)) (ahead-here s.ahead)
 
-  pub waking_inside : 0 < targets → k < 32
-  waking_inside more = ahead-inside s.ahead more
-
   -- node k is woken, or it is not
-  pub waking_one : 0 < targets → (eqb (targets % 2) 1 && not (ready_in position waiting k)) ≡ true
+  pub waking_one : k < 32 → (eqb (targets % 2) 1 && not (ready_in position waiting k)) ≡ true
       → Waking all position waiting (k + 1) (targets / 2) (count + 1)
   waking_one more e = record {
-    ahead = ahead-next s.ahead (waking_inside more);
+    ahead = ahead-next s.ahead more;
     same = count-passes (wakes all position waiting) k count s.same (lowest ∙ e);
     few = omega (arith, s.few);
   }
 
-  pub waking_other : 0 < targets → (eqb (targets % 2) 1 && not (ready_in position waiting k)) ≡ false
+  pub waking_other : k < 32 → (eqb (targets % 2) 1 && not (ready_in position waiting k)) ≡ false
       → Waking all position waiting (k + 1) (targets / 2) count
   waking_other more e = record {
-    ahead = ahead-next s.ahead (waking_inside more);
+    ahead = ahead-next s.ahead more;
     same = count-fails (wakes all position waiting) k count s.same (lowest ∙ e);
     few = omega (arith, s.few);
   }

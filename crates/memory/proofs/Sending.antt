@@ -1,8 +1,8 @@
 -- A send: its targets one by one, and what it leaves in counts and slots is what the model delivers.
 use Prim.Native.Nat.{ℕ, zero, suc, ◌+◌, ◌-◌, ◌*◌, ◌/◌, ◌%◌, ◌^◌, ◌≤◌, ◌<◌}
-use mathlib.Core.Path.{◌≡◌, refl, sym, ◌∙◌}
-use mathlib.Core.Bool.{Bool, true, false, cond, ◌&&◌}
-use mathlib.Core.List.{List}
+use mathlib.Core.Path.{◌≡◌, refl, sym, ap, ◌∙◌}
+use mathlib.Core.Bool.{Bool, true, false, cond, ◌&&◌, or-false}
+use mathlib.Core.List.{List, [], ◌∷◌, ◌++◌}
 use native.Mathlib.Omega.{arith}
 use native.Mathlib.Nat.{pow-suc}
 use native.Mathlib.Numerals.{add-one}
@@ -10,9 +10,11 @@ use lib.Dec.{leb, eqb}
 use lib.ListN.{length, get_or, set, length-set}
 use lib.Seq.{get_or-set_other}
 use borrow.Author.Tests.{leb-false, eq-eqb, ne_eqb}
+use Rattle.std.specs.List.{list_any, range_with_len}
+use Rattle.std.proofs.lemmas.List.Folds.{list_any-append}
 use Rattle.model.specs.Table.{max_waiting}
 use Rattle.model.specs.State.{Message, message_from}
-use Rattle.model.specs.Turn.{delivered}
+use Rattle.model.specs.Turn.{some_below, delivered}
 use Rattle.model.proofs.Turns.{some-none, delivered_target, delivered-other}
 use Rattle.tables.specs.Bits.{bit_of}
 use Rattle.tables.proofs.Setting.{half_bit, low_bit, bit_zero}
@@ -23,6 +25,19 @@ use Rattle.memory.proofs.Waiting.{bounded-set, queues_pushed, brings-set}
 -- at this target 16 messages wait
 abbrev pub held : (ℕ → Bool) → List ℕ → ℕ → Bool
 held target ws k = target k && leb max_waiting (get_or ws k 0)
+
+-- one number more at the end
+range-more : (a n : ℕ) → range_with_len a n ++ ((a + n) ∷ []) ≡ range_with_len a (suc n)
+range-more a zero = let e : a + 0 ≡ a = omega arith in rw e
+range-more a (suc n) = let e : a + suc n ≡ a + 1 + n = omega arith in rw e (ap (λ (l : List ℕ). a ∷ l) (range-more (a + 1) n))
+
+-- a search through the numbers below n asks each of them
+pub any-below : (test : ℕ → Bool) (n : ℕ) → list_any test (range_with_len 0 n) ≡ some_below test n
+unfolding some_below
+any-below test zero = refl
+any-below test (suc n) =
+    let e : 0 + n ≡ n = omega arith in
+    ap (list_any test) (sym (range-more 0 n)) ∙ list_any-append test (range_with_len 0 n) ((0 + n) ∷ []) ∙ rw (any-below test n, or-false, e)
 
 -- where no target is full, each has room
 full-none : (target : ℕ → Bool) (ws : List ℕ) (k : ℕ) → full target (count_at ws) ≡ false → k < 32 → target k ≡ true → get_or ws k 0 < 16
@@ -45,6 +60,10 @@ module _ {all k targets : ℕ} (a : Ahead all k targets) where
       by_place : (d : ℕ) → 32 - k ≡ d → targets < 2 ^ d → k < 32
       by_place zero e l = absurd (omega (arith, l))
       by_place (suc d) e l = omega arith
+
+  -- at the end none of them is 1
+  pub ahead-over : k ≡ 32 → targets ≡ 0
+  ahead-over e = let l : targets < 2 ^ 0 = rw e at a.small in omega (arith, l)
 
   -- bit k is the lowest
   pub ahead-here : bit_of all k ≡ eqb (targets % 2) 1
@@ -136,46 +155,73 @@ module _ (target : ℕ → Bool) (ws : List ℕ) (all k : ℕ) (agree : (i : ℕ
       let e : 32 - k + k ≡ 32 = omega arith in
       sym (stored-rest x slots (32 - k)) ∙ rw e (stored_same x slots 32 (omega arith))
 
--- the loop of a send over one array, at node k: the targets below have their number, the others have room
-pub record Storing (all x : ℕ) (ws slots₀ : List ℕ) (k targets : ℕ) (slots : List ℕ) : Type 0 where
+-- the loop of a send at node k: the targets below have their message, the others have room
+pub record Sent (all value from : ℕ) (ws₀ values₀ senders₀ : List ℕ) (k targets : ℕ) (ws vs ns : List ℕ) : Type 0 where
   pub ahead : Ahead all k targets
-  pub room : (i : ℕ) → i < 32 → bit_of all i ≡ true → get_or ws i 0 < 16
-  pub same : slots ≡ stored (bit_of all) ws x slots₀ k
+  pub room : (i : ℕ) → i < 32 → bit_of all i ≡ true → get_or ws₀ i 0 < 16
+  pub counts : ws ≡ counted (bit_of all) ws₀ k
+  pub values : vs ≡ stored (bit_of all) ws₀ value values₀ k
+  pub senders : ns ≡ stored (bit_of all) ws₀ from senders₀ k
 
-module _ (target : ℕ → Bool) (ws : List ℕ) (all : ℕ) (agree : (i : ℕ) → i < 32 → bit_of all i ≡ target i) where
-  pub storing_none : (x : ℕ) (slots : List ℕ) → all < 2 ^ 32 → full target (count_at ws) ≡ false → Storing all x ws slots 0 all slots
-  unfolding stored
-  storing_none x slots small free =
-      record { ahead = ahead-first all small; room = λ i h e. full-none target ws i free h (sym (agree i h) ∙ e); same = refl }
+module _ (target : ℕ → Bool) (all : ℕ) (agree : (i : ℕ) → i < 32 → bit_of all i ≡ target i) {ws₀ : List ℕ} where
+  pub sent_none : (value from : ℕ) (values₀ senders₀ : List ℕ) → all < 2 ^ 32 → full target (count_at ws₀) ≡ false
+      → Sent all value from ws₀ values₀ senders₀ 0 all ws₀ values₀ senders₀
+  unfolding stored counted
+  sent_none value from values₀ senders₀ small free =
+      record {
+        ahead = ahead-first all small;
+        room = λ i h e. full-none target ws₀ i free h (sym (agree i h) ∙ e);
+        counts = refl;
+        values = refl;
+        senders = refl;
+      }
 
-  pub storing_all : {x : ℕ} {slots₀ : List ℕ} {k targets : ℕ} {slots : List ℕ} → Storing all x ws slots₀ k targets slots → targets ≡ 0
-      → slots ≡ stored target ws x slots₀ 32
-  storing_all {x} {slots₀} {k} s z = s.same
-      ∙ stored-all target ws all k agree s.ahead.inside (ahead_none s.ahead z) x slots₀
+  module _ {value from : ℕ} {values₀ senders₀ : List ℕ} {k targets : ℕ} {ws values senders : List ℕ}
+      (s : Sent all value from ws₀ values₀ senders₀ k targets ws values senders) (z : targets ≡ 0) where
+    none : (i : ℕ) → k ≤ i → bit_of all i ≡ false
+    none = ahead_none s.ahead z
 
-module _ {all x : ℕ} {ws slots₀ : List ℕ} {k targets : ℕ} {slots : List ℕ} (s : Storing all x ws slots₀ k targets slots) (more : 0 < targets)
-  where
-    pub storing_room : targets % 2 ≡ 1 → (k < 32) × (get_or ws k 0 < 16)
-    storing_room e = let h = ahead-inside s.ahead more in (h, s.room k h (ahead-one s.ahead e))
+    pub sent_values : values ≡ stored target ws₀ value values₀ 32
+    sent_values = s.values ∙ stored-all target ws₀ all k agree s.ahead.inside none value values₀
 
-    pub storing_counted : targets % 2 ≡ 1 → (counts : List ℕ) → counts ≡ counted (bit_of all) ws k → (k < 32) × (get_or counts k 0 < 16)
-    storing_counted e counts same =
-        let h = storing_room e in
-        (h.0, rw (same, counted-later (bit_of all) ws k k (omega arith)) h.1)
+    pub sent_senders : senders ≡ stored target ws₀ from senders₀ 32
+    sent_senders = s.senders ∙ stored-all target ws₀ all k agree s.ahead.inside none from senders₀
 
-    pub storing_target : targets % 2 ≡ 1 → Storing all x ws slots₀ (k + 1) (targets / 2) (set slots (k * 16 + get_or ws k 0) x)
-    storing_target e = record {
-      ahead = ahead-next s.ahead (ahead-inside s.ahead more);
-      room = s.room;
-      same = rw s.same (stored_target (bit_of all) ws x slots₀ k (ahead-one s.ahead e));
-    }
+    pub sent_counts : ws ≡ counted target ws₀ 32
+    sent_counts = s.counts ∙ counted-all target ws₀ all k agree s.ahead.inside none
 
-    pub storing_other : ¬ (targets % 2 ≡ 1) → Storing all x ws slots₀ (k + 1) (targets / 2) slots
-    storing_other e = record {
-      ahead = ahead-next s.ahead (ahead-inside s.ahead more);
-      room = s.room;
-      same = s.same ∙ stored_other (bit_of all) ws x slots₀ k (ahead-other s.ahead e);
-    }
+module _ {all value from : ℕ} {ws₀ values₀ senders₀ : List ℕ} {k targets : ℕ} {ws values senders : List ℕ}
+    (s : Sent all value from ws₀ values₀ senders₀ k targets ws values senders) (more : k < 32) where
+  -- the counts from k on are those before
+  waiting-here : get_or ws k 0 ≡ get_or ws₀ k 0
+  waiting-here = rw s.counts (counted-later (bit_of all) ws₀ k k (omega arith))
+
+  pub sent-room : targets % 2 ≡ 1 → get_or ws k 0 < 16
+  sent-room e = rw waiting-here (s.room k more (ahead-one s.ahead e))
+
+  pub sent_target : targets % 2 ≡ 1
+      → Sent all value from ws₀ values₀ senders₀ (k + 1) (targets / 2) (set ws k (get_or ws k 0 + 1))
+      (set values (k * 16 + get_or ws k 0) value) (set senders (k * 16 + get_or ws k 0) from)
+  sent_target e =
+      let here = ahead-one s.ahead e in
+      rw waiting-here (record {
+        ahead = ahead-next s.ahead more;
+        room = s.room;
+        counts = rw s.counts (counted_target (bit_of all) ws₀ k here);
+        values = rw s.values (stored_target (bit_of all) ws₀ value values₀ k here);
+        senders = rw s.senders (stored_target (bit_of all) ws₀ from senders₀ k here);
+      })
+
+  pub sent_other : ¬ (targets % 2 ≡ 1) → Sent all value from ws₀ values₀ senders₀ (k + 1) (targets / 2) ws values senders
+  sent_other e =
+      let here = ahead-other s.ahead e in
+      record {
+        ahead = ahead-next s.ahead more;
+        room = s.room;
+        counts = s.counts ∙ counted-other (bit_of all) ws₀ k here;
+        values = s.values ∙ stored_other (bit_of all) ws₀ value values₀ k here;
+        senders = s.senders ∙ stored_other (bit_of all) ws₀ from senders₀ k here;
+      }
 
 -- after the nodes below k: the queues are those that the model delivers, the others have room, and nothing but the message was brought in
 pub record Served (target : ℕ → Bool) (m : Message) (ws₀ : List ℕ) (slots₀ : List Message) (k : ℕ) (ws : List ℕ) (slots : List Message) :

@@ -10,6 +10,7 @@ use native.Mathlib.Decide.{ℕ_discrete, dec_lt}
 use lib.ListN.{length, get_or, take, drop, set, length-set, length-drop}
 use lib.Seq.{ext_get_or, get_or-set_same, get_or-set_other, drop-drop, drop-set-lt, drop-set-add, take-set-le, take-suc-set, length-take-le}
 use lib.Seq.{get_or-take, get_or-drop, paste, paste-zero, paste-suc, drop-paste, drop_at, take-append-le, take-take, take-nil}
+use Rattle.std.specs.List.{copy_within}
 use Rattle.model.specs.State.{Message, no_message}
 use Rattle.model.proofs.Lists.{set-each}
 use Rattle.memory.specs.Queues.{queues, BoundedCounts, AllPass, BringsOnly, shifted}
@@ -173,7 +174,12 @@ module _ (ws : List ℕ) (slots : List Message) (n : ℕ) (bounded : BoundedCoun
           rw (queue-at ws slots n, e, drop-one-take w (drop base slots) some, drop-drop 1 base slots)
           (front_paste slots base tail 15 (w - 1) (omega arith) long (omega (arith, bounded n)))
 
--- the loop that moves slots down
+-- the 15 slots that follow a place, copied one place down
+pub copied-shifted : {A : Type 0} (slots : List A) (base : ℕ) → copy_within slots (base + 1) (base + 16) base ≡ shifted slots base 15
+unfolding shifted
+copied-shifted slots base = let e : base + 16 - (base + 1) ≡ 15 = omega arith in rw e
+
+-- moving one slot more down
 module _ {A : Type 0} (d : A) (slots : List A) (base : ℕ) where
   pub shifted_none : slots ≡ shifted slots base 0
   unfolding shifted

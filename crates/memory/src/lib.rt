@@ -4,7 +4,6 @@
 
 pub mod queues;
 pub mod ready;
-pub mod senders;
 pub mod variables;
 
 use command::numbers::VarNum;

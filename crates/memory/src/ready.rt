@@ -21,13 +21,11 @@ pub fn count_ready(position: &[u32; 32], waiting: &[u8; 32], nodes: u32) -> u32
     requires { nodes ≤ 32 }
     ensures { result ≡ ready_count_in position.now waiting.now nodes }
 {
-    let mut count: u32 = 0;
-    let mut n: u32 = 0;
-    while n < nodes {
+    let mut count = 0;
+    for n in 0..nodes {
         if is_ready(position, waiting, n) {
             count += 1;
         }
-        n += 1;
     }
     count
 }
@@ -37,15 +35,15 @@ fn woken(tables: &[u32], n: NodeNum, port: u32, position: &[u32; 32], waiting: &
     ensures { result ≡ woken_in (wired_in tables.now n.0 port) position.now waiting.now }
 {
     let mut targets = targets_of(tables, n, port);
-    let mut target: u32 = 0;
-    let mut count: u32 = 0;
-    while targets > 0 {
-        let ready = is_ready(position, waiting, target);
-        if (targets % 2 == 1) & !ready {
+    let mut count = 0;
+    for target in 0..32 {
+        if targets == 0 {
+            break;
+        }
+        if targets % 2 == 1 && !is_ready(position, waiting, target) {
             count += 1;
         }
-        targets = targets / 2;
-        target += 1;
+        targets /= 2;
     }
     count
 }

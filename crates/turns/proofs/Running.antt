@@ -3,7 +3,7 @@ use Prim.Native.Nat.{ℕ, suc, ◌+◌, ◌*◌, ◌-◌, ◌≤◌, ◌<◌}
 use mathlib.Core.Path.{◌≡◌, refl, sym, ap, subst, ◌∙◌}
 use mathlib.Core.Bool.{Bool}
 use mathlib.Core.List.{List, [], ◌∷◌, ◌++◌}
-use Rattle.std.proofs.Common.{None}
+use Rattle.std.proofs.Common.{Option, Some, None}
 use native.Mathlib.Omega.{arith}
 use lib.ListN.{length, length-append, length-map}
 use Rattle.model.specs.Table.{NODE, VAR}
@@ -33,6 +33,9 @@ use Rattle.job.specs.Prepared.{Prepared}
 use Rattle.job.specs.Scheduling.{budget_refusal, turns_by}
 use Rattle.job.proofs.Prepared.{prepared}
 use Rattle.job.proofs.Buffered.{budget-few}
+use Rattle.command.specs.declared.numbers.NodeNum.{NodeNum}
+use Rattle.chooser.specs.declared.Choice.{Choice}
+use Rattle.chooser.specs.Choosing.{choice_with, choice_of}
 use Rattle.chooser.proofs.Searching.{choose-shown}
 use Rattle.entries.specs.declared.Entry.{Entry}
 use Rattle.entries.specs.declared.Outcome.{Outcome}
@@ -229,15 +232,21 @@ module _ (schedule : Schedule) (monitored : Bool) (job t w : List ℕ) (ready : 
       fails : choice_for schedule past k from (view s) ≡ nobody c
       fails = sym (failed ∙ shown)
 
-      pub nobody-few : c ≤ 32
-      nobody-few = let q : Within P.nodes (nobody c) = rw fails at within in omega (arith, q, nodes_in_lem, nodes-few)
-
       pub underway_nobody : (x : Ending) → answer_of x ≡ answer_at k v.NobodyReady
           → Over (whole_run schedule monitored past) before trace s x (examined + c)
       underway_nobody x told =
           over u s x (u.choices ++ (nobody c ∷ [])) (examined + c) 4 (entry 0 0 0 0)
           (unrolled ∙ ahead-nobody rule (choice_for schedule past) u.done u.choices k from (view s) _ c fails)
           (sym (examined_snoc u.choices (nobody c) ∙ ap (λ (m : ℕ). m + c) (sym u.total))) refl u.bounded told
+
+    -- at most all nodes are examined
+    pub examined-few : (x : Choice) → choice_of x ≡ choice_by schedule job t k from s.position s.waiting → x.examined ≤ 32
+    examined-few x e = by_node x.node e
+      where
+        by_node : (node : Option NodeNum) → choice_with node x.examined ≡ choice_by schedule job t k from s.position s.waiting → x.examined ≤ 32
+        by_node None q = let few : Within P.nodes (nobody x.examined) = rw (sym (q ∙ shown)) at within in omega (arith, few, nodes_in_lem, nodes-few)
+        by_node (Some n) q =
+            let few : Within P.nodes (chosen n.0 x.examined) = rw (sym (q ∙ shown)) at within in omega (arith, few.1, nodes_in_lem, nodes-few)
 
     -- node n is chosen
     module _ (n c : ℕ) (chose : chosen n c ≡ choice_by schedule job t k from s.position s.waiting) where
@@ -253,7 +262,7 @@ module _ (schedule : Schedule) (monitored : Bool) (job t w : List ℕ) (ready : 
       pub node-among : Among t n
       node-among = meets.among n bounds.0
 
-      pub chosen-few : c ≤ 32
+      chosen-few : c ≤ 32
       chosen-few = omega (arith, bounds.1, nodes_in_lem, nodes-few)
 
       total : examined + c ≡ examined_in (u.choices ++ (chosen n c ∷ []))

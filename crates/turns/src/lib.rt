@@ -46,7 +46,10 @@ fn choice_of<'a>(
         choice_by schedule job.now tables.now k from position.now waiting.now }
 {
     match schedule {
-        Schedule::Written => Choice::Chosen(turn_at(job, tables, k), 0),
+        Schedule::Written => Choice {
+            node: Some(turn_at(job, tables, k)),
+            examined: 0,
+        },
         Schedule::Dispatched(_) => {
             let nodes = count_of(tables, bytes::NODE);
             choose(position, waiting, ready, nodes, from)
@@ -91,14 +94,13 @@ pub fn run_turns(
             &s.waiting,
             ready,
         );
-        match choice {
-            Choice::Nobody(count) => {
-                examined += count;
+        examined += choice.examined;
+        match choice.node {
+            None => {
                 halt = Halt::NobodyReady;
                 last = k;
             }
-            Choice::Chosen(n, count) => {
-                examined += count;
+            Some(n) => {
                 from = n.0 + 1;
                 let i = n.0 as usize;
                 let fetched = fetch(job, tables, work, n, s.position[i]);

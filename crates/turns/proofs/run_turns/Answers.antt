@@ -8,8 +8,8 @@ use Rattle.model.specs.Program.{program_of}
 use Rattle.output.specs.Written.{entry_with, Narrow}
 use Rattle.turns.specs.Runs.{Loaded, run_of, RunsAs}
 use Rattle.turns.proofs.Given.{turns_for}
-use Rattle.turns.proofs.Running.{Underway, underway_none, from_low, counts-ready, ready-counted, nobody-few, underway_nobody}
-use Rattle.turns.proofs.Running.{node-inside, node-among, chosen-few, made_narrow, underway_next, underway_stopped, reached, halted, turns_by_lem, turns-few}
+use Rattle.turns.proofs.Running.{Underway, underway_none, from_low, counts-ready, ready-counted, underway_nobody}
+use Rattle.turns.proofs.Running.{node-inside, node-among, examined-few, made_narrow, underway_next, underway_stopped, reached, halted, turns_by_lem, turns-few}
 use Rattle.turns.proofs.Running.{nodes-few, variables-few, runs_as}
 use Rattle.turns.proofs.run_turns.Goals as goal
 use Rattle.turns.proofs.run_turns.Goals.{In-loop-k}
@@ -40,8 +40,8 @@ choice_of-choice-requires c = record {
 }
 
 pub overflow_add-examined : goal.overflow_add-examined
-overflow_add-examined c = let few = nobody-few c.args.schedule c.args.monitored c.args.job.now c.args.tables.now c.args.work.now c.requires.loaded
-    c.requires.schedule_value _ c.loop-k.s c.loop-k.trace c.loop-k.examined c.loop-k.from c.loop-k.at c.loop-k.k (underway (goal.at.overflow_add-examined c).In-loop-k c.requires.loaded) (more (goal.at.overflow_add-examined c).In-loop-k c.requires.loaded) _ (rw c.in-Nobody.is at c.choice_of-choice.ensures) in
+overflow_add-examined c = let few = examined-few c.args.schedule c.args.monitored c.args.job.now c.args.tables.now c.args.work.now c.requires.loaded
+    c.requires.schedule_value _ c.loop-k.s c.loop-k.trace c.loop-k.examined c.loop-k.from c.loop-k.at c.loop-k.k (underway (goal.at.overflow_add-examined c).In-loop-k c.requires.loaded) (more (goal.at.overflow_add-examined c).In-loop-k c.requires.loaded) c.choice_of-choice.result c.choice_of-choice.ensures in
     omega (
       arith,
       few,
@@ -50,44 +50,33 @@ overflow_add-examined c = let few = nobody-few c.args.schedule c.args.monitored 
       turns-few c.args.schedule c.args.monitored c.args.job.now c.args.tables.now c.args.work.now c.requires.loaded c.requires.schedule_value,
     )
 
-pub loop-k-smaller-in-Nobody : goal.loop-k-smaller-in-Nobody
-loop-k-smaller-in-Nobody c = omega (arith, c.loop-k-test.true)
+pub loop-k-smaller-in-None : goal.loop-k-smaller-in-None
+loop-k-smaller-in-None c = omega (arith, c.loop-k-test.true)
 
-pub loop-k-preserved-in-Nobody : goal.loop-k-preserved-in-Nobody
-loop-k-preserved-in-Nobody c = λ ready.
+pub loop-k-preserved-in-None : goal.loop-k-preserved-in-None
+loop-k-preserved-in-None c = λ ready.
     halted c.args.schedule c.args.monitored _ _ _ _ _ _ _ _ _ _ _ _ (c.loop-k.invariant ready).size
-    (underway_nobody c.args.schedule c.args.monitored c.args.job.now c.args.tables.now c.args.work.now ready c.requires.schedule_value _ c.loop-k.s c.loop-k.trace c.loop-k.examined c.loop-k.from c.loop-k.at c.loop-k.k (underway (goal.at.loop-k-preserved-in-Nobody c).In-loop-k ready) (more (goal.at.loop-k-preserved-in-Nobody c).In-loop-k ready) _ (rw c.in-Nobody.is at c.choice_of-choice.ensures))
-
-pub overflow_add-examined-in-Chosen : goal.overflow_add-examined-in-Chosen
-overflow_add-examined-in-Chosen c = let few = chosen-few c.args.schedule c.args.monitored c.args.job.now c.args.tables.now c.args.work.now c.requires.loaded
-    c.requires.schedule_value _ c.loop-k.s c.loop-k.trace c.loop-k.examined c.loop-k.from c.loop-k.at c.loop-k.k (underway (goal.at.overflow_add-examined-in-Chosen c).In-loop-k c.requires.loaded) (more (goal.at.overflow_add-examined-in-Chosen c).In-loop-k c.requires.loaded) _ _ (rw c.in-Chosen.is at c.choice_of-choice.ensures) in
-    omega (
-      arith,
-      few,
-      (underway (goal.at.overflow_add-examined-in-Chosen c).In-loop-k c.requires.loaded).few,
-      more (goal.at.overflow_add-examined-in-Chosen c).In-loop-k c.requires.loaded,
-      turns-few c.args.schedule c.args.monitored c.args.job.now c.args.tables.now c.args.work.now c.requires.loaded c.requires.schedule_value,
-    )
+    (underway_nobody c.args.schedule c.args.monitored c.args.job.now c.args.tables.now c.args.work.now ready c.requires.schedule_value _ c.loop-k.s c.loop-k.trace c.loop-k.examined c.loop-k.from c.loop-k.at c.loop-k.k (underway (goal.at.loop-k-preserved-in-None c).In-loop-k ready) (more (goal.at.loop-k-preserved-in-None c).In-loop-k ready) _ (rw c.in-None.is at c.choice_of-choice.ensures))
 
 pub overflow_add-from : goal.overflow_add-from
 overflow_add-from c = omega (
   arith,
   node-inside c.args.schedule c.args.monitored c.args.job.now c.args.tables.now c.args.work.now
-      c.requires.loaded c.requires.schedule_value _ c.loop-k.s c.loop-k.trace c.loop-k.examined c.loop-k.from c.loop-k.at c.loop-k.k (underway (goal.at.overflow_add-from c).In-loop-k c.requires.loaded) (more (goal.at.overflow_add-from c).In-loop-k c.requires.loaded) _ _ (rw c.in-Chosen.is at c.choice_of-choice.ensures),
+      c.requires.loaded c.requires.schedule_value _ c.loop-k.s c.loop-k.trace c.loop-k.examined c.loop-k.from c.loop-k.at c.loop-k.k (underway (goal.at.overflow_add-from c).In-loop-k c.requires.loaded) (more (goal.at.overflow_add-from c).In-loop-k c.requires.loaded) _ _ (rw c.in-Some.is at c.choice_of-choice.ensures),
 )
 
 pub bounds-s-i : goal.bounds-s-i
 bounds-s-i c = omega (
   arith,
   node-inside c.args.schedule c.args.monitored c.args.job.now c.args.tables.now c.args.work.now
-      c.requires.loaded c.requires.schedule_value _ c.loop-k.s c.loop-k.trace c.loop-k.examined c.loop-k.from c.loop-k.at c.loop-k.k (underway (goal.at.bounds-s-i c).In-loop-k c.requires.loaded) (more (goal.at.bounds-s-i c).In-loop-k c.requires.loaded) _ _ (rw c.in-Chosen.is at c.choice_of-choice.ensures),
+      c.requires.loaded c.requires.schedule_value _ c.loop-k.s c.loop-k.trace c.loop-k.examined c.loop-k.from c.loop-k.at c.loop-k.k (underway (goal.at.bounds-s-i c).In-loop-k c.requires.loaded) (more (goal.at.bounds-s-i c).In-loop-k c.requires.loaded) _ _ (rw c.in-Some.is at c.choice_of-choice.ensures),
 )
 
 pub turn-turned-requires : goal.turn-turned-requires
 turn-turned-requires c = record {
   bounded_counts = (underway (goal.at.turn-turned-requires c).In-loop-k c.requires.loaded).bounded;
   among = node-among c.args.schedule c.args.monitored c.args.job.now c.args.tables.now c.args.work.now c.requires.loaded c.requires.schedule_value _ c.loop-k.s c.loop-k.trace c.loop-k.examined c.loop-k.from c.loop-k.at c.loop-k.k (underway (goal.at.turn-turned-requires c).In-loop-k c.requires.loaded) (more (goal.at.turn-turned-requires c).In-loop-k c.requires.loaded) _ _
-      (rw c.in-Chosen.is at c.choice_of-choice.ensures);
+      (rw c.in-Some.is at c.choice_of-choice.ensures);
   fact = c.fetch-fetched.ensures.countable;
   counts_ready = counts-ready c.args.schedule c.args.monitored c.args.job.now c.args.tables.now c.args.work.now c.requires.loaded c.requires.schedule_value _ c.loop-k.s c.loop-k.trace c.loop-k.examined c.loop-k.from c.loop-k.at c.loop-k.k (underway (goal.at.turn-turned-requires c).In-loop-k c.requires.loaded) (more (goal.at.turn-turned-requires c).In-loop-k c.requires.loaded);
 }
@@ -104,7 +93,7 @@ put_entry-at-requires c = (
   ),
   subst Narrow (sym c.numbers_of.ensures)
       (made_narrow c.args.schedule c.args.monitored c.args.job.now c.args.tables.now c.args.work.now c.requires.loaded
-      c.requires.schedule_value _ c.loop-k.s c.loop-k.trace c.loop-k.examined c.loop-k.from c.loop-k.at c.loop-k.k (underway (goal.at.put_entry-at-requires c).In-loop-k c.requires.loaded) (more (goal.at.put_entry-at-requires c).In-loop-k c.requires.loaded) _ _ (rw c.in-Chosen.is at c.choice_of-choice.ensures) c.fetch-fetched.result c.fetch-fetched.ensures.fetched c.turn-turned.result c.turn-turned.ensures _ c.in-Made.is),
+      c.requires.schedule_value _ c.loop-k.s c.loop-k.trace c.loop-k.examined c.loop-k.from c.loop-k.at c.loop-k.k (underway (goal.at.put_entry-at-requires c).In-loop-k c.requires.loaded) (more (goal.at.put_entry-at-requires c).In-loop-k c.requires.loaded) _ _ (rw c.in-Some.is at c.choice_of-choice.ensures) c.fetch-fetched.result c.fetch-fetched.ensures.fetched c.turn-turned.result c.turn-turned.ensures _ c.in-Made.is),
 )
 
 pub overflow_add-k : goal.overflow_add-k
@@ -122,7 +111,7 @@ loop-k-preserved-in-Made c = λ ready.
     let r = c.loop-k.invariant ready in
     reached c.args.schedule c.args.monitored c.args.job.now c.args.tables.now c.args.work.now ready c.requires.schedule_value _ _ _ _ _ _ _ c.loop-k.last (r.all c.loop-k-test.true)
     (omega (arith, more (goal.at.loop-k-preserved-in-Made c).In-loop-k ready))
-    (underway_next c.args.schedule c.args.monitored c.args.job.now c.args.tables.now c.args.work.now ready c.requires.schedule_value _ c.loop-k.s c.loop-k.trace c.loop-k.examined c.loop-k.from c.loop-k.at c.loop-k.k (underway (goal.at.loop-k-preserved-in-Made c).In-loop-k ready) (more (goal.at.loop-k-preserved-in-Made c).In-loop-k ready) _ _ (rw c.in-Chosen.is at c.choice_of-choice.ensures) c.fetch-fetched.result c.fetch-fetched.ensures.fetched c.turn-turned.result c.turn-turned.ensures _ c.in-Made.is
+    (underway_next c.args.schedule c.args.monitored c.args.job.now c.args.tables.now c.args.work.now ready c.requires.schedule_value _ c.loop-k.s c.loop-k.trace c.loop-k.examined c.loop-k.from c.loop-k.at c.loop-k.k (underway (goal.at.loop-k-preserved-in-Made c).In-loop-k ready) (more (goal.at.loop-k-preserved-in-Made c).In-loop-k ready) _ _ (rw c.in-Some.is at c.choice_of-choice.ensures) c.fetch-fetched.result c.fetch-fetched.ensures.fetched c.turn-turned.result c.turn-turned.ensures _ c.in-Made.is
     (entry_with c.numbers_of.result) c.numbers_of.ensures _ _ (rw (← turns_by_lem c.args.schedule c.args.monitored c.args.job.now c.args.tables.now c.args.work.now ready c.requires.schedule_value) c.requires.tables_in_bounds.0)
     (search rules) c.put_entry-at.ensures) _ (r.never c.loop-k-test.true)
 
@@ -132,7 +121,7 @@ loop-k-smaller c = omega (arith, c.loop-k-test.true)
 pub loop-k-preserved : goal.loop-k-preserved
 loop-k-preserved c = λ ready.
     halted c.args.schedule c.args.monitored _ _ _ _ _ _ _ _ _ _ _ _ (c.loop-k.invariant ready).size
-    (underway_stopped c.args.schedule c.args.monitored c.args.job.now c.args.tables.now c.args.work.now ready c.requires.schedule_value _ c.loop-k.s c.loop-k.trace c.loop-k.examined c.loop-k.from c.loop-k.at c.loop-k.k (underway (goal.at.loop-k-preserved c).In-loop-k ready) (more (goal.at.loop-k-preserved c).In-loop-k ready) _ _ (rw c.in-Chosen.is at c.choice_of-choice.ensures) c.fetch-fetched.result c.fetch-fetched.ensures.fetched c.turn-turned.result c.turn-turned.ensures _ c.in-Stopped.is)
+    (underway_stopped c.args.schedule c.args.monitored c.args.job.now c.args.tables.now c.args.work.now ready c.requires.schedule_value _ c.loop-k.s c.loop-k.trace c.loop-k.examined c.loop-k.from c.loop-k.at c.loop-k.k (underway (goal.at.loop-k-preserved c).In-loop-k ready) (more (goal.at.loop-k-preserved c).In-loop-k ready) _ _ (rw c.in-Some.is at c.choice_of-choice.ensures) c.fetch-fetched.result c.fetch-fetched.ensures.fetched c.turn-turned.result c.turn-turned.ensures _ c.in-Stopped.is)
 
 pub put_snapshot-requires : goal.put_snapshot-requires
 put_snapshot-requires c = let o = (c.loop-k.invariant c.requires.loaded).ended (omega (arith, c.loop-k-test.false)) _ c.ending_of-ending.ensures in

@@ -1,6 +1,5 @@
 use Prim.Native.Nat.{◌<◌}
 use mathlib.Core.Path.{refl}
-use native.Mathlib.Omega.{arith}
 use borrow.Author.Rules.{rules}
 use Rattle.tables.specs.Tables.{wired_in}
 use Rattle.memory.specs.Queues.{count_at}
@@ -40,39 +39,13 @@ plan_turn-plan-requires c = record {
   position_value = refl;
 }
 
-pub change_senders-requires : goal.change_senders-requires
-change_senders-requires c = record {
-  sender_len = ((lengths (goal.at.change_senders-requires c).Start).beside, (lengths (goal.at.change_senders-requires c).Start).counts);
-  n_bound = inside (goal.at.change_senders-requires c).Start;
-  possible = can (goal.at.change_senders-requires c).After-plan_turn-plan;
-}
-
 pub change_queues-requires : goal.change_queues-requires
 change_queues-requires c = record {
-  queue_len = ((lengths (goal.at.change_queues-requires c).Start).places, (lengths (goal.at.change_queues-requires c).Start).counts);
   n_bound = inside (goal.at.change_queues-requires c).Start;
   possible = can (goal.at.change_queues-requires c).After-plan_turn-plan;
 }
 
-pub offset_bounds-self-i-6 : goal.offset_bounds-self-i-6
-offset_bounds-self-i-6 c = let h = inside (goal.at.offset_bounds-self-i-6 c).Start in omega arith
-
-pub bounds-self-i-6 : goal.bounds-self-i-6
-bounds-self-i-6 c = let h = inside (goal.at.bounds-self-i-6 c).Start in omega arith
-
-pub offset_bounds-self-i-7 : goal.offset_bounds-self-i-7
-offset_bounds-self-i-7 c = let h = inside (goal.at.offset_bounds-self-i-7 c).Start in omega arith
-
-pub bounds-self-i-7 : goal.bounds-self-i-7
-bounds-self-i-7 c = let h = inside (goal.at.bounds-self-i-7 c).Start in omega arith
-
-pub offset_bounds-self-i-8 : goal.offset_bounds-self-i-8
-offset_bounds-self-i-8 c = let h = inside (goal.at.offset_bounds-self-i-8 c).Start in omega arith
-
-pub bounds-self-i-8 : goal.bounds-self-i-8
-bounds-self-i-8 c = let h = inside (goal.at.bounds-self-i-8 c).Start in omega arith
-
 pub returns : goal.returns
 returns c = carried_out c.args.tables.now c.args.fetched c.args.self c.args.n c.args.monitored c.requires.bounded_counts (lengths (goal.at.returns c).Start) c.plan_turn-plan.result
-    c.plan_turn-plan.ensures.plans_turn (inside (goal.at.returns c).Start) _ _ _ _ c.change_senders.ensures
-    (c.change_queues.ensures.slots, c.change_queues.ensures.counts) c.change_variable.ensures (before (goal.at.returns c).Start) c.plan_turn-plan.ensures.ready
+    c.plan_turn-plan.ensures.plans_turn (inside (goal.at.returns c).Start) _ _ _ _ c.change_queues.ensures.senders
+    (c.change_queues.ensures.values, c.change_queues.ensures.counts) c.change_variable.ensures (before (goal.at.returns c).Start) c.plan_turn-plan.ensures.ready

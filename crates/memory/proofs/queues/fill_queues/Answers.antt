@@ -1,7 +1,8 @@
 use Prim.Native.Nat.{ℕ, ◌*◌}
-use mathlib.Core.Path.{sym, ap, ◌∙◌}
+use mathlib.Core.Path.{ap, ◌∙◌}
 use mathlib.Core.List.{List, map}
 use native.Mathlib.Omega.{arith}
+use borrow.Author.Rules.{rules}
 use lib.ListN.{get_or, length-map}
 use Rattle.model.specs.State.{start_sender, message_from}
 use Rattle.tables.specs.Tables.{firsts_in}
@@ -12,7 +13,7 @@ use Rattle.memory.proofs.queues.fill_queues.Goals as goal
 use Rattle.memory.proofs.queues.fill_queues.Goals.{in-Message, in_default}
 
 pub loop-n-init : goal.loop-n-init
-loop-n-init c = (queued_none _ _ _ (length-map c.args.queue.now (message_from start_sender) ∙ c.requires.0) c.requires.1, λ test own all. all)
+loop-n-init c = (queued_none _ _ _ (length-map c.args.queue.now (message_from start_sender) ∙ search rules) (search rules), λ test own all. all)
 
 pub loop-n-preserved : goal.loop-n-preserved
 loop-n-preserved c = elim c.match-first.branch [
@@ -26,9 +27,5 @@ loop-n-preserved c = elim c.match-first.branch [
   | in_default w ↦ rw (w.queue-is, w.waiting-is) (queued_empty c.loop-n.invariant.0 (omega arith) (ap (map (message_from start_sender)) w.in_default.ensures), c.loop-n.invariant.1)
 ]
 
-pub returns : goal.returns
-returns c = record {
-  queues = queued_all c.loop-n.invariant.0 (omega arith);
-  slots = c.loop-n.invariant.1;
-  size = sym (length-map c.loop-n.queue (message_from start_sender)) ∙ c.loop-n.invariant.0.places;
-}
+pub returns-clause-queues : goal.returns-clause-queues
+returns-clause-queues c = queued_all c.loop-n.invariant.0 (omega arith)

@@ -1,4 +1,3 @@
-use Prim.Native.Nat.{◌-◌}
 use mathlib.Core.List.{map}
 use lib.ListN.{get_or}
 use Rattle.model.specs.State.{start_sender, message_from}
@@ -11,6 +10,3 @@ abbrev pub invariant-loop-n : goal.invariant-loop-n
 invariant-loop-n l = Queued (λ k. map (message_from start_sender) (firsts_in l.tables k)) l.n l.waiting (map (message_from start_sender) l.queue)
     × BringsOnly (λ k. message_from start_sender (get_or (firsts_in l.tables k) 0 0)) (map (message_from start_sender) l.initial.queue)
     (map (message_from start_sender) l.queue)
-
-abbrev pub decreases-loop-n : goal.decreases-loop-n
-decreases-loop-n l = 32 - l.n

@@ -1,28 +1,20 @@
-use Prim.Native.Nat.{◌<◌}
-use native.Mathlib.Omega.{arith}
 use borrow.Author.Rules.{rules}
-use Rattle.memory.proofs.Readying.{waking_none, waking_inside, waking_one, waking_other, waking_all}
+use Rattle.memory.proofs.Readying.{waking_none, waking_one, waking_other, waking_all}
 use Rattle.memory.proofs.ready.woken.Goals as goal
-use Rattle.memory.proofs.ready.woken.Goals.{then-targets-ready, else-targets-ready}
+use Rattle.memory.proofs.ready.woken.Goals.{then-targets-eq1+then-not-is_ready, else-targets-eq1, else-targets-eq1-via-then-targets-eq1+else-not-is_ready, else-targets-eq1-via-else-targets-eq1}
 
-pub loop-targets-init : goal.loop-targets-init
-loop-targets-init c = waking_none _ _ _ (search rules)
+pub loop-target-init : goal.loop-target-init
+loop-target-init c = waking_none _ _ _ (search rules)
 
-pub is_ready-ready-requires : goal.is_ready-ready-requires
-is_ready-ready-requires c = waking_inside c.loop-targets.invariant (omega (arith, c.loop-targets-test.true))
-
-pub overflow_add-count : goal.overflow_add-count
-overflow_add-count c = omega (arith, c.loop-targets.invariant.few, c.loop-targets.invariant.ahead.inside)
-
-pub overflow_add-target : goal.overflow_add-target
-overflow_add-target c = omega (arith, c.loop-targets.invariant.ahead.inside)
-
-pub loop-targets-preserved : goal.loop-targets-preserved
-loop-targets-preserved c = let more : 0 < c.loop-targets.targets = omega (arith, c.loop-targets-test.true) in
-    elim c.if-targets-ready.branch [
-      | then-targets-ready w ↦ rw w.count-is (waking_one c.loop-targets.invariant more (rw (← c.is_ready-ready.ensures) w.if-targets-ready.true))
-      | else-targets-ready w ↦ rw w.count-is (waking_other c.loop-targets.invariant more (rw (← c.is_ready-ready.ensures) w.if-targets-ready.false))
+pub loop-target-preserved : goal.loop-target-preserved
+loop-target-preserved c =
+    elim c.if-targets-eq1.branch [
+      | then-targets-eq1+then-not-is_ready w ↦ rw w.count-is (waking_one c.loop-target.invariant c.loop-target-test.true (search rules))
+      | else-targets-eq1 w ↦ rw w.count-is (elim w.else-targets-eq1.branch [
+        | else-targets-eq1-via-then-targets-eq1+else-not-is_ready v ↦ waking_other c.loop-target.invariant c.loop-target-test.true (search rules)
+        | else-targets-eq1-via-else-targets-eq1 v ↦ waking_other c.loop-target.invariant c.loop-target-test.true (search rules)
+      ])
     ]
 
-pub returns : goal.returns
-returns c = waking_all c.loop-targets.invariant _ c.targets_of-targets.ensures (omega (arith, c.loop-targets-test.false))
+pub returns-then-targets-eq0 : goal.returns-then-targets-eq0
+returns-then-targets-eq0 c = waking_all c.loop-target.invariant _ c.targets_of-targets.ensures c.if-targets-eq0.true

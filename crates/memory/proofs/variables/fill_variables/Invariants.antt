@@ -1,4 +1,3 @@
-use Prim.Native.Nat.{◌-◌}
 use Rattle.model.specs.Table.{max_variables}
 use Rattle.tables.specs.Tables.{start_in}
 use Rattle.memory.proofs.Filled.{Filled}
@@ -6,6 +5,3 @@ use Rattle.memory.proofs.variables.fill_variables.Given as goal
 
 abbrev pub invariant-loop-x : goal.invariant-loop-x
 invariant-loop-x l = Filled (start_in l.tables) 0 max_variables l.x l.variable
-
-abbrev pub decreases-loop-x : goal.decreases-loop-x
-decreases-loop-x l = 64 - l.x
