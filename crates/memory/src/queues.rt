@@ -9,7 +9,7 @@ ghost use Rattle.memory.specs.Changes.{Possible, slots_after, counts_after};
 
 use crate::Change;
 use command::numbers::NodeNum;
-use declared::{First, first_message, is_wired, targets_of};
+use declared::{first_message, is_wired, targets_of};
 
 // The queues hold the START values.
 pub fn fill_queues(queue: &mut [u32; 512], waiting: &mut [u8; 32], tables: &[u32])
@@ -20,8 +20,7 @@ pub fn fill_queues(queue: &mut [u32; 512], waiting: &mut [u8; 32], tables: &[u32
     ensures size { length queue.new ≡ 512 }
 {
     for n in 0..32 {
-        let first = first_message(tables, NodeNum(n as u32));
-        if let First::Message(value) = first {
+        if let Some(value) = first_message(tables, NodeNum(n as u32)) {
             queue[n * 16] = value;
             waiting[n] = 1;
         } else {
