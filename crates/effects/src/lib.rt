@@ -20,15 +20,12 @@ pub struct Effect {
 fn continue_at(own: Registers, position: u32, accumulator: u32, change: Change) -> Effect
     ensures { result ≡ effect position accumulator own.message change }
 {
-    let message = own.message;
-    Effect {
-        registers: Registers {
-            position: position,
-            accumulator: accumulator,
-            message: message,
-        },
-        change: change,
-    }
+    let registers = Registers {
+        position,
+        accumulator,
+        ..own
+    };
+    Effect { registers, change }
 }
 
 // The effect of a handler command.

@@ -1,10 +1,11 @@
 -- The engine on an accepted job, by the program that job, tables and work buffer stand for.
+use Rattle.command.specs.declared.instruction.Instruction.{Instruction}
 use Prim.Native.Nat.{ℕ, ◌≤◌, ◌<◌}
 use mathlib.Core.Path.{◌≡◌, sym, ◌∙◌, ap, subst}
 use mathlib.Core.Bool.{Bool, true, false}
 use mathlib.Core.List.{List}
 use mathlib.Core.Logic.{inl, inr, ⊎_elim}
-use Rattle.std.proofs.Common.{None}
+use Rattle.std.proofs.Common.{None, Option}
 use native.Mathlib.Omega.{arith}
 use lib.ListN.{length}
 use borrow.Author.Tests.{le-ltb}
@@ -22,7 +23,6 @@ use Rattle.model.proofs.Growth.{length-handler}
 use Rattle.model.proofs.Positions.{Idles, program-jumps, initial_placed, turn-placed, monitored-placed, turn_idles, monitored_idles}
 use Rattle.model.proofs.Valid.{job-valid, limits}
 use Rattle.model.proofs.Ways.{Keeps}
-use Rattle.command.specs.declared.instruction.Fetched.{Fetched}
 use Rattle.command.specs.Instructions.{fetched_of, command_in}
 use Rattle.tables.specs.Tables.{count_in}
 use Rattle.tables.specs.Programs.{program_in}
@@ -84,7 +84,7 @@ module _ (job t w : List ℕ) (past : List Command) (e : decode_job job ≡ acce
     short n = omega (arith, length-handler past n, (limits past valid.commands).handlers n)
 
     comes_by :
-        (s : State) (fetched : Fetched) (n : ℕ) (monitored : Bool) (x : Turned)
+        (s : State) (fetched : Option Instruction) (n : ℕ) (monitored : Bool) (x : Turned)
         → fetched_of fetched ≡ command_in (handlers_in job t work n) (position_at (view s) n) → Turns t fetched n monitored s x
         → Comes (view s) (rule_of monitored P (view s) n) x.outcome (view x.state)
     comes_by s fetched n monitored x f h =

@@ -1,4 +1,6 @@
 -- The plan of a turn, carried out on the state's arrays, is the turn.
+use Rattle.std.proofs.Common.{Option}
+use Rattle.command.specs.declared.instruction.Instruction.{Instruction}
 use Prim.Native.Nat.{ℕ, ◌*◌, ◌≤◌, ◌<◌}
 use mathlib.Core.Path.{◌≡◌, refl, sym, ◌∙◌, ap, ap₂, subst, fun_ext}
 use mathlib.Core.Bool.{Bool}
@@ -11,7 +13,6 @@ use Rattle.model.specs.Table.{NODE}
 use Rattle.model.specs.State.{Message, message_from, State as Meant, position_at, accumulator_at, waiting_at}
 use Rattle.model.specs.Turn.{oldest}
 use Rattle.command.specs.declared.numbers.NodeNum.{NodeNum}
-use Rattle.command.specs.declared.instruction.Fetched.{Fetched}
 use Rattle.command.specs.Instructions.{fetched_of, command_in}
 use Rattle.command.proofs.Fetching.{standing, standing-there}
 use Rattle.tables.specs.Tables.{count_in, wired_in}
@@ -38,7 +39,7 @@ pub record Lengths (s : State) : Type 0 where
   pub places : length s.queue ≡ 512
   pub beside : length s.sender ≡ 512
 
-module _ (t : List ℕ) (fetched : Fetched) (s : State) (n : NodeNum) (monitored : Bool) (bounded : BoundedCounts s.waiting)
+module _ (t : List ℕ) (fetched : Option Instruction) (s : State) (n : NodeNum) (monitored : Bool) (bounded : BoundedCounts s.waiting)
     (lengths : Lengths s) where
   -- as many values as senders
   alike : length s.queue ≡ length s.sender

@@ -1,5 +1,6 @@
 -- The engine on an accepted job: its start and its turns are those of the job's program.
-use Rattle.std.specs.Prelude.{ℕ, ◌≤◌, ◌<◌, ◌≡◌, Bool, List, length}
+use Rattle.command.specs.declared.instruction.Instruction.{Instruction}
+use Rattle.std.specs.Prelude.{ℕ, ◌≤◌, ◌<◌, ◌≡◌, Bool, List, length, Option}
 use Rattle.model.specs.Command.{Command}
 use Rattle.model.specs.Declared.{turns_of}
 use Rattle.model.specs.Program.{program_of}
@@ -7,7 +8,6 @@ use Rattle.model.specs.State.{position_at, initial_state}
 use Rattle.model.specs.Dispatch.{ready_count}
 use Rattle.model.specs.Refusal.{accepted, decode_job, work_size}
 use Rattle.model.specs.Valid.{Placed}
-use Rattle.command.specs.declared.instruction.Fetched.{Fetched}
 use Rattle.command.specs.Instructions.{fetched_of, command_in}
 use Rattle.tables.specs.Stands.{Stands}
 use Rattle.handlers.specs.Loading.{handlers_in, loaded}
@@ -23,7 +23,7 @@ use Rattle.engine.specs.Engine.{view, Starts, Turns}
 pub data Led (job t w : List ℕ) (nodes : ℕ) : State → Type 0 where
   at_start : (s : State) → Starts t s → Led job t w nodes s
   after_turn :
-      (s : State) → Led job t w nodes s → (fetched : Fetched) (n : ℕ) (monitored : Bool) (x : Turned) → n < nodes
+      (s : State) → Led job t w nodes s → (fetched : Option Instruction) (n : ℕ) (monitored : Bool) (x : Turned) → n < nodes
       → fetched_of fetched ≡ command_in (handlers_in job t w n) (position_at (view s) n) → Turns t fetched n monitored s x
       → Led job t w nodes x.state
 
@@ -34,7 +34,7 @@ pub data Led (job t w : List ℕ) (nodes : ℕ) : State → Type 0 where
 pub record EngineMeets (job t w : List ℕ) (past : List Command) : Type 0 where
   pub start : (s : State) → Starts t s → view s ≡ initial_state (program_of past)
   pub turn :
-      (s : State) (fetched : Fetched) (n : ℕ) (monitored : Bool) (turned : Turned)
+      (s : State) (fetched : Option Instruction) (n : ℕ) (monitored : Bool) (turned : Turned)
       → fetched_of fetched ≡ command_in (handlers_in job t w n) (position_at (view s) n) → Turns t fetched n monitored s turned
       → Comes (view s) (rule_of monitored (program_of past) (view s) n) turned.outcome (view turned.state)
   pub ready : (s : State) → Led job t w (program_of past).nodes s → s.ready ≡ ready_count (program_of past).nodes (view s)

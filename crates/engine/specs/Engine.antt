@@ -1,9 +1,9 @@
 -- The state of a run in the code, and what its start and its turns are.
-use Rattle.std.specs.Prelude.{ℕ, ◌≡◌, Bool, true, List, get_or, replicate}
+use Rattle.command.specs.declared.instruction.Instruction.{Instruction}
+use Rattle.std.specs.Prelude.{ℕ, ◌≡◌, Bool, true, List, get_or, replicate, Option}
 use Rattle.model.specs.Table.{NODE}
 use Rattle.model.specs.State.{start_sender, message_from, State as Meant, position_at, accumulator_at, waiting_at, initial_state}
 use Rattle.model.specs.Dispatch.{ready_count}
-use Rattle.command.specs.declared.instruction.Fetched.{Fetched}
 use Rattle.command.specs.Instructions.{fetched_of, command_in}
 use Rattle.tables.specs.Tables.{count_in, firsts_in}
 use Rattle.tables.specs.Programs.{Handlers, program_in}
@@ -52,7 +52,7 @@ pub record Starts (t : List ℕ) (s : State) : Type 0 where
 -- if n becomes idle only at the end of its handler; nothing but its accumulator, sent by n, is brought into a slot, free ones too; outcome
 -- and state are what the turn of the program in the tables comes to, whatever its handlers are, if `fetched` stands in the node's own at
 -- its position; and a stop leaves the whole state, free slots and ready count included
-pub record Turns (t : List ℕ) (fetched : Fetched) (n : ℕ) (monitored : Bool) (before : State) (turned : Turned) : Type 0 where
+pub record Turns (t : List ℕ) (fetched : Option Instruction) (n : ℕ) (monitored : Bool) (before : State) (turned : Turned) : Type 0 where
   pub bounded : BoundedCounts turned.state.waiting
   pub counts : CountsWaiting turned.state
   pub ready : IdlesAtEnd fetched (position_at (view before) n) (position_at (view turned.state) n) → CountsReady t turned.state

@@ -11,10 +11,10 @@ ghost use Rattle.memory.specs.Ready.{Among};
 ghost use Rattle.engine.specs.Engine.{CountsReady, Starts, Turns};
 
 use command::bytes;
-use command::instruction::Fetched;
+use command::instruction::Instruction;
 use command::numbers::NodeNum;
 use declared::count_of;
-use entries::Outcome;
+use entries::{Entry, Stop};
 use memory::queues::{change_queues, fill_queues};
 use memory::ready::count_ready;
 use memory::variables::{change_variable, fill_variables};
@@ -40,7 +40,7 @@ pub struct State {
 #[derive(Drop)]
 pub struct Turned {
     pub state: State,
-    pub outcome: Outcome,
+    pub outcome: Result<Entry, Stop>,
 }
 
 // Every node is idle, its accumulator and message 0; the queues hold the START values, each slot as sent by START; the variables hold
@@ -68,14 +68,20 @@ pub fn start(tables: &[u32]) -> State
 
 impl State {
     // The ready count: what a display asks for after every turn.
-    pub fn ready_count(self) -> u32
-        ensures { result ≡ self.ready }
+    pub fn ready_count(&self) -> u32
+        ensures { result ≡ self.now.ready }
     {
         self.ready
     }
 
     // One turn of a node, by the tables and by what stands in its handler at its position: planned first, and then carried out.
-    pub fn turn(mut self, tables: &[u32], fetched: Fetched, n: NodeNum, monitored: bool) -> Turned
+    pub fn turn(
+        mut self,
+        tables: &[u32],
+        fetched: Option<Instruction>,
+        n: NodeNum,
+        monitored: bool,
+    ) -> Turned
         requires bounded_counts { BoundedCounts self.waiting }
         requires among { Among tables.now n.0 }
         requires fact { (fetched_of fetched ≡ None) ⊎ (get_or self.position n.0 0 < 4294967295) }
@@ -109,7 +115,6 @@ impl State {
         );
         let next = plan.registers;
         let change = plan.change;
-        let outcome = plan.outcome;
         change_queues(
             &mut self.queue,
             &mut self.sender,
@@ -126,7 +131,7 @@ impl State {
         self.ready = plan.ready;
         Turned {
             state: self,
-            outcome,
+            outcome: plan.outcome,
         }
     }
 }

@@ -2,26 +2,17 @@
 use Prim.Native.Nat.{ℕ}
 use mathlib.Core.Path.{◌≡◌, refl}
 use mathlib.Core.Bool.{Bool, true, false, cond}
-use mathlib.Core.List.{List, [], ◌∷◌}
-use types.Run.{OneOf}
-use denote.Enum.Declared.{tag_of}
+use mathlib.Core.List.{List}
 use lib.ListN.{get_or}
-use Rattle.model.specs.Program.{Program, shared_in as is_shared}
+use Rattle.model.specs.Program.{shared_in as is_shared}
 use Rattle.model.specs.State.{State, accumulator_at, variable_at}
-use Rattle.model.specs.Turn.{entry, entry_of}
-use Rattle.model.specs.Permission.{permitted, redacted}
+use Rattle.model.specs.Turn.{entry}
 use Rattle.command.specs.declared.numbers.VarNum.{VarNum}
-use Rattle.command.specs.declared.instruction.Instruction.{Instruction}
-use Rattle.command.specs.declared.instruction.Instruction.TheVariants as i
-use Rattle.command.specs.Instructions.{instruction_of}
-use Rattle.command.specs.contracts.instruction.Instruction.{the_type as command}
 use Rattle.tables.specs.Tables.{shared_in}
 use Rattle.tables.specs.Programs.{Handlers, program_in}
 use Rattle.entries.specs.declared.Event.{Event}
 use Rattle.entries.specs.declared.Event.TheVariants as e
 use Rattle.entries.specs.Entries.{entry_for}
-use Rattle.entries.specs.contracts.Event.{the_type as event}
-use Rattle.command.proofs.Keys.{one_of}
 use Rattle.entries.proofs.Names.{shared_by}
 
 module _ (t : List ℕ) (hs : Handlers) (s : State) (n : ℕ) (x : VarNum) where
@@ -39,42 +30,3 @@ module _ (t : List ℕ) (hs : Handlers) (s : State) (n : ℕ) (x : VarNum) where
   pub write-left : (a : ℕ) → accumulator_at s n ≡ a → entry_for n (cond (shared_in t x.0) (e.Write x a) e.Other) ≡ cond
       (is_shared (program_in t hs) x.0) (entry n 4 x.0 (accumulator_at s n)) (entry n 0 0 0)
   write-left a h = rw (← h, shared_by t hs x.0) (accessed (shared_in t x.0) 4 (accumulator_at s n) (e.Write x (accumulator_at s n)) refl)
-
--- the commands that leave kind 0, and the events that need no permission
-abbrev pub plain : List ℕ
-plain = 0 ∷ 1 ∷ 4 ∷ 6 ∷ 7 ∷ 10 ∷ []
-
-abbrev pub free : List ℕ
-free = 0 ∷ 1 ∷ 2 ∷ 6 ∷ []
-
-pub plain-left : (P : Program) (s : State) (n : ℕ) (k : Instruction) → OneOf plain (tag_of command k)
-    → entry n 0 0 0 ≡ entry_of P s n (instruction_of k)
-plain-left P s n (i.Set v) h = refl
-plain-left P s n i.Take h = refl
-plain-left P s n (i.Get x) h = absurd (one_of plain 2 h)
-plain-left P s n (i.Put x) h = absurd (one_of plain 3 h)
-plain-left P s n (i.Add v) h = refl
-plain-left P s n (i.Plus x) h = absurd (one_of plain 5 h)
-plain-left P s n (i.JumpZero target) h = refl
-plain-left P s n (i.Jump target) h = refl
-plain-left P s n (i.Send port) h = absurd (one_of plain 8 h)
-plain-left P s n (i.Call f) h = absurd (one_of plain 9 h)
-plain-left P s n i.Skip h = refl
-
-pub free-permitted : (P : Program) (n : ℕ) (x : Event) → OneOf free (tag_of event x) → true ≡ permitted P (entry_for n x)
-free-permitted P n e.Other h = refl
-free-permitted P n (e.Begin sender v) h = refl
-free-permitted P n e.Finish h = refl
-free-permitted P n (e.Read x v) h = absurd (one_of free 3 h)
-free-permitted P n (e.Write x v) h = absurd (one_of free 4 h)
-free-permitted P n (e.Call f v) h = absurd (one_of free 5 h)
-free-permitted P n (e.Send port v) h = refl
-
-pub shown-same : (n : ℕ) (x : Event) → ((y : VarNum) (v : ℕ) → ¬ (x ≡ e.Read y v)) → entry_for n x ≡ redacted (entry_for n x)
-shown-same n e.Other h = refl
-shown-same n (e.Begin sender v) h = refl
-shown-same n e.Finish h = refl
-shown-same n (e.Read x v) h = absurd (h x v refl)
-shown-same n (e.Write x v) h = refl
-shown-same n (e.Call f v) h = refl
-shown-same n (e.Send port v) h = refl

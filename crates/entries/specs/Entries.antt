@@ -1,5 +1,6 @@
 -- Trace entries and outcomes of a turn: the code's enums in document 01's numbers.
 use Rattle.std.specs.Prelude.{ℕ, ◌≡◌, Bool, true, false, cond, List}
+use Rattle.std.specs.Prelude.{Result, Ok, Err}
 use Rattle.model.specs.Program.{Program}
 use Rattle.model.specs.State.{State, accumulator_at}
 use Rattle.model.specs.Turn.{Entry as Meant, entry, entry_of, Turned, completed, stopped, turn}
@@ -12,8 +13,6 @@ use Rattle.entries.specs.declared.Event.TheVariants as e
 use Rattle.entries.specs.declared.Entry.{Entry}
 use Rattle.entries.specs.declared.Stop.{Stop}
 use Rattle.entries.specs.declared.Stop.TheVariants as s
-use Rattle.entries.specs.declared.Outcome.{Outcome}
-use Rattle.entries.specs.declared.Outcome.TheVariants as o
 
 -- node, kind, number and value of each event of a node
 abbrev pub entry_for : ℕ → Event → Meant
@@ -40,15 +39,15 @@ attempted_by (s.Forbidden x) = numbers_of x
 attempted_by (s.Unready n) = entry n.0 0 0 0
 attempted_by (s.Full x) = numbers_of x
 
--- what an outcome stands for, with the state after the turn
-abbrev pub turned_by : Outcome → State → Turned
-turned_by (o.Made x) after = completed (numbers_of x) after
-turned_by (o.Stopped x) after = stopped (stop_number x) (attempted_by x)
+-- what an outcome stands for, its entry or the stop, with the state after the turn
+abbrev pub turned_by : Result Entry Stop → State → Turned
+turned_by (Ok x) after = completed (numbers_of x) after
+turned_by (Err stop) after = stopped (stop_number stop) (attempted_by stop)
 
 -- the outcome is a stop
-abbrev pub is_stop : Outcome → Bool
-is_stop (o.Made x) = false
-is_stop (o.Stopped x) = true
+abbrev pub is_stop : Result Entry Stop → Bool
+is_stop (Ok x) = false
+is_stop (Err stop) = true
 
 -- the state after a turn: a stopped turn leaves the state as it was
 abbrev pub state_after : State → Turned → State
@@ -56,7 +55,7 @@ state_after s (completed x after) = after
 state_after s (stopped k x) = s
 
 -- an outcome and a state are what a turn of state `s` comes to
-pub record Comes (s : State) (turned : Turned) (outcome : Outcome) (after : State) : Type 0 where
+pub record Comes (s : State) (turned : Turned) (outcome : Result Entry Stop) (after : State) : Type 0 where
   pub tells : turned_by outcome after ≡ turned
   pub leaves : after ≡ state_after s turned
 

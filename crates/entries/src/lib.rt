@@ -39,13 +39,6 @@ pub enum Stop {
     Full(Entry),
 }
 
-// What a turn comes to: its entry, or the stop.
-#[derive(Clone, Copy)]
-pub enum Outcome {
-    Made(Entry),
-    Stopped(Stop),
-}
-
 // The event of reading a variable: a shared one's shows.
 fn read_of(tables: &[u32], x: VarNum, variable: &[u32]) -> Event
     ensures { result ≡ cond (shared_in tables.now x.0) (Event.Read x (get_or variable.now x.0 0)) Event.Other }

@@ -31,9 +31,9 @@ fn put_end(text: &mut [u8], at: usize, ending: Ending) -> usize
     requires { at + length (end_line (answer_of ending)) ≤ length text.old }
     ensures { Writes (end_line (answer_of ending)) text.old at text.new result }
 {
-    let x = ending.attempted;
+    let x = ending.attempted();
     let numbers = [
-        ending.stop as u64,
+        ending.stop() as u64,
         ending.turns as u64,
         x.node as u64,
         x.kind as u64,

@@ -2,9 +2,8 @@
 use Prim.Native.Nat.{ℕ}
 use mathlib.Core.Path.{◌≡◌, refl, sym, ◌∙◌, ap, subst}
 use mathlib.Core.Bool.{Bool, true, false, cond, not, ◌&&◌}
-use mathlib.Core.List.{List, [], ◌∷◌}
-use types.Run.{OneOf}
-use denote.Enum.Declared.{tag_of}
+use mathlib.Core.List.{List}
+use Rattle.std.proofs.Common.{Result, Ok, Err}
 use Rattle.model.specs.Program.{Program}
 use Rattle.model.specs.State.{State, waiting_at}
 use Rattle.model.specs.Turn.{Entry as Meant, Turned, completed, stopped, entry_of, blocked, executed, performed, turn}
@@ -15,15 +14,13 @@ use Rattle.command.specs.declared.numbers.NodeNum.{NodeNum}
 use Rattle.command.specs.declared.instruction.Instruction.{Instruction}
 use Rattle.command.specs.declared.instruction.Instruction.TheVariants as i
 use Rattle.command.specs.Instructions.{instruction_of}
-use Rattle.command.specs.contracts.instruction.Instruction.{the_type}
 use Rattle.tables.specs.Tables.{wired_in}
 use Rattle.tables.specs.Programs.{Handlers, program_in}
 use Rattle.entries.specs.declared.Event.{Event}
-use Rattle.entries.specs.declared.Outcome.{Outcome}
-use Rattle.entries.specs.declared.Outcome.TheVariants as o
+use Rattle.entries.specs.declared.Entry.{Entry}
+use Rattle.entries.specs.declared.Stop.{Stop}
 use Rattle.entries.specs.declared.Stop.TheVariants as st
 use Rattle.entries.specs.Entries.{entry_for, turned_by, state_after, rule_of}
-use Rattle.command.proofs.Keys.{one_of}
 use Rattle.entries.proofs.Names.{wired_by}
 use Rattle.memory.specs.Queues.{count_at, full}
 use Rattle.memory.specs.declared.Registers.{Registers}
@@ -39,24 +36,6 @@ use Rattle.plans.specs.Plans.{entry_by, plan, Waits, judged, Plans}
 pub full_blocks : (t : List ℕ) (hs : Handlers) (ws : List ℕ) (s : State) (n port : ℕ) → Waits s ws
     → full (wired_in t n port) (count_at ws) ≡ blocked (program_in t hs) s n (instruction_of (i.Send port))
 full_blocks t hs ws s n port h = some-agree _ _ (λ k. rw (wired_by t hs n port k, h k)) _
-
--- the commands but SEND
-abbrev pub silent : List ℕ
-silent = 0 ∷ 1 ∷ 2 ∷ 3 ∷ 4 ∷ 5 ∷ 6 ∷ 7 ∷ 9 ∷ 10 ∷ []
-
-pub silent-goes : (P : Program) (s : State) (n : ℕ) (k : Instruction) → OneOf silent (tag_of the_type k)
-    → false ≡ blocked P s n (instruction_of k)
-silent-goes P s n (i.Set v) h = refl
-silent-goes P s n i.Take h = refl
-silent-goes P s n (i.Get x) h = refl
-silent-goes P s n (i.Put x) h = refl
-silent-goes P s n (i.Add v) h = refl
-silent-goes P s n (i.Plus x) h = refl
-silent-goes P s n (i.JumpZero target) h = refl
-silent-goes P s n (i.Jump target) h = refl
-silent-goes P s n (i.Send port) h = absurd (one_of silent 8 h)
-silent-goes P s n (i.Call f) h = refl
-silent-goes P s n i.Skip h = refl
 
 -- a command whose entry is not permitted is no send, so that no target is full
 forbidden-goes : (P : Program) (s : State) (n : ℕ) (k : Instruction) → permitted P (entry_of P s n (instruction_of k)) ≡ false
@@ -110,7 +89,7 @@ not-permitted false b h = true_false (sym h)
 module _ (P : Program) (s : State) (node : NodeNum) where
   -- a plan that leaves everything as it is, for a stop
   pub stop-planned :
-      (l : Registers) → registers_at s node.0 ≡ l → (turned : Turned) (k : ℕ) (x : Meant) → turned ≡ stopped k x → (outcome : Outcome)
+      (l : Registers) → registers_at s node.0 ≡ l → (turned : Turned) (k : ℕ) (x : Meant) → turned ≡ stopped k x → (outcome : Result Entry Stop)
       → ((after : State) → turned_by outcome after ≡ stopped k x)
       → (ready : ℕ) → Plans P s node.0 turned (plan l c.Nothing outcome ready)
   stop-planned l own turned k x e outcome tells ready =
@@ -129,7 +108,7 @@ module _ (P : Program) (s : State) (node : NodeNum) where
       (l : Registers) (change : Change) (turned : Turned) (x : Meant) (after : State) → turned ≡ completed x after → (event : Event)
       → entry_for node.0 event ≡ x → carried P s node.0 l change ≡ after
       → Possible (P.wired node.0) node.0 (waiting_at s) change
-      → (ready : ℕ) → Plans P s node.0 turned (plan l change (o.Made (entry_by node event)) ready)
+      → (ready : ℕ) → Plans P s node.0 turned (plan l change (Ok (entry_by node event)) ready)
   made-planned l change turned x after e event same leads can ready =
       record {
         comes = record { tells = rw (same, leads) (sym e); leaves = leads ∙ ap (state_after s) (sym e) };
@@ -145,7 +124,7 @@ module _ (P : Program) (s : State) (node : NodeNum) (monitored : Bool) (k : Inst
       (l : Registers) → registers_at s node.0 ≡ l → (monitored && not (permitted P (entry_for node.0 event))) ≡ true → (shown : Event)
       → entry_for node.0 shown ≡ redacted (entry_for node.0 event)
       → (ready : ℕ) → Plans P s node.0 (judged monitored P (executed P s node.0 (instruction_of k)))
-      (plan l c.Nothing (o.Stopped (st.Forbidden (entry_by node shown))) ready)
+      (plan l c.Nothing (Err (st.Forbidden (entry_by node shown))) ready)
   forbidden-planned l own h shown same ready =
       let n = node.0 in
       let f : (monitored && not (permitted P (entry_of P s n (instruction_of k)))) ≡ true = rw (← left) h in
@@ -153,23 +132,23 @@ module _ (P : Program) (s : State) (node : NodeNum) (monitored : Bool) (k : Inst
       stop-planned P s node l own _ 1 (redacted (entry_of P s n (instruction_of k)))
       (ap (judged monitored P) (executed-done P s n (instruction_of k) goes)
       ∙ judged-forbidden monitored P _ (performed P s n (instruction_of k)) f)
-      (o.Stopped (st.Forbidden (entry_by node shown))) (λ after. ap (stopped 1) (same ∙ ap redacted left)) ready
+      (Err (st.Forbidden (entry_by node shown))) (λ after. ap (stopped 1) (same ∙ ap redacted left)) ready
 
   pub full-planned :
       (l : Registers) → registers_at s node.0 ≡ l → blocked P s node.0 (instruction_of k) ≡ true
       → (ready : ℕ) → Plans P s node.0 (judged monitored P (executed P s node.0 (instruction_of k)))
-      (plan l c.Nothing (o.Stopped (st.Full (entry_by node event))) ready)
+      (plan l c.Nothing (Err (st.Full (entry_by node event))) ready)
   full-planned l own h ready =
       let n = node.0 in
       stop-planned P s node l own _ 3 (entry_of P s n (instruction_of k))
       (ap (judged monitored P) (executed-full P s n (instruction_of k) h) ∙ judged-stopped monitored P 3 (entry_of P s n (instruction_of k)))
-      (o.Stopped (st.Full (entry_by node event))) (λ after. ap (stopped 3) left) ready
+      (Err (st.Full (entry_by node event))) (λ after. ap (stopped 3) left) ready
 
   pub made_by :
       (monitored && not (permitted P (entry_for node.0 event))) ≡ false → blocked P s node.0 (instruction_of k) ≡ false → (x : Effect)
       → Does P s node.0 (instruction_of k) x
       → (ready : ℕ) → Plans P s node.0 (judged monitored P (executed P s node.0 (instruction_of k)))
-      (plan x.registers x.change (o.Made (entry_by node event)) ready)
+      (plan x.registers x.change (Ok (entry_by node event)) ready)
   made_by h goes x does ready =
       let n = node.0 in
       let f : (monitored && not (permitted P (entry_of P s n (instruction_of k)))) ≡ false = rw (← left) h in

@@ -2,8 +2,7 @@
 use Prim.Native.Nat.{ℕ, ◌≤◌, ◌<◌}
 use mathlib.Core.Path.{◌≡◌, refl, sym, ◌∙◌, ap, subst}
 use mathlib.Core.Bool.{Bool, true, false, not, ◌&&◌}
-use mathlib.Core.Logic.{◌⊎◌, inl, inr}
-use Rattle.std.proofs.Common.{None, Some}
+use Rattle.std.proofs.Common.{Ok, Err}
 use native.Mathlib.Omega.{arith}
 use lib.ListN.{length}
 use Rattle.model.specs.Program.{Program}
@@ -12,12 +11,7 @@ use Rattle.model.specs.Declared.{Instruction}
 use Rattle.model.specs.Turn.{Turned, entry, turn, oldest, begun, finished, executed, instruction_at}
 use Rattle.model.proofs.Turns.{turn-unready, turn-begun, turn-executed, turn-finished}
 use Rattle.command.specs.declared.numbers.NodeNum.{NodeNum}
-use Rattle.command.specs.declared.instruction.Instruction.{Instruction as Code}
-use Rattle.command.specs.declared.instruction.Fetched.{Fetched}
-use Rattle.command.specs.declared.instruction.Fetched.TheVariants as f
-use Rattle.command.specs.Instructions.{instruction_of, fetched_of}
 use Rattle.entries.specs.declared.Event.TheVariants as e
-use Rattle.entries.specs.declared.Outcome.TheVariants as o
 use Rattle.entries.specs.declared.Stop.TheVariants as st
 use Rattle.entries.specs.Entries.{rule_of}
 use Rattle.memory.specs.declared.Registers.{Registers}
@@ -41,20 +35,20 @@ module _ (P : Program) (s : State) (node : NodeNum) (monitored : Bool) (l : Regi
   ruled turned h = rule-judged monitored P s node.0 ∙ ap (judged monitored P) h
 
   pub unready-planned : l.position ≡ 255 → waiting_at s node.0 ≡ 0
-      → (ready : ℕ) → Plans P s node.0 (rule_of monitored P s node.0) (plan l c.Nothing (o.Stopped (st.Unready node)) ready)
+      → (ready : ℕ) → Plans P s node.0 (rule_of monitored P s node.0) (plan l c.Nothing (Err (st.Unready node)) ready)
   unready-planned p empty ready =
       stop-planned P s node l own _ 2 (entry node.0 0 0 0)
       (ruled _ (turn-unready P s node.0 (at ∙ p) empty) ∙ judged-stopped monitored P 2 (entry node.0 0 0 0))
-      (o.Stopped (st.Unready node)) (λ after. refl) ready
+      (Err (st.Unready node)) (λ after. refl) ready
 
   pub begun-planned :
       l.position ≡ 255 → ¬ (waiting_at s node.0 ≡ 0) → (first : Message) → oldest s node.0 ≡ first
       → (ready : ℕ) → Plans P s node.0 (rule_of monitored P s node.0)
-      (plan (registers 0 0 first.value) c.Take (o.Made (entry_by node (e.Begin first.sender first.value))) ready)
+      (plan (registers 0 0 first.value) c.Take (Ok (entry_by node (e.Begin first.sender first.value))) ready)
   begun-planned p waits first h ready =
       let m = oldest s node.0 in
       subst (λ (m : Message). Plans P s node.0 (rule_of monitored P s node.0)
-      (plan (registers 0 0 m.value) c.Take (o.Made (entry_by node (e.Begin m.sender m.value))) ready)) h
+      (plan (registers 0 0 m.value) c.Take (Ok (entry_by node (e.Begin m.sender m.value))) ready)) h
       (made-planned P s node (registers 0 0 m.value) c.Take _ (entry node.0 1 m.sender m.value) (begun s node.0)
       (ruled _ (turn-begun P s node.0 (at ∙ p) waits) ∙ judged-made monitored P (entry node.0 1 m.sender m.value)
       (begun s node.0) (never monitored))
@@ -63,7 +57,7 @@ module _ (P : Program) (s : State) (node : NodeNum) (monitored : Bool) (l : Regi
   pub finished-planned :
       ¬ (l.position ≡ 255) → length (P.handler node.0) ≤ l.position
       → (ready : ℕ) → Plans P s node.0 (rule_of monitored P s node.0)
-      (plan (registers 255 0 0) c.Nothing (o.Made (entry_by node e.Finish)) ready)
+      (plan (registers 255 0 0) c.Nothing (Ok (entry_by node e.Finish)) ready)
   finished-planned p h ready =
       made-planned P s node (registers 255 0 0) c.Nothing _ (entry node.0 2 0 0) (finished s node.0)
       (ruled _ (turn-finished P s node.0 (λ q. p (sym at ∙ q)) (omega (arith, at)))
@@ -78,16 +72,3 @@ module _ (P : Program) (s : State) (node : NodeNum) (monitored : Bool) (l : Regi
       subst (λ (x : Turned). Plans P s node.0 x p)
       (sym (ruled _ (turn-executed P s node.0 (λ r. q (sym at ∙ r)) (omega (arith, at)))
       ∙ ap (λ (j : Instruction). judged monitored P (executed P s node.0 j)) (ap (instruction_at P node.0) at ∙ sym same))) plans
-
--- where a command was fetched, it is not the end; and the next position can be counted
-pub not_end : {A : Type 0} (fetched : Fetched) (i : Code) → fetched ≡ f.Command i → fetched_of fetched ≡ None → A
-not_end fetched i is e =
-    let never : Some (instruction_of i) ≡ None = sym (ap fetched_of is) ∙ e in
-    let z : ◌≡◌ {A = ℕ} 0 1 = cc in
-    absurd (omega arith)
-
-pub countable :
-    (fetched : Fetched) (i : Code) (position : ℕ) → (fetched_of fetched ≡ None) ⊎ (position < 4294967295) → fetched ≡ f.Command i
-    → position < 4294967295
-countable fetched i position (inl e) is = not_end fetched i is e
-countable fetched i position (inr h) is = h

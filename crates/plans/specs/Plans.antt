@@ -1,20 +1,19 @@
 -- A turn as a plan: the node's registers after it, what it changes besides, its outcome, and the ready count after it.
-use Rattle.std.specs.Prelude.{ℕ, ◌≤◌, ◌≡◌, Bool, true, cond, List, ◌⊎◌, get_or, set}
-use Rattle.std.specs.Prelude.{None}
+use Rattle.std.specs.Prelude.{ℕ, ◌≤◌, ◌≡◌, Bool, true, cond, List, ◌⊎◌, get_or, set, Option}
+use Rattle.std.specs.Prelude.{None, Result}
 use Rattle.model.specs.Table.{NODE}
 use Rattle.model.specs.Program.{Program}
 use Rattle.model.specs.State.{Message, State, idle, waiting_at}
 use Rattle.model.specs.Turn.{Turned, blocked, executed, oldest}
 use Rattle.model.specs.Permission.{enforced}
 use Rattle.command.specs.declared.instruction.Instruction.{Instruction}
-use Rattle.command.specs.declared.instruction.Fetched.{Fetched}
 use Rattle.command.specs.Instructions.{instruction_of, fetched_of, command_in}
 use Rattle.command.specs.declared.numbers.NodeNum.{NodeNum}
 use Rattle.tables.specs.Tables.{count_in, wired_in}
 use Rattle.tables.specs.Programs.{Handlers, program_in}
 use Rattle.entries.specs.declared.Event.{Event}
 use Rattle.entries.specs.declared.Entry.{Entry}
-use Rattle.entries.specs.declared.Outcome.{Outcome}
+use Rattle.entries.specs.declared.Stop.{Stop}
 use Rattle.entries.specs.Entries.{Comes, is_stop, rule_of}
 use Rattle.memory.specs.declared.Registers.{Registers}
 use Rattle.memory.specs.declared.Change.{Change}
@@ -29,7 +28,7 @@ abbrev pub entry_by : NodeNum → Event → Entry
 entry_by n event = record { node = n; event = event }
 
 -- the plan with these parts
-abbrev pub plan : Registers → Change → Outcome → ℕ → Plan
+abbrev pub plan : Registers → Change → Result Entry Stop → ℕ → Plan
 plan l change outcome ready = record { registers = l; change = change; outcome = outcome; ready = ready }
 
 -- as many messages wait at each node as `ws` says
@@ -59,7 +58,7 @@ PlansCommand t n monitored i l ws variables p =
 
 -- the plan is the node's turn, in every state with these registers, counts and variables and, if a message waits, this oldest one,
 -- whatever the handlers are, if `fetched` stands in the node's own at its position
-abbrev pub PlansTurn : List ℕ → Fetched → NodeNum → Bool → Registers → Message → List ℕ → List ℕ → Plan → Type 0
+abbrev pub PlansTurn : List ℕ → Option Instruction → NodeNum → Bool → Registers → Message → List ℕ → List ℕ → Plan → Type 0
 PlansTurn t fetched n monitored l first ws variables p =
     (hs : Handlers) (s : State) → Shows s n.0 l variables → Waits s ws → (1 ≤ waiting_at s n.0 → oldest s n.0 ≡ first)
     → fetched_of fetched ≡ command_in (hs n.0) l.position
@@ -67,7 +66,7 @@ PlansTurn t fetched n monitored l first ws variables p =
 
 -- a turn makes its node idle only at the end of its handler, by the node's position before and after it: as it is with handlers of at most
 -- 64 commands, where no command leads to the position that stands for idle
-abbrev pub IdlesAtEnd : Fetched → ℕ → ℕ → Type 0
+abbrev pub IdlesAtEnd : Option Instruction → ℕ → ℕ → Type 0
 IdlesAtEnd fetched before after = after ≡ idle → (before ≡ idle) ⊎ (fetched_of fetched ≡ None)
 
 -- the plan has the ready count (S-4) of the arrays after it, over the nodes of the tables

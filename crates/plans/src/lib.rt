@@ -2,20 +2,20 @@
 #![tactic(auto)]
 
 ghost use Rattle.std.specs.Prelude.{◌≡◌, ◌⊎◌, not, ◌&&◌, ◌<◌, get_or};
-ghost use Rattle.std.specs.Prelude.{None};
+ghost use Rattle.std.specs.Prelude.{None, Ok, Err};
 ghost use Rattle.model.specs.Permission.{permitted};
 ghost use Rattle.model.specs.State.{message_from, idle};
 ghost use Rattle.command.specs.Instructions.{fetched_of};
 ghost use Rattle.tables.specs.Programs.{Handlers, program_in};
 ghost use Rattle.entries.specs.Entries.{entry_for};
-ghost use Rattle.memory.specs.Changes.{registers};
+ghost use Rattle.memory.specs.declared.Change.TheVariants.{Nothing};
 ghost use Rattle.memory.specs.Ready.{ReadyCounted};
 ghost use Rattle.plans.specs.Plans.{plan, entry_by, Blocks, PlansCommand, PlansTurn, IdlesAtEnd, PlansReady};
 
-use command::instruction::{Fetched, Instruction};
+use command::instruction::Instruction;
 use command::numbers::NodeNum;
 use effects::effect_of;
-use entries::{Entry, Event, Outcome, Stop, event_of, is_permitted, redact};
+use entries::{Entry, Event, Stop, event_of, is_permitted, redact};
 use memory::queues::has_full;
 use memory::ready::ready_with;
 use memory::{Change, IDLE, Registers};
@@ -25,7 +25,7 @@ use memory::{Change, IDLE, Registers};
 pub struct Plan {
     pub registers: Registers,
     pub change: Change,
-    pub outcome: Outcome,
+    pub outcome: Result<Entry, Stop>,
     pub ready: u32,
 }
 
@@ -44,43 +44,34 @@ fn blocks(tables: &[u32], n: NodeNum, instruction: Instruction, waiting: &[u8; 3
 fn is_forbidden(tables: &[u32], n: NodeNum, monitored: bool, event: Event) -> bool
     ensures { (hs : Handlers) → result ≡ (monitored && not (permitted (program_in tables.now hs) (entry_for n.0 event))) }
 {
-    if monitored {
-        let permitted = is_permitted(tables, n, event);
-        return !permitted;
-    }
-    false
+    monitored && !is_permitted(tables, n, event)
 }
 
-// The plan with these parts.
-fn planned(registers: Registers, change: Change, outcome: Outcome, ready: u32) -> Plan
-    ensures { result ≡ plan registers change outcome ready }
-{
-    Plan {
-        registers: registers,
-        change: change,
-        outcome: outcome,
-        ready: ready,
+impl Plan {
+    // The plan of a turn that leaves its entry: the node's registers, the change and the ready count are new.
+    fn made(n: NodeNum, event: Event, registers: Registers, change: Change, ready: u32) -> Plan
+        ensures { result ≡ plan registers change (Ok (entry_by n event)) ready }
+    {
+        let outcome = Ok(Entry { node: n, event });
+        Plan {
+            registers,
+            change,
+            outcome,
+            ready,
+        }
     }
-}
 
-// Registers with a position, accumulator 0 and a message.
-fn registers_at(position: u32, message: u32) -> Registers
-    ensures { result ≡ registers position 0 message }
-{
-    Registers {
-        position: position,
-        accumulator: 0,
-        message: message,
-    }
-}
-
-// A trace entry.
-fn make_entry(n: NodeNum, event: Event) -> Entry
-    ensures { result ≡ entry_by n event }
-{
-    Entry {
-        node: n,
-        event: event,
+    // The plan of a turn that is stopped: registers and ready count are as before it, and nothing changes.
+    fn stopped(registers: Registers, stop: Stop, ready: u32) -> Plan
+        ensures { result ≡ plan registers Nothing (Err stop) ready }
+    {
+        let outcome = Err(stop);
+        Plan {
+            registers,
+            change: Change::Nothing,
+            outcome,
+            ready,
+        }
     }
 }
 
@@ -111,17 +102,15 @@ fn decide<'a>(
     let change = effect.change;
     let counted = ready_with(ready, tables, n, change, position, waiting);
     if is_forbidden(tables, n, monitored, event) {
-        let shown = redact(event);
-        let entry = make_entry(n, shown);
-        let forbidden = Outcome::Stopped(Stop::Forbidden(entry));
-        return planned(registers, Change::Nothing, forbidden, ready);
+        let event = redact(event);
+        let entry = Entry { node: n, event };
+        return Plan::stopped(registers, Stop::Forbidden(entry), ready);
     }
-    let entry = make_entry(n, event);
     if blocks(tables, n, instruction, waiting) {
-        let full = Outcome::Stopped(Stop::Full(entry));
-        return planned(registers, Change::Nothing, full, ready);
+        let entry = Entry { node: n, event };
+        return Plan::stopped(registers, Stop::Full(entry), ready);
     }
-    planned(effect.registers, change, Outcome::Made(entry), counted)
+    Plan::made(n, event, effect.registers, change, counted)
 }
 
 // The turn of a node, by what stands in its handler at its position, its registers, the message in its first slot with its sender, how many
@@ -129,7 +118,7 @@ fn decide<'a>(
 // that finishes is no longer, unless a message waits at it.
 pub fn plan_turn<'a>(
     tables: &[u32],
-    fetched: Fetched,
+    fetched: Option<Instruction>,
     n: NodeNum,
     monitored: bool,
     registers: Registers,
@@ -151,15 +140,17 @@ pub fn plan_turn<'a>(
     let i = n.0 as usize;
     if registers.position == IDLE {
         if waiting[i] == 0 {
-            let unready = Outcome::Stopped(Stop::Unready(n));
-            return planned(registers, Change::Nothing, unready, ready);
+            return Plan::stopped(registers, Stop::Unready(n), ready);
         }
-        let entry = make_entry(n, Event::Begin(sender, oldest));
-        let begun = registers_at(0, oldest);
-        return planned(begun, Change::Take, Outcome::Made(entry), ready);
+        let begun = Registers {
+            position: 0,
+            accumulator: 0,
+            message: oldest,
+        };
+        return Plan::made(n, Event::Begin(sender, oldest), begun, Change::Take, ready);
     }
     match fetched {
-        Fetched::Command(instruction) => {
+        Some(instruction) => {
             decide(
                 tables,
                 n,
@@ -172,13 +163,14 @@ pub fn plan_turn<'a>(
                 ready,
             )
         }
-        Fetched::End => {
-            let entry = make_entry(n, Event::Finish);
-            let idle = registers_at(IDLE, 0);
-            if waiting[i] == 0 {
-                return planned(idle, Change::Nothing, Outcome::Made(entry), ready - 1);
-            }
-            planned(idle, Change::Nothing, Outcome::Made(entry), ready)
+        None => {
+            let idle = Registers {
+                position: IDLE,
+                accumulator: 0,
+                message: 0,
+            };
+            let left = if waiting[i] == 0 { ready - 1 } else { ready };
+            Plan::made(n, Event::Finish, idle, Change::Nothing, left)
         }
     }
 }

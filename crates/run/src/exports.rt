@@ -15,11 +15,11 @@ fn numbers_in(answer: Answer) -> [u64; 8]
     match answer {
         Answer::Refused(r) => [r.number as u64, r.place as u64, 0, 0, 0, 0, 0, 0],
         Answer::Ended(x) => {
-            let e = x.attempted;
+            let e = x.attempted();
             [
                 0,
                 0,
-                x.stop as u64,
+                x.stop() as u64,
                 x.turns as u64,
                 e.node as u64,
                 e.kind as u64,

@@ -1,16 +1,17 @@
 -- The loop over the turns of an accepted job: what it keeps, and what it comes to.
+use Rattle.command.specs.declared.instruction.Instruction.{Instruction}
 use Prim.Native.Nat.{ℕ, suc, ◌+◌, ◌*◌, ◌-◌, ◌≤◌, ◌<◌}
 use mathlib.Core.Path.{◌≡◌, refl, sym, ap, subst, ◌∙◌}
 use mathlib.Core.Bool.{Bool}
 use mathlib.Core.List.{List, [], ◌∷◌, ◌++◌}
-use Rattle.std.proofs.Common.{Option, Some, None}
+use Rattle.std.proofs.Common.{Option, Some, None, Result, Ok, Err}
 use native.Mathlib.Omega.{arith}
 use lib.ListN.{length, length-append, length-map}
 use Rattle.model.specs.Table.{NODE, VAR}
 use Rattle.model.specs.Command.{Command}
 use Rattle.model.specs.Program.{Program, program_of}
 use Rattle.model.specs.State.{State as Meant, position_at}
-use Rattle.model.specs.Turn.{Entry as Numbered, entry, Turned as Rule, completed, stopped}
+use Rattle.model.specs.Turn.{Entry as Numbered, Turned as Rule, completed, stopped}
 use Rattle.model.specs.Run.{Run, Step, entries_of}
 use Rattle.model.specs.Dispatch.{Choice as Meaning, ready_count, chosen, nobody, choose, Dispatched, examined_in}
 use Rattle.model.specs.Output.{answer_in, entry_bytes, trace_bytes, trace_in, snapshot_bytes}
@@ -24,7 +25,6 @@ use Rattle.tables.specs.Tables.{count_in}
 use Rattle.memory.specs.Queues.{BoundedCounts}
 use Rattle.memory.specs.Ready.{ready_count_in, Among}
 use Rattle.memory.proofs.Readying.{count-shown}
-use Rattle.command.specs.declared.instruction.Fetched.{Fetched}
 use Rattle.command.specs.Instructions.{fetched_of, command_in}
 use Rattle.handlers.specs.Loading.{handlers_in}
 use Rattle.job.specs.declared.schedule.Schedule.{Schedule}
@@ -38,8 +38,6 @@ use Rattle.chooser.specs.declared.Choice.{Choice}
 use Rattle.chooser.specs.Choosing.{choice_with, choice_of}
 use Rattle.chooser.proofs.Searching.{choose-shown}
 use Rattle.entries.specs.declared.Entry.{Entry}
-use Rattle.entries.specs.declared.Outcome.{Outcome}
-use Rattle.entries.specs.declared.Outcome.TheVariants as o
 use Rattle.entries.specs.declared.Stop.{Stop}
 use Rattle.entries.specs.Entries.{numbers_of, stop_number, attempted_by, turned_by, state_after, Comes, rule_of}
 use Rattle.engine.specs.declared.State.{State}
@@ -53,7 +51,7 @@ use Rattle.output.specs.Written.{Narrow, NarrowPositions, shown_bytes}
 use Rattle.turns.specs.declared.ending.Ending.{Ending}
 use Rattle.turns.specs.declared.ending.Halt.{Halt}
 use Rattle.turns.specs.declared.ending.Halt.TheVariants as v
-use Rattle.turns.specs.Endings.{answer_of, answer_at}
+use Rattle.turns.specs.Endings.{stop_at, attempted_at, answer_of}
 use Rattle.turns.specs.Runs.{choice_by, run_of, Loaded, RunsAs}
 use Rattle.turns.proofs.Narrow.{NarrowSenders, initial_narrow, rule_narrow, rule-senders, placed_narrow}
 use Rattle.turns.proofs.Given.{turns_for, choice_for, run_by, ahead, over_after, ahead_none, ahead-over, ahead-nobody, ahead-stopped}
@@ -88,18 +86,14 @@ pub record Over (d : Dispatched) (before after : List ℕ) (s : State) (x : Endi
   pub bounded : BoundedCounts s.waiting
   pub positions : NarrowPositions (view s)
 
--- what the loop keeps: while it goes on, the run after k turns; when it is left, the run that is over
-pub record Reached (schedule : Schedule) (monitored : Bool) (job t w : List ℕ) (past : List Command) (before : List ℕ) (trace : List ℕ)
-    (s : State) (halt : Halt)
-    (last examined from at k : ℕ) : Type 0 where
-  pub size : length trace ≡ length before
-  pub all : k < last → last ≡ turns_for schedule past
-  pub never : k < last → halt ≡ v.RanOut
-  pub going : k < last → Underway schedule monitored job t w past before s trace examined from at k
-  pub ended : last ≤ k → (x : Ending) → answer_of x ≡ answer_at k halt
-      → Over (whole_run schedule monitored past) before trace s x examined
+-- what the loop keeps: every turn so far was completed, and the run is underway
+pub record Going (schedule : Schedule) (monitored : Bool) (job t w : List ℕ) (before : List ℕ) (trace : List ℕ) (s : State) (halt : Halt)
+    (turns examined from at k : ℕ) : Type 0 where
+  pub out : halt ≡ v.RanOut
+  pub all : turns ≡ k
+  pub underway : (ready : Loaded job t w) → Underway schedule monitored job t w ready.past before s trace examined from at k
 
-module _ (schedule : Schedule) (monitored : Bool) (job t w : List ℕ) (ready : Loaded job t w) (good : budget_refusal schedule ≡ None) where
+module _ (schedule : Schedule) (monitored : Bool) {job t w : List ℕ} (ready : Loaded job t w) (good : budget_refusal schedule ≡ None) where
   abbrev past : List Command
   past = ready.past
 
@@ -139,6 +133,10 @@ module _ (schedule : Schedule) (monitored : Bool) (job t w : List ℕ) (ready : 
       by_way g.Written = prepares.turns
       by_way (g.Dispatched budget) = refl
 
+  -- a turn that is left is one of them
+  pub turn-left : {k last : ℕ} → k < last → last ≡ turns_by schedule t → k < turns_for schedule past
+  turn-left h e = omega (arith, h, e, turns_by_lem)
+
   pub turns-few : turns_for schedule past ≤ 4096
   turns-few = by_way schedule refl
     where
@@ -174,16 +172,15 @@ module _ (schedule : Schedule) (monitored : Bool) (job t w : List ℕ) (ready : 
   -- the run is over
   over :
       {before : List ℕ} {s : State} {trace : List ℕ} {examined from at k : ℕ}
-      (u : Underway schedule monitored job t w past before s trace examined from at k) (s' : State) (x : Ending) (cs : List Meaning) (total j : ℕ)
-      (e : Numbered)
-      → whole_run schedule monitored past ≡ over_after u.done cs j e (view s)
+      (u : Underway schedule monitored job t w past before s trace examined from at k) (s' : State) (halt : Halt) (cs : List Meaning) (total : ℕ)
+      → whole_run schedule monitored past ≡ over_after u.done cs (stop_at halt) (attempted_at halt) (view s)
       → total ≡ examined_in cs
-      → view s' ≡ view s → BoundedCounts s'.waiting → answer_of x ≡ record { stop = j; turns = k; attempted = e }
-      → Over (whole_run schedule monitored past) before trace s' x total
-  over {before} {s} {trace} {examined} {from} {at} {k} u s' x cs total j e is sum same bounded told =
+      → view s' ≡ view s → BoundedCounts s'.waiting
+      → Over (whole_run schedule monitored past) before trace s' (record { halt = halt; turns = k }) total
+  over {before} {s} {trace} {examined} {from} {at} {k} u s' halt cs total is sum same bounded =
       let count = u.count in
       record {
-        answer = rw (is, count) told;
+        answer = rw (is, count);
         total = rw is sum;
         trace = rw is (u.writes.buffer ∙ placed-front before (trace_bytes (entries_of u.done)));
         state = rw is same;
@@ -193,7 +190,7 @@ module _ (schedule : Schedule) (monitored : Bool) (job t w : List ℕ) (ready : 
       }
 
   -- turn k of the loop
-  module _ (before : List ℕ) (s : State) (trace : List ℕ) (examined from at k : ℕ)
+  module _ {before : List ℕ} {s : State} {trace : List ℕ} {examined from at k : ℕ}
       (u : Underway schedule monitored job t w past before s trace examined from at k) (more : k < turns_for schedule past) where
     -- the choice may be asked for
     pub from_low : from ≤ count_in t NODE
@@ -228,16 +225,16 @@ module _ (schedule : Schedule) (monitored : Bool) (job t w : List ℕ) (ready : 
     within = choice-within schedule past valid.commands k from (view s) more u.low
 
     -- nobody is ready
-    module _ (c : ℕ) (failed : nobody c ≡ choice_by schedule job t k from s.position s.waiting) where
+    module _ {c : ℕ} (failed : nobody c ≡ choice_by schedule job t k from s.position s.waiting) where
       fails : choice_for schedule past k from (view s) ≡ nobody c
       fails = sym (failed ∙ shown)
 
-      pub underway_nobody : (x : Ending) → answer_of x ≡ answer_at k v.NobodyReady
-          → Over (whole_run schedule monitored past) before trace s x (examined + c)
-      underway_nobody x told =
-          over u s x (u.choices ++ (nobody c ∷ [])) (examined + c) 4 (entry 0 0 0 0)
+      pub underway_nobody :
+          Over (whole_run schedule monitored past) before trace s (record { halt = v.NobodyReady; turns = k }) (examined + c)
+      underway_nobody =
+          over u s v.NobodyReady (u.choices ++ (nobody c ∷ [])) (examined + c)
           (unrolled ∙ ahead-nobody rule (choice_for schedule past) u.done u.choices k from (view s) _ c fails)
-          (sym (examined_snoc u.choices (nobody c) ∙ ap (λ (m : ℕ). m + c) (sym u.total))) refl u.bounded told
+          (sym (examined_snoc u.choices (nobody c) ∙ ap (λ (m : ℕ). m + c) (sym u.total))) refl u.bounded
 
     -- at most all nodes are examined
     pub examined-few : (x : Choice) → choice_of x ≡ choice_by schedule job t k from s.position s.waiting → x.examined ≤ 32
@@ -249,7 +246,7 @@ module _ (schedule : Schedule) (monitored : Bool) (job t w : List ℕ) (ready : 
             let few : Within P.nodes (chosen n.0 x.examined) = rw (sym (q ∙ shown)) at within in omega (arith, few.1, nodes_in_lem, nodes-few)
 
     -- node n is chosen
-    module _ (n c : ℕ) (chose : chosen n c ≡ choice_by schedule job t k from s.position s.waiting) where
+    module _ {n c : ℕ} (chose : chosen n c ≡ choice_by schedule job t k from s.position s.waiting) where
       chooses : choice_for schedule past k from (view s) ≡ chosen n c
       chooses = sym (chose ∙ shown)
 
@@ -262,20 +259,17 @@ module _ (schedule : Schedule) (monitored : Bool) (job t w : List ℕ) (ready : 
       pub node-among : Among t n
       node-among = meets.among n bounds.0
 
-      chosen-few : c ≤ 32
-      chosen-few = omega (arith, bounds.1, nodes_in_lem, nodes-few)
-
       total : examined + c ≡ examined_in (u.choices ++ (chosen n c ∷ []))
       total = sym (examined_snoc u.choices (chosen n c) ∙ ap (λ (m : ℕ). m + c) (sym u.total))
 
-      module _ (fetched : Fetched) (at_position : fetched_of fetched ≡ command_in (handlers_in job t w n) (position_at (view s) n))
-          (turned : Turned) (turns : Turns t fetched n monitored s turned) where
+      module _ {fetched : Option Instruction} (at_position : fetched_of fetched ≡ command_in (handlers_in job t w n) (position_at (view s) n))
+          {turned : Turned} (turns : Turns t fetched n monitored s turned) where
         comes : Comes (view s) (rule (view s) n) turned.outcome (view turned.state)
         comes = meets.turn s fetched n monitored turned at_position turns
 
-        module _ (x : Entry) (made : turned.outcome ≡ o.Made x) where
+        module _ {x : Entry} (made : turned.outcome ≡ Ok x) where
           completes : completed (numbers_of x) (view turned.state) ≡ rule (view s) n
-          completes = ap (λ (y : Outcome). turned_by y (view turned.state)) (sym made) ∙ comes.tells
+          completes = ap (λ (y : Result Entry Stop). turned_by y (view turned.state)) (sym made) ∙ comes.tells
 
           pub made_narrow : Narrow (numbers_of x)
           made_narrow = rw (← completes) at (rule_narrow past valid.commands (view s) u.senders n (omega (arith, node-inside))
@@ -317,36 +311,27 @@ module _ (schedule : Schedule) (monitored : Bool) (job t w : List ℕ) (ready : 
 
         -- it was stopped
         pub underway_stopped :
-            (stop : Stop) → turned.outcome ≡ o.Stopped stop → (x : Ending) → answer_of x ≡ answer_at k (v.Stopped stop)
-            → Over (whole_run schedule monitored past) before trace turned.state x (examined + c)
-        underway_stopped stop is x told =
+            (stop : Stop) → turned.outcome ≡ Err stop
+            → Over (whole_run schedule monitored past) before trace turned.state (record { halt = v.Stopped stop; turns = k }) (examined + c)
+        underway_stopped stop is =
             let e : rule (view s) n ≡ stopped (stop_number stop) (attempted_by stop) = sym comes.tells
-            ∙ ap (λ (y : Outcome). turned_by y (view turned.state)) is in
-            over u turned.state x (u.choices ++ (chosen n c ∷ [])) (examined + c) (stop_number stop) (attempted_by stop)
+            ∙ ap (λ (y : Result Entry Stop). turned_by y (view turned.state)) is in
+            over u turned.state (v.Stopped stop) (u.choices ++ (chosen n c ∷ [])) (examined + c)
             (unrolled ∙ ahead-stopped rule (choice_for schedule past) u.done u.choices k from (view s) _ n c chooses (stop_number stop)
             (attempted_by stop) e)
-            total (comes.leaves ∙ ap (state_after (view s)) e) turns.bounded told
+            total (comes.leaves ∙ ap (state_after (view s)) e) turns.bounded
 
   -- after the last turn the run is over
-  pub reached :
-      (before : List ℕ) (s : State) (trace : List ℕ) (examined from at k last : ℕ) → last ≡ turns_for schedule past → k ≤ turns_for schedule
-      past
+  pub underway-over :
+      {before : List ℕ} {s : State} {trace : List ℕ} {examined from at k : ℕ} → k ≡ turns_for schedule past
       → Underway schedule monitored job t w past before s trace examined from at k
-      → (halt : Halt) → halt ≡ v.RanOut
-      → Reached schedule monitored job t w past before trace s halt last examined from at k
-  reached before s trace examined from at k last same inside u halt out =
-      record {
-        size = u.size;
-        all = λ h. same;
-        never = λ h. out;
-        going = λ h. u;
-        ended = λ h x told.
-            let made : turns_for schedule past - k ≡ 0 = omega arith in
-            over u s x u.choices examined 0 (entry 0 0 0 0)
-            (u.same ∙ ap (λ (m : ℕ). ahead u.done u.choices (run_by rule (choice_for schedule past) m k from (view s))) made
-            ∙ ahead-over rule (choice_for schedule past) u.done u.choices k from (view s))
-            u.total refl u.bounded (told ∙ ap (answer_at k) out);
-      }
+      → Over (whole_run schedule monitored past) before trace s (record { halt = v.RanOut; turns = k }) examined
+  underway-over {before} {s} {trace} {examined} {from} {at} {k} last u =
+      let made : turns_for schedule past - k ≡ 0 = omega arith in
+      over u s v.RanOut u.choices examined
+      (u.same ∙ ap (λ (m : ℕ). ahead u.done u.choices (run_by rule (choice_for schedule past) m k from (view s))) made
+      ∙ ahead-over rule (choice_for schedule past) u.done u.choices k from (view s))
+      u.total refl u.bounded
 
   -- the snapshot shows what is declared
   shown-snapshot : (s : Meant) → shown_bytes s (count_in t NODE) (count_in t VAR) ≡ snapshot_bytes P s
@@ -368,19 +353,3 @@ module _ (schedule : Schedule) (monitored : Bool) (job t w : List ℕ) (ready : 
             ∙ ap (λ (l : List ℕ). written l snapshot₀)
             (shown-snapshot (view s) ∙ ap (snapshot_bytes P) (o.state ∙ ap (λ (r : Run). r.final) same.run));
       }
-
--- the run is over at a stop
-pub halted :
-    (schedule : Schedule) (monitored : Bool) (job t w : List ℕ) (past : List Command) (before : List ℕ) (trace : List ℕ) (s : State)
-    (halt : Halt) (examined from at k : ℕ)
-    → length trace ≡ length before
-    → ((x : Ending) → answer_of x ≡ answer_at k halt → Over (whole_run schedule monitored past) before trace s x examined)
-    → Reached schedule monitored job t w past before trace s halt k examined from at k
-halted schedule monitored job t w past before trace s halt examined from at k size r =
-    record {
-      size = size;
-      all = λ h. absurd (omega (arith, h));
-      never = λ h. absurd (omega (arith, h));
-      going = λ h. absurd (omega (arith, h));
-      ended = λ h. r;
-    }

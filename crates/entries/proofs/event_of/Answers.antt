@@ -1,8 +1,6 @@
-use borrow.Enum.Refused.{opened}
 use mathlib.Core.Path.{◌∙◌, ap}
-use Rattle.tables.specs.Programs.{program_in}
 use Rattle.entries.specs.Entries.{entry_for}
-use Rattle.entries.proofs.Events.{read_left, write-left, plain-left}
+use Rattle.entries.proofs.Events.{read_left, write-left}
 use Rattle.entries.proofs.event_of.Goals as goal
 
 pub returns-in-Get : goal.returns-in-Get
@@ -19,13 +17,3 @@ pub returns-in-Plus : goal.returns-in-Plus
 returns-in-Plus c hs s n a v = rw c.in-Plus.is
     (ap (entry_for n) c.read_of-in-Plus.ensures ∙ read_left c.args.tables.now hs s n _ _
     v)
-
-pub returns-in-Send : goal.returns-in-Send
-returns-in-Send c hs s n a v = rw (c.in-Send.is, a)
-
-pub returns-in-Call : goal.returns-in-Call
-returns-in-Call c hs s n a v = rw (c.in-Call.is, a)
-
-pub returns-in_default : goal.returns-in_default
-returns-in_default c hs s n a v = plain-left (program_in c.args.tables.now hs) s n
-    c.args.instruction (opened c.in_default.in_default-own.keys6)

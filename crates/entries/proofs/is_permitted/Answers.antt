@@ -1,8 +1,5 @@
-use borrow.Enum.Refused.{opened}
 use mathlib.Core.Path.{◌∙◌, sym}
-use Rattle.tables.specs.Programs.{program_in}
 use Rattle.entries.proofs.Names.{read_by, write_by, call_by}
-use Rattle.entries.proofs.Events.{free-permitted}
 use Rattle.entries.proofs.is_permitted.Goals as goal
 
 pub returns-in-Read : goal.returns-in-Read
@@ -16,6 +13,3 @@ returns-in-Write c hs = rw c.in-Write.is (c.may_write.ensures
 pub returns-in-Call : goal.returns-in-Call
 returns-in-Call c hs = rw c.in-Call.is (c.may_call.ensures
     ∙ sym (call_by c.args.tables.now hs _ _ _))
-
-pub returns-in_default : goal.returns-in_default
-returns-in_default c hs = free-permitted (program_in c.args.tables.now hs) _ c.args.event (opened c.in_default.in_default-own.keys4)

@@ -1,7 +1,4 @@
 use Rattle.run.proofs.exports.numbers_in.Goals as goal
 
-pub returns-in-Refused : goal.returns-in-Refused
-returns-in-Refused c = rw c.in-Refused.is
-
 pub returns-in-Ended : goal.returns-in-Ended
-returns-in-Ended c = rw c.in-Ended.is
+returns-in-Ended c = rw (c.in-Ended.is, c.stop.ensures, ← c.attempted-e.ensures)
