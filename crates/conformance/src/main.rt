@@ -14,7 +14,7 @@ use buffers::{change_one, fill_all, kept};
 use input::{Head, LONGEST_JOB, LONGEST_SNAPSHOT, LONGEST_TRACE, LONGEST_WORK, read_run};
 use printing::{Printed, run_to_text};
 use std::io::{Print, Read};
-use text::put;
+use writing::put_all;
 
 // The bytes of text of one run at most, and of all that wait to be written.
 const LINES: usize = 131080;
@@ -27,9 +27,9 @@ fn put_verdict(text: &mut [u8], at: usize, keeps: bool) -> usize
     ensures { Writes (verdict_line keeps) text.old at text.new result }
 {
     if keeps {
-        put(text, at, b"kept\n")
+        put_all(text, at, b"kept\n")
     } else {
-        put(text, at, b"changed\n")
+        put_all(text, at, b"changed\n")
     }
 }
 

@@ -7,8 +7,8 @@ ghost use Rattle.lines.specs.Lines.{messages_at, part_line, variable_line, snaps
 
 use command::read::operand;
 use output::places::next_part;
-use text::{put, put_fields, put_line};
-use writing::put_byte;
+use text::{put_fields, put_line};
+use writing::{put_all, put_one};
 
 // Puts the messages that stand from a place of the snapshot on, each with its sender.
 fn put_messages(text: &mut [u8], at: usize, snapshot: &[u8], place: usize, count: usize) -> usize
@@ -17,13 +17,11 @@ fn put_messages(text: &mut [u8], at: usize, snapshot: &[u8], place: usize, count
     ensures { Writes (fields (messages_at snapshot.now place count)) text.old at text.new result }
 {
     let mut next = at;
-    let mut i: usize = 0;
-    while i < count {
+    for i in 0..count {
         let message = operand(snapshot, place + 5 * i, 4);
         let sender = operand(snapshot, place + 5 * i + 4, 1);
         let numbers = [message as u64, sender as u64];
         next = put_fields(text, next, &numbers);
-        i += 1;
     }
     next
 }
@@ -46,10 +44,10 @@ fn put_node_line(text: &mut [u8], at: usize, snapshot: &[u8], place: usize, n: u
         message as u64,
         waiting as u64,
     ];
-    let first = put(text, at, b"node");
+    let first = put_all(text, at, b"node");
     let messages = put_fields(text, first, &numbers);
     let end = put_messages(text, messages, snapshot, place + 10, waiting as usize);
-    put_byte(text, end, 10)
+    put_one(text, end, 10)
 }
 
 // Puts the lines of the variables, which stand behind the parts of so many nodes. Their place is handed over.
@@ -67,12 +65,10 @@ fn put_variable_lines(
     ensures { Writes (joined (variable_line snapshot.now place) variables) text.old at text.new result }
 {
     let mut next = at;
-    let mut x: usize = 0;
-    while x < variables {
+    for x in 0..variables {
         let value = operand(snapshot, place + 4 * x, 4);
         let numbers = [x as u64, value as u64];
         next = put_line(text, next, b"var", &numbers);
-        x += 1;
     }
     next
 }
@@ -90,12 +86,10 @@ pub fn put_snapshot_lines(
     ensures { Writes (snapshot_lines snapshot.now nodes variables) text.old at text.new result }
 {
     let mut next = at;
-    let mut place: usize = 0;
-    let mut n: usize = 0;
-    while n < nodes {
+    let mut place = 0;
+    for n in 0..nodes {
         next = put_node_line(text, next, snapshot, place, n);
         place = next_part(snapshot, place, n);
-        n += 1;
     }
     put_variable_lines(text, next, snapshot, place, nodes, variables)
 }

@@ -12,8 +12,7 @@ pub fn put_tally_lines(text: &mut [u8], at: usize, counts: &[u64], nodes: usize)
     ensures { Writes (tally_lines_in counts.now nodes) text.old at text.new result }
 {
     let mut next = at;
-    let mut n: usize = 0;
-    while n < nodes {
+    for n in 0..nodes {
         let first = 4 * n;
         let numbers = [
             n as u64,
@@ -23,7 +22,6 @@ pub fn put_tally_lines(text: &mut [u8], at: usize, counts: &[u64], nodes: usize)
             counts[first + 3],
         ];
         next = put_line(text, next, b"tally", &numbers);
-        n += 1;
     }
     next
 }

@@ -5,7 +5,7 @@ ghost use Rattle.lines.specs.Lines.{entry_line};
 
 use command::read::operand;
 use text::{put_decimal, put_fields};
-use writing::put_byte;
+use writing::put_one;
 
 // Puts the line of entry k: node, kind, number, value.
 fn put_entry_line(text: &mut [u8], at: usize, trace: &[u8], k: usize) -> usize
@@ -21,7 +21,7 @@ fn put_entry_line(text: &mut [u8], at: usize, trace: &[u8], k: usize) -> usize
     let numbers = [kind as u64, number as u64, value as u64];
     let first = put_decimal(text, at, node as u64);
     let end = put_fields(text, first, &numbers);
-    put_byte(text, end, 10)
+    put_one(text, end, 10)
 }
 
 // Puts the lines of the first entries.
@@ -31,10 +31,8 @@ pub fn put_entry_lines(text: &mut [u8], at: usize, trace: &[u8], turns: usize) -
     ensures { Writes (joined (entry_line trace.now) turns) text.old at text.new result }
 {
     let mut next = at;
-    let mut k: usize = 0;
-    while k < turns {
+    for k in 0..turns {
         next = put_entry_line(text, next, trace, k);
-        k += 1;
     }
     next
 }

@@ -14,10 +14,6 @@ use Rattle.model.proofs.Parts.{start-next, with_more}
 use Rattle.model.proofs.Reading.{number-one}
 use Rattle.output.specs.Finding.{waiting_in, next_part, part_at, PartsFound}
 
--- the next part, by the byte that says how many messages wait
-pub next_byte : (snapshot : List ℕ) (place : ℕ) → next_part snapshot place ≡ place + 10 + 5 * get_or snapshot (place + 9) 0
-next_byte snapshot place = ap (λ (w : ℕ). place + 10 + 5 * w) (number-one snapshot (place + 9))
-
 -- the first part, and the next one
 pub part_first : (snapshot : List ℕ) → part_at snapshot 0 ≡ 0
 unfolding part_at

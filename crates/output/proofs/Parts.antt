@@ -13,8 +13,10 @@ use Rattle.model.specs.Valid.{Bounded}
 use Rattle.model.proofs.Bounds.{length-messages, length-nodes, length-variables, nodes-next}
 use Rattle.model.proofs.Parts.{start-next}
 use Rattle.memory.specs.Queues.{paired, BoundedCounts}
+use Rattle.memory.proofs.Pairing.{paired-take, paired-drop}
 use Rattle.memory.proofs.Waiting.{queue-at}
-use Rattle.engine.specs.Engine.{view_of}
+use Rattle.engine.specs.declared.State.{State as Code}
+use Rattle.engine.specs.Engine.{view}
 use Rattle.writing.specs.Writing.{numbers_bytes, Writes}
 use Rattle.writing.proofs.Placing.{writes-on, writes_nothing}
 use Rattle.writing.proofs.Words.{numbers-next}
@@ -25,43 +27,51 @@ pub record NodePut (s : State) (n : ℕ) (before after : List ℕ) (next : ℕ) 
   pub part : Writes (node_bytes s n) before (part_start s n) after next
   pub place : next ≡ part_start s (n + 1)
 
--- node n of the arrays of the code
-module _ (p a m w q x v : List ℕ) (n : ℕ) (narrow : get_or p n 0 < 256) (few : get_or w n 0 ≤ 16)
-    (inside : n * 16 + 16 ≤ length (paired q x)) where
-  abbrev s : State
-  s = view_of p a m w q x v
-
+-- node n of a state of the code
+module _ (c : Code) (n : ℕ) (narrow : get_or c.position n 0 < 256) (few : get_or c.waiting n 0 ≤ 16)
+    (inside : n * 16 + 16 ≤ length (paired c.queue c.sender)) where
   -- its waiting messages
   abbrev waiting : List Message
-  waiting = take (get_or w n 0) (drop (n * 16) (paired q x))
+  waiting = take (get_or c.waiting n 0) (drop (n * 16) (paired c.queue c.sender))
+
+  -- they are written where those of its slots are
+  pub waiting-put :
+      (long : ℕ) → long ≡ get_or c.waiting n 0 → (before : List ℕ) (at : ℕ) (after : List ℕ) (next : ℕ)
+      → Writes (messages_bytes (paired (take long (drop (n * 16) c.queue)) (take long (drop (n * 16) c.sender)))) before at after next
+      → Writes (messages_bytes waiting) before at after next
+  waiting-put long e before at after next x =
+      rw (← e, ← paired-drop (n * 16) c.queue c.sender, ← paired-take long (drop (n * 16) c.queue) (drop (n * 16) c.sender)) x
 
   -- its part, as it is put together
   abbrev part : List ℕ
   part =
-      (get_or p n 0 % 256 ∷ []) ++ bytes4 (get_or a n 0) ++ bytes4 (get_or m n 0) ++ (get_or w n 0 ∷ [])
+      (get_or c.position n 0 % 256 ∷ []) ++ bytes4 (get_or c.accumulator n 0) ++ bytes4 (get_or c.message n 0)
+      ++ (get_or c.waiting n 0 ∷ [])
       ++ messages_bytes waiting
 
-  all_there : length waiting ≡ get_or w n 0
-  all_there = length-take-le (get_or w n 0) (drop (n * 16) (paired q x)) (omega (arith, length-drop (n * 16) (paired q x)))
+  all_there : length waiting ≡ get_or c.waiting n 0
+  all_there =
+      length-take-le (get_or c.waiting n 0) (drop (n * 16) (paired c.queue c.sender))
+      (omega (arith, length-drop (n * 16) (paired c.queue c.sender)))
 
-  pub length-waiting : length (messages_bytes waiting) ≡ 5 * get_or w n 0
+  pub length-waiting : length (messages_bytes waiting) ≡ 5 * get_or c.waiting n 0
   length-waiting = length-messages waiting ∙ ap (λ (k : ℕ). 5 * k) all_there
 
-  messages : queue_at s n ≡ waiting
-  messages = let e : n * 16 ≡ 16 * n = omega arith in rw (queue-at w (paired q x) n, e)
+  messages : queue_at (view c) n ≡ waiting
+  messages = let e : n * 16 ≡ 16 * n = omega arith in rw (queue-at c.waiting (paired c.queue c.sender) n, e)
 
-  waits : waiting_at s n ≡ get_or w n 0
+  waits : waiting_at (view c) n ≡ get_or c.waiting n 0
   waits = ap length messages ∙ all_there
 
-  part_node : node_bytes s n ≡ part
+  part_node : node_bytes (view c) n ≡ part
   part_node = rw (mod-eq_of_lt narrow, waits, messages)
 
   -- at the place where the parts before it end
-  pub node_put : (at : ℕ) → at ≡ part_start s n → (before after : List ℕ) (next : ℕ) → Writes part before at after next
-      → NodePut s n before after next
+  pub node_put : (at : ℕ) → at ≡ part_start (view c) n → (before after : List ℕ) (next : ℕ) → Writes part before at after next
+      → NodePut (view c) n before after next
   node_put at here before after next x =
-      let writes : Writes (node_bytes s n) before (part_start s n) after next = rw (part_node, ← here) x in
-      record { part = writes; place = writes.place ∙ sym (start-next s n) ∙ ap (part_start s) (sym (add-one n)) }
+      let writes : Writes (node_bytes (view c) n) before (part_start (view c) n) after next = rw (part_node, ← here) x in
+      record { part = writes; place = writes.place ∙ sym (start-next (view c) n) ∙ ap (part_start (view c)) (sym (add-one n)) }
 
 -- the parts of the first nodes are written, and the place of the next one is known: what a loop over the nodes keeps
 pub record Shown (s : State) (before : List ℕ) (n : ℕ) (snapshot : List ℕ) (at : ℕ) : Type 0 where
@@ -75,9 +85,14 @@ unfolding nodes_bytes
 none_shown s before = record { parts = writes_nothing before 0; place = refl; short = omega arith; size = refl }
 
 -- where the counts are bounded, so are the queues of the model's state
-pub view_bounded : (p a m w q x v : List ℕ) → BoundedCounts w → Bounded (view_of p a m w q x v)
-view_bounded p a m w q x v bounded n =
-    omega (arith, ap length (queue-at w (paired q x) n), length-take (get_or w n 0) (drop (16 * n) (paired q x)), bounded n)
+pub view_bounded : (c : Code) → BoundedCounts c.waiting → Bounded (view c)
+view_bounded c bounded n =
+    omega (
+      arith,
+      ap length (queue-at c.waiting (paired c.queue c.sender) n),
+      length-take (get_or c.waiting n 0) (drop (16 * n) (paired c.queue c.sender)),
+      bounded n,
+    )
 
 pub one_shown :
     (s : State) → Bounded s → (before : List ℕ) (n : ℕ) (snapshot : List ℕ) (at : ℕ) (after : List ℕ) (next : ℕ)

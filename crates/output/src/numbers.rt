@@ -20,27 +20,27 @@ fn numbered(node: u32, kind: u32, number: u32, value: u32) -> Numbers
     ensures { entry_with result ≡ entry node kind number value }
 {
     Numbers {
-        node: node,
-        kind: kind,
-        number: number,
-        value: value,
+        node,
+        kind,
+        number,
+        value,
     }
 }
 
 // The numbers of an entry.
-pub fn numbers_of(entry: Entry) -> Numbers
-    ensures { entry_with result ≡ numbers_of entry }
-{
-    let n = entry.node;
-    let node = n.0;
-    let event = entry.event;
-    match event {
-        Event::Other => numbered(node, 0, 0, 0),
-        Event::Begin(sender, message) => numbered(node, 1, sender as u32, message),
-        Event::Finish => numbered(node, 2, 0, 0),
-        Event::Read(x, value) => numbered(node, 3, x.0, value),
-        Event::Write(x, value) => numbered(node, 4, x.0, value),
-        Event::Call(f, argument) => numbered(node, 5, f.0, argument),
-        Event::Send(port, value) => numbered(node, 6, port, value),
+impl From<Entry> for Numbers {
+    ghost from_gives = { λ entry result. entry_with result ≡ numbers_of entry };
+
+    fn from(entry: Entry) -> Numbers {
+        let node = entry.node.0;
+        match entry.event {
+            Event::Other => numbered(node, 0, 0, 0),
+            Event::Begin(sender, message) => numbered(node, 1, u32::from(sender), message),
+            Event::Finish => numbered(node, 2, 0, 0),
+            Event::Read(x, value) => numbered(node, 3, x.0, value),
+            Event::Write(x, value) => numbered(node, 4, x.0, value),
+            Event::Call(f, argument) => numbered(node, 5, f.0, argument),
+            Event::Send(port, value) => numbered(node, 6, port, value),
+        }
     }
 }

@@ -7,11 +7,7 @@ pub fn waiting_in(snapshot: &[u8], place: usize) -> u8
     requires { place < 2 ^ 63 }
     ensures { result ≡ waiting_in snapshot.now place }
 {
-    let count = place + 9;
-    if count < snapshot.len() {
-        return snapshot[count];
-    }
-    0
+    snapshot.get(place + 9).copied().unwrap_or(0)
 }
 
 // Where the part behind that of node n begins, by the place of that one. A part has at most 10 + 5 * 255 bytes, by the byte that tells how
@@ -23,5 +19,5 @@ pub fn next_part(snapshot: &[u8], place: usize, n: usize) -> usize
     ensures upper_bound { result ≤ place + 1285 }
 {
     let waiting = waiting_in(snapshot, place);
-    place + 10 + 5 * (waiting as usize)
+    place + 10 + 5 * usize::from(waiting)
 }

@@ -1,5 +1,5 @@
 -- Laws of counting in an array of 32 numbers.
-use Prim.Native.Nat.{ℕ, ◌+◌, ◌*◌, ◌^◌, ◌<◌}
+use Prim.Native.Nat.{ℕ, ◌+◌, ◌-◌, ◌*◌, ◌^◌, ◌≤◌, ◌<◌}
 use mathlib.Core.Path.{◌≡◌, refl, sym, ap, ◌∙◌}
 use mathlib.Core.Bool.{Bool, true, false}
 use mathlib.Core.List.{List}
@@ -22,6 +22,13 @@ use Rattle.memory.proofs.Sending.{Ahead, ahead_none, counted-all}
 use Rattle.memory.proofs.Readying.{length-counted, counted-at}
 use Rattle.output.specs.Finding.{entry_from}
 use Rattle.tally.specs.Counted.{Adds, Numbered}
+
+-- behind all 32 bits nothing is ahead
+pub ahead_over : {all k ahead : ℕ} → Ahead all k ahead → 32 ≤ k → ahead ≡ 0
+ahead_over {k = k} {ahead = ahead} a h =
+    let e : 32 - k ≡ 0 = omega arith in
+    let none : ahead < 2 ^ 0 = rw e at a.small in
+    omega (arith, none)
 
 -- all targets are counted
 pub adds_targets : (all k ahead : ℕ) (before after : List ℕ) → length before ≡ max_nodes → Ahead all k ahead → ahead ≡ 0

@@ -13,26 +13,24 @@ use declared::targets_of;
 
 // Adds one for each target, of those that are the bits of a number.
 fn add_targets(counts: &mut [u64; 32], targets: u32)
-    requires counts_len { length counts.old ≡ max_nodes }
     requires by_index { (n : ℕ) → n < max_nodes → get_or counts.old n 0 < 2 ^ 63 }
     ensures { Adds (bit_of targets) counts.old counts.new }
 {
     let mut ahead = targets;
-    let mut target: usize = 0;
-    while ahead > 0 {
-        if ahead % 2 == 1 {
-            let count = counts[target];
-            counts[target] = count + 1;
+    for target in 0..32 {
+        if ahead == 0 {
+            break;
         }
-        ahead = ahead / 2;
-        target += 1;
+        if ahead % 2 == 1 {
+            counts[target] += 1;
+        }
+        ahead /= 2;
     }
 }
 
 // Adds what entry k sends: one for each node that it reaches.
 fn add_sent(counts: &mut [u64; 32], tables: &[u32], trace: &[u8], k: usize)
     requires k_in_bounds { 7 * k + 7 ≤ length trace.now }
-    requires counts_len { length counts.old ≡ max_nodes }
     requires by_index { (n : ℕ) → n < max_nodes → get_or counts.old n 0 < 2 ^ 63 }
     ensures { (hs : Handlers) → Adds
         (λ n. reaches (program_in tables.now hs) n (entry_from trace.now k))
@@ -49,7 +47,6 @@ fn add_sent(counts: &mut [u64; 32], tables: &[u32], trace: &[u8], k: usize)
 // Adds one for the node that takes a message by entry k, if it does.
 fn add_taken(counts: &mut [u64; 32], trace: &[u8], k: usize)
     requires k_in_bounds { 7 * k + 7 ≤ length trace.now }
-    requires counts_len { length counts.old ≡ max_nodes }
     requires by_index { (n : ℕ) → n < max_nodes → get_or counts.old n 0 < 2 ^ 63 }
     ensures { Adds (λ n. takes n (entry_from trace.now k)) counts.old counts.new }
 {
@@ -57,16 +54,15 @@ fn add_taken(counts: &mut [u64; 32], trace: &[u8], k: usize)
     let node = operand(trace, place, 1) as usize;
     if trace[place + 1] == 1 {
         if node < 32 {
-            let count = counts[node];
-            counts[node] = count + 1;
+            counts[node] += 1;
         }
     }
 }
 
 // Counts the first entries: what each node received, and what it took.
-pub fn count_entries<'a>(
-    arrivals: &'a mut [u64; 32],
-    takings: &'a mut [u64; 32],
+pub fn count_entries(
+    arrivals: &mut [u64; 32],
+    takings: &mut [u64; 32],
     tables: &[u32],
     trace: &[u8],
     turns: usize,
@@ -77,10 +73,8 @@ pub fn count_entries<'a>(
         (received (program_in tables.now hs) (entry_from trace.now) turns) arrivals.new }
     ensures taken { Numbered (taken (entry_from trace.now) turns) takings.new }
 {
-    let mut k: usize = 0;
-    while k < turns {
+    for k in 0..turns {
         add_sent(arrivals, tables, trace, k);
         add_taken(takings, trace, k);
-        k += 1;
     }
 }

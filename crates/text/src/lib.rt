@@ -5,21 +5,7 @@ ghost use Rattle.std.specs.Prelude.{◌+◌, ◌≤◌, length};
 ghost use Rattle.writing.specs.Writing.{Writes};
 ghost use Rattle.text.specs.Text.{decimal, field, fields, line};
 
-use writing::put_byte;
-
-// Puts bytes.
-pub fn put(text: &mut [u8], at: usize, bytes: &[u8]) -> usize
-    requires { at + length bytes.now ≤ length text.old }
-    ensures { Writes bytes.now text.old at text.new result }
-{
-    let mut next = at;
-    let mut i: usize = 0;
-    while i < bytes.len() {
-        next = put_byte(text, next, bytes[i]);
-        i += 1;
-    }
-    next
-}
+use writing::{put_all, put_one};
 
 // Puts a number in decimal.
 pub fn put_decimal(text: &mut [u8], at: usize, number: u64) -> usize
@@ -28,7 +14,7 @@ pub fn put_decimal(text: &mut [u8], at: usize, number: u64) -> usize
 {
     let mut digits = [0u8; 20];
     let count = io::decimal(number, &mut digits);
-    put(text, at, &digits[..count])
+    put_all(text, at, &digits[..count])
 }
 
 // Puts a number after another field: a space, then the number.
@@ -36,7 +22,7 @@ fn put_field(text: &mut [u8], at: usize, number: u64) -> usize
     requires { at + length (field number) ≤ length text.old }
     ensures { Writes (field number) text.old at text.new result }
 {
-    let next = put_byte(text, at, 32);
+    let next = put_one(text, at, 32);
     put_decimal(text, next, number)
 }
 
@@ -46,10 +32,8 @@ pub fn put_fields(text: &mut [u8], at: usize, numbers: &[u64]) -> usize
     ensures { Writes (fields numbers.now) text.old at text.new result }
 {
     let mut next = at;
-    let mut i: usize = 0;
-    while i < numbers.len() {
-        next = put_field(text, next, numbers[i]);
-        i += 1;
+    for &number in numbers {
+        next = put_field(text, next, number);
     }
     next
 }
@@ -59,7 +43,7 @@ pub fn put_line(text: &mut [u8], at: usize, word: &[u8], numbers: &[u64]) -> usi
     requires { at + length (line word.now numbers.now) ≤ length text.old }
     ensures { Writes (line word.now numbers.now) text.old at text.new result }
 {
-    let first = put(text, at, word);
+    let first = put_all(text, at, word);
     let end = put_fields(text, first, numbers);
-    put_byte(text, end, 10)
+    put_one(text, end, 10)
 }

@@ -5,7 +5,7 @@ ghost use Rattle.turns.specs.Endings.{answer_of};
 
 use command::numbers::NodeNum;
 use entries::{Entry, Event, Stop};
-use output::numbers::{Numbers, numbers_of};
+use output::numbers::Numbers;
 
 // Why a run is over: its turns ran out, a turn was stopped, or nobody was ready (S-2).
 #[derive(Clone, Copy)]
@@ -49,10 +49,10 @@ impl Ending {
     {
         let event = Event::Other;
         match self.halt {
-            Halt::Stopped(Stop::Forbidden(entry)) => numbers_of(entry),
-            Halt::Stopped(Stop::Unready(node)) => numbers_of(Entry { node, event }),
-            Halt::Stopped(Stop::Full(entry)) => numbers_of(entry),
-            _ => numbers_of(Entry {
+            Halt::Stopped(Stop::Forbidden(entry)) => Numbers::from(entry),
+            Halt::Stopped(Stop::Unready(node)) => Numbers::from(Entry { node, event }),
+            Halt::Stopped(Stop::Full(entry)) => Numbers::from(entry),
+            _ => Numbers::from(Entry {
                 node: NodeNum(0),
                 event,
             }),

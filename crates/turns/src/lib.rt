@@ -26,7 +26,7 @@ use ending::{CountedEnding, Ending, Halt};
 use engine::{State, start};
 use handlers::fetch::fetch;
 use job::schedule::{Schedule, turn_at, turns_in};
-use output::numbers::numbers_of;
+use output::numbers::Numbers;
 use output::snapshot::put_snapshot;
 use output::trace::put_entry;
 
@@ -67,18 +67,7 @@ fn put_state(snapshot: &mut [u8], state: &State, tables: &[u32]) -> usize
 {
     let nodes = count_of(tables, bytes::NODE) as usize;
     let variables = count_of(tables, bytes::VAR) as usize;
-    put_snapshot(
-        snapshot,
-        &state.position,
-        &state.accumulator,
-        &state.message,
-        &state.waiting,
-        &state.queue,
-        &state.sender,
-        &state.variable,
-        nodes,
-        variables,
-    )
+    put_snapshot(snapshot, state, nodes, variables)
 }
 
 // The run of an accepted job from the start to its last turn or a stop, its turns given in either way: how it ended and what was examined,
@@ -119,7 +108,7 @@ pub fn run_turns(
         state = turned.state;
         match turned.outcome {
             Ok(entry) => {
-                at = put_entry(trace, at, numbers_of(entry));
+                at = put_entry(trace, at, Numbers::from(entry));
                 turns += 1;
             }
             Err(stop) => {

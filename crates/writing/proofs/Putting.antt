@@ -1,10 +1,10 @@
 -- Parts that are put one after the other.
 use Prim.Native.Nat.{ℕ, zero, suc, ◌+◌, ◌-◌, ◌≤◌, ◌<◌}
 use mathlib.Core.Path.{◌≡◌, refl, sym, ap, ◌∙◌}
-use mathlib.Core.List.{List, [], ◌∷◌, ◌++◌, append_assoc, append-nil}
+use mathlib.Core.List.{List, ◌++◌, append_assoc, append-nil}
 use native.Mathlib.Numerals.{add-one}
 use native.Mathlib.Omega.{arith}
-use lib.ListN.{length, get_or, length-append}
+use lib.ListN.{length, length-append}
 use Rattle.writing.specs.Writing.{joined, Writes}
 use Rattle.writing.proofs.Placing.{writes-on, writes_nothing, length-writes}
 
@@ -57,12 +57,6 @@ pub first_shift : (f : ℕ → List ℕ) (k : ℕ) → joined f (suc k) ≡ f 0 
 unfolding joined
 first_shift f zero = sym (append-nil (f 0))
 first_shift f (suc k) = ap (λ (l : List ℕ). l ++ f (suc k)) (first_shift f k) ∙ append_assoc (f 0) (joined (λ i. f (suc i)) k) (f (suc k))
-
--- bytes one by one
-pub bytes-each : (bytes : List ℕ) → joined (λ i. get_or bytes i 0 ∷ []) (length bytes) ≡ bytes
-unfolding joined
-bytes-each [] = refl
-bytes-each (b ∷ bytes) = first_shift (λ i. get_or (b ∷ bytes) i 0 ∷ []) (length bytes) ∙ ap (λ (l : List ℕ). b ∷ l) (bytes-each bytes)
 
 -- a part after another: room for each, and both
 module _ (xs ys before : List ℕ) (at : ℕ) (fits : at + length (xs ++ ys) ≤ length before) where

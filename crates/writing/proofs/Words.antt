@@ -7,14 +7,27 @@ use native.Mathlib.Omega.{arith}
 use lib.ListN.{length, get_or, take}
 use lib.Seq.{take-suc, length-take-le}
 use Rattle.model.specs.Output.{bytes4}
-use Rattle.writing.specs.Writing.{numbers_bytes, Writes}
-use Rattle.writing.proofs.Placing.{writes-on, writes_nothing}
+use Rattle.writing.specs.Writing.{numbers_bytes, joined}
+use Rattle.writing.proofs.Putting.{first_shift}
+
+-- numbers one by one
+pub numbers-each : (vs : List ℕ) → joined (λ i. bytes4 (get_or vs i 0)) (length vs) ≡ numbers_bytes vs
+unfolding joined numbers_bytes
+numbers-each [] = refl
+numbers-each (v ∷ vs) =
+    first_shift (λ i. bytes4 (get_or (v ∷ vs) i 0)) (length vs) ∙ ap (λ (l : List ℕ). bytes4 v ++ l) (numbers-each vs)
 
 -- 4 bytes a number
 length-numbers : (vs : List ℕ) → length (numbers_bytes vs) ≡ 4 * length vs
 unfolding numbers_bytes
 length-numbers [] = refl
 length-numbers (v ∷ vs) = omega (arith, length-numbers vs)
+
+-- room for the first numbers
+pub numbers-room : (vs before : List ℕ) (at count : ℕ) → count ≤ length vs → at + 4 * count ≤ length before
+    → at + length (joined (λ i. bytes4 (get_or (take count vs) i 0)) (length (take count vs))) ≤ length before
+numbers-room vs before at count inside fits =
+    rw numbers-each (omega (arith, length-numbers (take count vs), length-take-le count vs inside, fits))
 
 -- one number more at the end
 numbers_snoc : (vs : List ℕ) (v : ℕ) → numbers_bytes (vs ++ (v ∷ [])) ≡ numbers_bytes vs ++ bytes4 v
@@ -25,29 +38,3 @@ numbers_snoc (w ∷ vs) v = ap (λ (l : List ℕ). bytes4 w ++ l) (numbers_snoc 
 pub numbers-next : (vs : List ℕ) (i : ℕ) → i < length vs → numbers_bytes (take (i + 1) vs) ≡ numbers_bytes (take i vs) ++ bytes4 (get_or vs i 0)
 numbers-next vs i h = ap (λ (k : ℕ). numbers_bytes (take k vs)) (add-one i) ∙ ap numbers_bytes (take-suc vs i 0 h)
     ∙ numbers_snoc (take i vs) (get_or vs i 0)
-
--- i numbers are written: what a loop over them keeps
-pub record Written (values before : List ℕ) (at i : ℕ) (buffer : List ℕ) (next : ℕ) : Type 0 where
-  pub writes : Writes (numbers_bytes (take i values)) before at buffer next
-  pub place : next ≡ at + 4 * i
-  pub size : length buffer ≡ length before
-
-pub none_written : (values before : List ℕ) (at : ℕ) → Written values before at 0 before at
-unfolding numbers_bytes
-none_written values before at = record { writes = writes_nothing before at; place = omega arith; size = refl }
-
-pub one_written :
-    (values before : List ℕ) (at i : ℕ) (buffer : List ℕ) (next : ℕ) (after : List ℕ) (last : ℕ)
-    → i < length values → at + 4 * i + 4 ≤ length before → length after ≡ length buffer
-    → Written values before at i buffer next → Writes (bytes4 (get_or values i 0)) buffer next after last
-    → Written values before at (i + 1) after last
-one_written values before at i buffer next after last inside fits same w p =
-    let long : length (numbers_bytes (take i values)) ≡ 4 * i = length-numbers (take i values)
-    ∙ ap (λ (k : ℕ). 4 * k) (length-take-le i values (omega arith)) in
-    let e = numbers-next values i inside in
-    record {
-      writes = rw e (writes-on (numbers_bytes (take i values)) (bytes4 (get_or values i 0)) before at buffer next after last (omega arith)
-          w.writes p);
-      place = omega (arith, p.place, w.place);
-      size = same ∙ w.size;
-    }

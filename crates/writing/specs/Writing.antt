@@ -12,11 +12,11 @@ unfoldable pub joined : (ℕ → List ℕ) → ℕ → List ℕ
 joined part zero = []
 joined part (suc k) = joined part k ++ part k
 
--- a buffer with these bytes from a place on; those before and after stay unchanged
-unfoldable pub placed : List ℕ → ℕ → List ℕ → List ℕ
-placed buffer at bytes = take at buffer ++ bytes ++ drop (length bytes) (drop at buffer)
+-- a buffer with these values from a place on; those before and after stay unchanged
+unfoldable pub placed : {A : Type 0} → List A → ℕ → List A → List A
+placed buffer at values = take at buffer ++ values ++ drop (length values) (drop at buffer)
 
--- the bytes stand in the buffer from `at` on, and `next` is the place after them
-pub record Writes (bytes before : List ℕ) (at : ℕ) (after : List ℕ) (next : ℕ) : Type 0 where
-  pub place : next ≡ at + length bytes
-  pub buffer : after ≡ placed before at bytes
+-- the values stand in the buffer from `at` on, and `next` is the place after them
+pub record Writes {A : Type 0} (values before : List A) (at : ℕ) (after : List A) (next : ℕ) : Type 0 where
+  pub place : next ≡ at + length values
+  pub buffer : after ≡ placed before at values

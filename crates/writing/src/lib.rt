@@ -5,13 +5,23 @@ ghost use Rattle.std.specs.Prelude.{[], ◌∷◌, ◌+◌, ◌*◌, ◌≤◌, 
 ghost use Rattle.model.specs.Output.{bytes4};
 ghost use Rattle.writing.specs.Writing.{numbers_bytes, Writes};
 
-// Writes one byte.
-pub fn put_byte(buffer: &mut [u8], at: usize, byte: u8) -> usize
+// Writes one value.
+pub fn put_one<T: Copy>(buffer: &mut [T], at: usize, value: T) -> usize
     requires { at < length buffer.old }
-    ensures { Writes (byte ∷ []) buffer.old at buffer.new result }
+    ensures { Writes (value ∷ []) buffer.old at buffer.new result }
 {
-    buffer[at] = byte;
+    buffer[at] = value;
     at + 1
+}
+
+// Writes values one after the other.
+pub fn put_all<T: Copy>(buffer: &mut [T], at: usize, values: &[T]) -> usize
+    requires { at + length values.now ≤ length buffer.old }
+    ensures { Writes values.now buffer.old at buffer.new result }
+{
+    let end = at + values.len();
+    buffer[at..end].copy_from_slice(values);
+    end
 }
 
 // Writes a number as 4 bytes, lowest byte first.
@@ -19,10 +29,7 @@ pub fn put_word(buffer: &mut [u8], at: usize, value: u32) -> usize
     requires { at + 4 ≤ length buffer.old }
     ensures { Writes (bytes4 value) buffer.old at buffer.new result }
 {
-    let second = put_byte(buffer, at, (value % 256) as u8);
-    let third = put_byte(buffer, second, (value / 256 % 256) as u8);
-    let fourth = put_byte(buffer, third, (value / 65536 % 256) as u8);
-    put_byte(buffer, fourth, (value / 16777216 % 256) as u8)
+    put_all(buffer, at, &value.to_le_bytes())
 }
 
 // Writes the first values as 4 bytes each.
@@ -31,10 +38,8 @@ pub fn put_words(buffer: &mut [u8], at: usize, values: &[u32], count: usize) -> 
     ensures { Writes (numbers_bytes (take count values.now)) buffer.old at buffer.new result }
 {
     let mut next = at;
-    let mut i: usize = 0;
-    while i < count {
-        next = put_word(buffer, next, values[i]);
-        i += 1;
+    for &value in &values[..count] {
+        next = put_word(buffer, next, value);
     }
     next
 }
@@ -44,9 +49,6 @@ pub fn put_zeros(buffer: &mut [u8], count: usize) -> usize
     requires { count ≤ length buffer.old }
     ensures { Writes (replicate count 0) buffer.old 0 buffer.new result }
 {
-    let mut at: usize = 0;
-    while at < count {
-        at = put_byte(buffer, at, 0);
-    }
-    at
+    buffer[..count].fill(0);
+    count
 }

@@ -1,4 +1,3 @@
-use mathlib.Core.List.{[]}
 use native.Mathlib.Omega.{arith}
 use borrow.Author.Rules.{rules}
 use Rattle.tables.specs.Programs.{program_in}
@@ -12,10 +11,7 @@ count_entries-requires c = record {
 }
 
 pub put_nodes-requires : goal.put_nodes-requires
-put_nodes-requires c = record {
-  nodes_le_max_nodes = (c.requires, search (rules, arith, c.put_nodes-arg-1.given));
-  arrivals_len = ((c.count_entries.ensures.received (λ n. [])).size, c.count_entries.ensures.taken.size);
-}
+put_nodes-requires c = record { nodes_le_max_nodes = (c.requires, search (rules, arith)) }
 
 pub returns : goal.returns
 returns c hs = let e = rw c.entries_held-held.ensures at c.count_entries.ensures in

@@ -5,9 +5,9 @@ use Rattle.writing.proofs.Placing.{writes-on}
 use Rattle.text.specs.Text.{field}
 use Rattle.text.proofs.put_field.Goals as goal
 
-pub put_byte-next-requires : goal.put_byte-next-requires
+pub put_one-next-requires : goal.put_one-next-requires
 unfolding field
-put_byte-next-requires c = omega (arith, c.requires)
+put_one-next-requires c = omega (arith, c.requires)
 
 pub put_decimal-requires : goal.put_decimal-requires
 unfolding field
@@ -18,4 +18,4 @@ unfolding field
 returns c = writes-on (32 ∷ []) _ _ _ _ _ _ _ (omega (
   arith,
   c.requires,
-)) c.put_byte-next.ensures c.put_decimal.ensures
+)) c.put_one-next.ensures c.put_decimal.ensures

@@ -75,7 +75,7 @@ put_entry-at-requires c =
     let u = c.loop-k.invariant.underway ready in
     let m = turn-left c.args.schedule c.args.monitored ready c.requires.schedule_value c.loop-k-test.true c.turns_in-last.ensures in (
       omega (arith, m, u.place, u.size, c.requires.tables_in_bounds.0, turns_by_lem c.args.schedule c.args.monitored ready c.requires.schedule_value),
-      subst Narrow (sym c.numbers_of.ensures)
+      subst Narrow (sym c.from.ensures)
           (made_narrow c.args.schedule c.args.monitored ready c.requires.schedule_value u m (rw c.in-Some.is at c.choice_of-choice.ensures)
           c.fetch-fetched.ensures.fetched c.turn-turned.ensures c.in-Ok.is),
     )
@@ -93,7 +93,7 @@ loop-k-preserved c = record {
       let m = turn-left c.args.schedule c.args.monitored ready c.requires.schedule_value c.loop-k-test.true c.turns_in-last.ensures in
       underway_next c.args.schedule c.args.monitored ready c.requires.schedule_value (c.loop-k.invariant.underway ready) m
       (rw c.in-Some.is at c.choice_of-choice.ensures) c.fetch-fetched.ensures.fetched c.turn-turned.ensures c.in-Ok.is
-      (entry_with c.numbers_of.result) c.numbers_of.ensures _ _
+      (entry_with c.from.result) c.from.ensures _ _
       (rw (← turns_by_lem c.args.schedule c.args.monitored ready c.requires.schedule_value) c.requires.tables_in_bounds.0)
       (search rules) c.put_entry-at.ensures;
 }

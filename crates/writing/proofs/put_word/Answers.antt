@@ -1,10 +1,10 @@
+use mathlib.Core.Path.{ap}
 use native.Mathlib.Omega.{arith}
-use Rattle.writing.proofs.Placing.{writes-on}
+use lib.ListN.{length}
 use Rattle.writing.proofs.put_word.Goals as goal
 
+pub put_all-requires : goal.put_all-requires
+put_all-requires c = omega (arith, c.requires, ap length c.to_le_bytes.ensures)
+
 pub returns : goal.returns
-returns c = writes-on _ _ _ _ _ _ _ _ (omega (arith, c.requires))
-    (writes-on _ _ _ _ _ _ _ _ (omega (arith, c.requires))
-    (writes-on _ _ _ _ _ _ _ _ (omega (arith, c.requires)) c.put_byte-second.ensures c.put_byte-third.ensures)
-    c.put_byte-fourth.ensures)
-    c.put_byte.ensures
+returns c = rw c.to_le_bytes.ensures at c.put_all.ensures

@@ -1,21 +1,20 @@
-use mathlib.Core.Path.{◌≡◌}
-use native.Mathlib.Omega.{arith}
+use lib.ListN.{length, take}
 use borrow.Author.Rules.{rules}
-use Rattle.writing.proofs.Words.{none_written, one_written}
+use Rattle.writing.proofs.Putting.{none-put, room, one-put, all-put}
+use Rattle.writing.proofs.Words.{numbers-each, numbers-room}
 use Rattle.writing.proofs.put_words.Goals as goal
 
-pub loop-i-init : goal.loop-i-init
-loop-i-init c = (omega arith, none_written _ _ _)
+pub loop-value-init : goal.loop-value-init
+loop-value-init c = none-put _ _ _
 
-pub loop-i-preserved : goal.loop-i-preserved
-loop-i-preserved c = (
-  omega (arith, c.loop-i-test.true),
-  one_written _ _ _ c.loop-i.i c.loop-i.buffer c.loop-i.next _ _
-      (omega (arith, c.loop-i-test.true, c.requires.1))
-      (omega (arith, c.loop-i-test.true, c.requires.0)) (search rules) c.loop-i.invariant.1
-      c.put_word-next.ensures,
-)
+pub put_word-next-requires : goal.put_word-next-requires
+put_word-next-requires c = room _ _ _ _ (numbers-room _ _ _ _ c.requires.1 c.requires.0) c.loop-value.value-index (search rules)
+    _ _ c.loop-value.invariant
+
+pub loop-value-preserved : goal.loop-value-preserved
+loop-value-preserved c = one-put _ _ _ _ (numbers-room _ _ _ _ c.requires.1 c.requires.0) c.loop-value.value-index (search rules)
+    _ _ c.loop-value.invariant _ _ c.put_word-next.ensures
 
 pub returns : goal.returns
-returns c = let e : c.loop-i.i ≡ c.args.count = omega (arith, c.loop-i.invariant.0, c.loop-i-test.false) in
-    rw e at c.loop-i.invariant.1.writes
+returns c = rw numbers-each at (all-put _ _ _ (length (take c.args.count c.args.values.now)) c.loop-value.value-index _ _
+    c.loop-value.auto.value-index-end c.loop-value-test.false c.loop-value.invariant)

@@ -1,9 +1,7 @@
-use Prim.Native.Nat.{◌-◌, ◌≤◌}
-use Rattle.writing.proofs.Words.{Written}
+use lib.ListN.{get_or, take}
+use Rattle.model.specs.Output.{bytes4}
+use Rattle.writing.proofs.Putting.{Put}
 use Rattle.writing.proofs.put_words.Given as goal
 
-abbrev pub invariant-loop-i : goal.invariant-loop-i
-invariant-loop-i l = (l.i ≤ l.count) × Written l.values l.initial.buffer l.at l.i l.buffer l.next
-
-abbrev pub decreases-loop-i : goal.decreases-loop-i
-decreases-loop-i l = l.count - l.i
+abbrev pub invariant-loop-value : goal.invariant-loop-value
+invariant-loop-value l = Put (λ k. bytes4 (get_or (take l.count l.values) k 0)) l.initial.buffer l.at l.value-index l.buffer l.next

@@ -1,10 +1,6 @@
-use Prim.Native.Nat.{◌-◌, ◌≤◌}
 use Rattle.writing.proofs.Putting.{Put}
 use Rattle.lines.proofs.Texts.{message_fields}
 use Rattle.lines.proofs.snapshot.put_messages.Given as goal
 
 abbrev pub invariant-loop-i : goal.invariant-loop-i
-invariant-loop-i l = (l.i ≤ l.count) × Put (message_fields l.snapshot l.place) l.initial.text l.at l.i l.text l.next
-
-abbrev pub decreases-loop-i : goal.decreases-loop-i
-decreases-loop-i l = l.count - l.i
+invariant-loop-i l = Put (message_fields l.snapshot l.place) l.initial.text l.at l.i l.text l.next

@@ -17,32 +17,32 @@ operand-message-requires c = (search rules, inl refl)
 pub operand-waiting-requires : goal.operand-waiting-requires
 operand-waiting-requires c = (search rules, inr (inl refl))
 
-pub put-first-requires : goal.put-first-requires
-put-first-requires c = word_room c.args.snapshot.now c.args.place c.args.n c.requires.place_value _ _ _ _ c.operand-position.ensures
+pub put_all-first-requires : goal.put_all-first-requires
+put_all-first-requires c = word_room c.args.snapshot.now c.args.place c.args.n c.requires.place_value _ _ _ _ c.operand-position.ensures
     c.operand-accumulator.ensures c.operand-message.ensures
     c.operand-waiting.ensures c.args.text.now c.args.at c.requires.n_in_bounds
 
 pub put_fields-messages-requires : goal.put_fields-messages-requires
 put_fields-messages-requires c = five-room c.args.snapshot.now c.args.place c.args.n c.requires.place_value _ _ _ _
     c.operand-position.ensures c.operand-accumulator.ensures c.operand-message.ensures
-    c.operand-waiting.ensures c.args.text.now c.args.at c.requires.n_in_bounds _ _ c.put-first.ensures
+    c.operand-waiting.ensures c.args.text.now c.args.at c.requires.n_in_bounds _ _ c.put_all-first.ensures
 
 pub put_messages-end-requires : goal.put_messages-end-requires
 put_messages-end-requires c = record {
   count_in_bounds = omega (arith, c.requires.place_in_bounds, c.operand-waiting.ensures);
   count_in_bounds_2 = messages-room c.args.snapshot.now c.args.place c.args.n c.requires.place_value _ _ _ _
       c.operand-position.ensures c.operand-accumulator.ensures c.operand-message.ensures c.operand-waiting.ensures c.args.text.now c.args.at
-      c.requires.n_in_bounds _ _ c.put-first.ensures _ _ c.put_fields-messages.ensures;
+      c.requires.n_in_bounds _ _ c.put_all-first.ensures _ _ c.put_fields-messages.ensures;
 }
 
-pub put_byte-requires : goal.put_byte-requires
-put_byte-requires c = end_room c.args.snapshot.now c.args.place c.args.n c.requires.place_value _ _ _ _
+pub put_one-requires : goal.put_one-requires
+put_one-requires c = end_room c.args.snapshot.now c.args.place c.args.n c.requires.place_value _ _ _ _
     c.operand-position.ensures c.operand-accumulator.ensures c.operand-message.ensures
-    c.operand-waiting.ensures c.args.text.now c.args.at c.requires.n_in_bounds _ _ c.put-first.ensures _ _ c.put_fields-messages.ensures _ _
+    c.operand-waiting.ensures c.args.text.now c.args.at c.requires.n_in_bounds _ _ c.put_all-first.ensures _ _ c.put_fields-messages.ensures _ _
     c.put_messages-end.ensures
 
 pub returns : goal.returns
 returns c = node_put c.args.snapshot.now c.args.place c.args.n c.requires.place_value _ _ _ _
     c.operand-position.ensures c.operand-accumulator.ensures c.operand-message.ensures
-    c.operand-waiting.ensures c.args.text.now c.args.at c.requires.n_in_bounds _ _ c.put-first.ensures _ _ c.put_fields-messages.ensures _ _
-    c.put_messages-end.ensures _ _ c.put_byte.ensures
+    c.operand-waiting.ensures c.args.text.now c.args.at c.requires.n_in_bounds _ _ c.put_all-first.ensures _ _ c.put_fields-messages.ensures _ _
+    c.put_messages-end.ensures _ _ c.put_one.ensures

@@ -1,4 +1,3 @@
-use Prim.Native.Nat.{◌-◌, ◌≤◌}
 use mathlib.Core.Path.{◌≡◌}
 use Rattle.writing.proofs.Putting.{Put}
 use Rattle.output.specs.Finding.{part_at}
@@ -6,8 +5,5 @@ use Rattle.lines.specs.Lines.{part_line}
 use Rattle.lines.proofs.snapshot.put_snapshot_lines.Given as goal
 
 abbrev pub invariant-loop-n : goal.invariant-loop-n
-invariant-loop-n l = (l.n ≤ l.nodes) × (l.place ≡ part_at l.snapshot l.n) × Put
+invariant-loop-n l = (l.place ≡ part_at l.snapshot l.n) × Put
     (part_line l.snapshot) l.initial.text l.at l.n l.text l.next
-
-abbrev pub decreases-loop-n : goal.decreases-loop-n
-decreases-loop-n l = l.nodes - l.n

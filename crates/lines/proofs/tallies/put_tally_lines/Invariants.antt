@@ -1,10 +1,6 @@
-use Prim.Native.Nat.{◌-◌, ◌≤◌}
 use Rattle.writing.proofs.Putting.{Put}
 use Rattle.lines.specs.Lines.{tally_line, four_at}
 use Rattle.lines.proofs.tallies.put_tally_lines.Given as goal
 
 abbrev pub invariant-loop-n : goal.invariant-loop-n
-invariant-loop-n l = (l.n ≤ l.nodes) × Put (λ k. tally_line k (four_at l.counts k)) l.initial.text l.at l.n l.text l.next
-
-abbrev pub decreases-loop-n : goal.decreases-loop-n
-decreases-loop-n l = l.nodes - l.n
+invariant-loop-n l = Put (λ k. tally_line k (four_at l.counts k)) l.initial.text l.at l.n l.text l.next

@@ -32,8 +32,8 @@ put_fields-end-requires c = let same = entry-same c.args.trace.now c.args.k _ _ 
     numbers-room (decimal c.operand-node.result) (c.operand-kind.result ∷ c.operand-number.result ∷ c.operand-value.result ∷ []) c.args.text.now
     c.args.at (rw same at c.requires.k_in_bounds_2) _ _ c.put_decimal-first.ensures
 
-pub put_byte-requires : goal.put_byte-requires
-put_byte-requires c = let same = entry-same c.args.trace.now c.args.k _ _ _ _ c.operand-node.ensures c.operand-kind.ensures c.operand-number.ensures
+pub put_one-requires : goal.put_one-requires
+put_one-requires c = let same = entry-same c.args.trace.now c.args.k _ _ _ _ c.operand-node.ensures c.operand-kind.ensures c.operand-number.ensures
     c.operand-value.ensures in
     feed_room (decimal c.operand-node.result) (c.operand-kind.result ∷ c.operand-number.result ∷ c.operand-value.result ∷ [])
     c.args.text.now c.args.at (rw same at c.requires.k_in_bounds_2) _ _ c.put_decimal-first.ensures _ _
@@ -44,4 +44,4 @@ returns c = let same = entry-same c.args.trace.now c.args.k _ _ _ _ c.operand-no
     c.operand-value.ensures in
     rw same (line-put (decimal c.operand-node.result) (c.operand-kind.result ∷ c.operand-number.result ∷ c.operand-value.result ∷ [])
     c.args.text.now c.args.at (rw same at c.requires.k_in_bounds_2) _ _ c.put_decimal-first.ensures _ _ c.put_fields-end.ensures _ _
-    c.put_byte.ensures)
+    c.put_one.ensures)

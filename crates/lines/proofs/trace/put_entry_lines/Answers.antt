@@ -1,24 +1,20 @@
 use native.Mathlib.Omega.{arith}
-use borrow.Author.Rules.{rules}
 use Rattle.writing.proofs.Putting.{none-put, room, one-put, all-put}
 use Rattle.lines.proofs.trace.put_entry_lines.Goals as goal
 
 pub loop-k-init : goal.loop-k-init
-loop-k-init c = (omega arith, none-put _ _ _)
+loop-k-init c = none-put _ _ _
 
 pub put_entry_line-next-requires : goal.put_entry_line-next-requires
 put_entry_line-next-requires c = record {
   k_in_bounds = omega (arith, c.requires.turns_in_bounds, c.loop-k-test.true);
   k_in_bounds_2 = room _ _ _ _
-      c.requires.turns_in_bounds_2 c.loop-k.k c.loop-k-test.true _ _ c.loop-k.invariant.1;
+      c.requires.turns_in_bounds_2 c.loop-k.k c.loop-k-test.true _ _ c.loop-k.invariant;
 }
 
 pub loop-k-preserved : goal.loop-k-preserved
-loop-k-preserved c = (
-  search rules,
-  one-put _ _ _ _ c.requires.turns_in_bounds_2 c.loop-k.k
-      c.loop-k-test.true _ _ c.loop-k.invariant.1 _ _ c.put_entry_line-next.ensures,
-)
+loop-k-preserved c = one-put _ _ _ _ c.requires.turns_in_bounds_2 c.loop-k.k
+    c.loop-k-test.true _ _ c.loop-k.invariant _ _ c.put_entry_line-next.ensures
 
 pub returns : goal.returns
-returns c = all-put _ _ _ _ c.loop-k.k _ _ c.loop-k.invariant.0 c.loop-k-test.false c.loop-k.invariant.1
+returns c = all-put _ _ _ _ c.loop-k.k _ _ c.loop-k.auto.k-end c.loop-k-test.false c.loop-k.invariant

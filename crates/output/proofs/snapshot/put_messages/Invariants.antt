@@ -1,9 +1,7 @@
-use Prim.Native.Nat.{◌-◌, ◌≤◌}
-use Rattle.output.proofs.Messages.{MessagesWritten}
+use lib.ListN.{length}
+use Rattle.writing.proofs.Putting.{Put}
+use Rattle.output.proofs.Messages.{message_bytes}
 use Rattle.output.proofs.snapshot.put_messages.Given as goal
 
-abbrev pub invariant-loop-i : goal.invariant-loop-i
-invariant-loop-i l = (l.i ≤ l.count) × MessagesWritten l.queue l.sender l.first l.initial.snapshot l.at l.i l.snapshot l.next
-
-abbrev pub decreases-loop-i : goal.decreases-loop-i
-decreases-loop-i l = l.count - l.i
+abbrev pub invariant-loop-value : goal.invariant-loop-value
+invariant-loop-value l = Put (message_bytes l.values l.senders) l.initial.snapshot l.at (length l.yielded) l.snapshot l.next

@@ -9,6 +9,6 @@ returns c = let e = entry_bytes_lem (entry_with c.args.x) c.requires.1 in
     rw (← e)
     (writes-on _ _ _ _ _ _ _ _ (omega (arith, c.requires.0))
     (writes-on _ _ _ _ _ _ _ _ (omega (arith, c.requires.0))
-    (writes-on _ _ _ _ _ _ _ _ (omega (arith, c.requires.0)) c.put_byte-kind.ensures c.put_byte-number.ensures)
-    c.put_byte-value.ensures)
+    (writes-on _ _ _ _ _ _ _ _ (omega (arith, c.requires.0)) c.put_one-kind.ensures c.put_one-number.ensures)
+    c.put_one-value.ensures)
     c.put_word.ensures)

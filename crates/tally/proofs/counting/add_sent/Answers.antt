@@ -20,5 +20,5 @@ returns-then-trace-place-eq6 c hs = adds-agree (bit_of c.targets_of.result) _ _ 
     c.add_targets.ensures
 
 pub returns-else-trace-place-eq6 : goal.returns-else-trace-place-eq6
-returns-else-trace-place-eq6 c hs = adds_none _ c.args.counts.now c.requires.counts_len
+returns-else-trace-place-eq6 c hs = adds_none _ c.args.counts.now (search rules)
     (λ n h. reaches-none c.args.trace.now c.args.k c.args.tables.now hs n c.if-trace-place-eq6.false)

@@ -13,14 +13,14 @@ pub overflow_add-counts : goal.overflow_add-counts
 overflow_add-counts c = omega (arith, c.requires.by_index _ c.if-node-lt32.true)
 
 pub returns-then-node-lt32 : goal.returns-then-node-lt32
-returns-then-node-lt32 c = adds_one _ c.args.counts.now _ c.requires.counts_len c.if-node-lt32.true
+returns-then-node-lt32 c = adds_one _ c.args.counts.now _ (search rules) c.if-node-lt32.true
     (λ n. takes-here c.args.trace.now c.args.k _ n c.if-trace-place-eq1.true c.operand-node.ensures)
 
 pub returns-else-node-lt32 : goal.returns-else-node-lt32
-returns-else-node-lt32 c = adds_none _ c.args.counts.now c.requires.counts_len
+returns-else-node-lt32 c = adds_none _ c.args.counts.now (search rules)
     (λ n h.
     takes-here c.args.trace.now c.args.k _ n c.if-trace-place-eq1.true c.operand-node.ensures
     ∙ ne_eqb _ n (λ e. omega (arith, c.if-node-lt32.false)))
 
 pub returns-else-trace-place-eq1 : goal.returns-else-trace-place-eq1
-returns-else-trace-place-eq1 c = adds_none _ c.args.counts.now c.requires.counts_len (λ n h. takes-other c.args.trace.now c.args.k n c.if-trace-place-eq1.false)
+returns-else-trace-place-eq1 c = adds_none _ c.args.counts.now (search rules) (λ n h. takes-other c.args.trace.now c.args.k n c.if-trace-place-eq1.false)

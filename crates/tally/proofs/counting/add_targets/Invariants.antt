@@ -4,8 +4,5 @@ use Rattle.memory.specs.Queues.{counted}
 use Rattle.memory.proofs.Sending.{Ahead}
 use Rattle.tally.proofs.counting.add_targets.Given as goal
 
-abbrev pub invariant-loop-ahead : goal.invariant-loop-ahead
-invariant-loop-ahead l = Ahead l.targets l.target l.ahead × (l.counts ≡ counted (bit_of l.targets) l.initial.counts l.target)
-
-abbrev pub decreases-loop-ahead : goal.decreases-loop-ahead
-decreases-loop-ahead l = l.ahead
+abbrev pub invariant-loop-target : goal.invariant-loop-target
+invariant-loop-target l = Ahead l.targets l.target l.ahead × (l.counts ≡ counted (bit_of l.targets) l.initial.counts l.target)

@@ -1,4 +1,3 @@
-use Prim.Native.Nat.{◌-◌, ◌≤◌}
 use Rattle.model.specs.Tally.{received, taken}
 use Rattle.tables.specs.Programs.{Handlers, program_in}
 use Rattle.output.specs.Finding.{entry_from}
@@ -7,7 +6,3 @@ use Rattle.tally.proofs.counting.count_entries.Given as goal
 
 abbrev pub invariant-loop-k : goal.invariant-loop-k
 invariant-loop-k l = ((hs : Handlers) → Numbered (received (program_in l.tables hs) (entry_from l.trace) l.k) l.arrivals) × Numbered (taken (entry_from l.trace) l.k) l.takings
-    × (l.k ≤ l.turns)
-
-abbrev pub decreases-loop-k : goal.decreases-loop-k
-decreases-loop-k l = l.turns - l.k

@@ -18,32 +18,31 @@ fits : (f : ℕ → List ℕ) → ((n : ℕ) → length (f n) ≡ 4) → (nodes 
 fits f four nodes before h = omega (arith, length_fours f four nodes)
 
 pub loop-n-init : goal.loop-n-init
-loop-n-init c = (omega arith, sym (part_first _), omega arith, λ hs. none-put _ _ _)
+loop-n-init c = (sym (part_first _), omega arith, λ hs. none-put _ _ _)
 
-pub waiting_in-waiting-requires : goal.waiting_in-waiting-requires
-waiting_in-waiting-requires c = omega (arith, c.loop-n.invariant.0, c.loop-n.invariant.2, c.requires.nodes_le_max_nodes.0)
+pub waiting_in-requires : goal.waiting_in-requires
+waiting_in-requires c = omega (arith, c.loop-n-test.true, c.loop-n.invariant.1, c.requires.nodes_le_max_nodes.0)
 
-pub put_four-at-requires : goal.put_four-at-requires
-put_four-at-requires c = let hs : Handlers = λ n. [] in
-    room _ _ _ _ (fits _ (λ n. refl) _ c.args.counts.now c.requires.nodes_le_max_nodes.1) c.loop-n.n c.loop-n-test.true _ _ (c.loop-n.invariant.3 hs)
+pub put_all-at-requires : goal.put_all-at-requires
+put_all-at-requires c = let hs : Handlers = λ n. [] in
+    room _ _ _ _ (fits _ (λ n. refl) _ c.args.counts.now c.requires.nodes_le_max_nodes.1) c.loop-n.n c.loop-n-test.true _ _ (c.loop-n.invariant.2 hs)
 
 pub next_part-place-requires : goal.next_part-place-requires
 next_part-place-requires c = record {
-  place_value = c.loop-n.invariant.1;
-  place_bound = omega (arith, c.loop-n.invariant.0, c.loop-n.invariant.2, c.requires.nodes_le_max_nodes.0);
+  place_value = c.loop-n.invariant.0;
+  place_bound = omega (arith, c.loop-n-test.true, c.loop-n.invariant.1, c.requires.nodes_le_max_nodes.0);
 }
 
 pub loop-n-preserved : goal.loop-n-preserved
 loop-n-preserved c = (
-  omega (arith, c.loop-n-test.true),
   c.next_part-place.ensures.value,
-  omega (arith, c.next_part-place.ensures.upper_bound, c.loop-n.invariant.2),
+  omega (arith, c.next_part-place.ensures.upper_bound, c.loop-n.invariant.1),
   λ hs.
       let f = tally_by (program_in c.args.tables.now hs) c.args.arrivals.now c.args.takings.now c.args.snapshot.now in
-      let waiting = c.waiting_in-waiting.ensures ∙ ap (waiting_in c.args.snapshot.now) c.loop-n.invariant.1 in
-      let four : Writes (f c.loop-n.n) _ _ _ _ = rw (c.count_started-started.ensures hs, waiting) at c.put_four-at.ensures in
-      one-put f _ 0 _ (fits f (λ n. refl) _ c.args.counts.now c.requires.nodes_le_max_nodes.1) c.loop-n.n c.loop-n-test.true _ _ (c.loop-n.invariant.3 hs) _ _ four,
+      let waiting = c.from-waiting.ensures ∙ c.waiting_in.ensures ∙ ap (waiting_in c.args.snapshot.now) c.loop-n.invariant.0 in
+      let four : Writes (f c.loop-n.n) _ _ _ _ = rw (c.count_started-started.ensures hs, waiting) at c.put_all-at.ensures in
+      one-put f _ 0 _ (fits f (λ n. refl) _ c.args.counts.now c.requires.nodes_le_max_nodes.1) c.loop-n.n c.loop-n-test.true _ _ (c.loop-n.invariant.2 hs) _ _ four,
 )
 
 pub returns : goal.returns
-returns c hs = all-put _ _ _ _ c.loop-n.n _ _ c.loop-n.invariant.0 c.loop-n-test.false (c.loop-n.invariant.3 hs)
+returns c hs = all-put _ _ _ _ c.loop-n.n _ _ c.loop-n.auto.n-end c.loop-n-test.false (c.loop-n.invariant.2 hs)
