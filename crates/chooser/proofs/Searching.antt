@@ -9,7 +9,6 @@ use lib.ListN.{get_or}
 use borrow.Author.Tests.{ltb-true, ltb-false, lt-ltb, le-ltb}
 use Rattle.model.specs.State.{State, position_at, waiting_at}
 use Rattle.model.specs.Dispatch.{going_round, first_from, chosen, nobody, choice_at, choose}
-use Rattle.model.proofs.Choosing.{round_below}
 use Rattle.model.proofs.Counting.{search_fails, search_finds}
 use Rattle.memory.specs.Ready.{ready_in, ready_count_in}
 use Rattle.memory.proofs.Readying.{ready-shown}
@@ -85,9 +84,6 @@ module _ (position waiting : List ℕ) (nodes from : ℕ) (low : from ≤ nodes)
       record { more = omega arith; next = round_first nodes from low; unready = ap (first_from test 0) all; some = found }
 
   module _ (n before : ℕ) (s : Searched position waiting nodes from n before) where
-    pub searched_inside : n < nodes
-    searched_inside = rw s.next (round_below nodes from before low s.more)
-
     -- the node is ready, or not
     pub searched_found : ready_in position waiting n ≡ true → chosen n (before + 1) ≡ choose_in position waiting nodes from
     searched_found r =

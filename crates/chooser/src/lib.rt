@@ -39,7 +39,7 @@ pub fn choose(position: &[u32; 32], waiting: &[u8; 32], ready: u32, nodes: u32, 
         };
     }
     let mut n = wrapped(from, nodes);
-    let mut examined = 0;
+    let mut examined: u32 = 0;
     let node = loop {
         examined += 1;
         if is_ready(position, waiting, n) {

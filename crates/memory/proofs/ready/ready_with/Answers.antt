@@ -10,8 +10,5 @@ pub overflow_add-result : goal.overflow_add-result
 overflow_add-result c = let few : c.woken.result ≤ 32 = rw c.woken.ensures (count_most _ 32) in
     omega (arith, c.requires)
 
-pub returns-in-Send : goal.returns-in-Send
-returns-in-Send c = rw c.in-Send.is (omega (arith, c.woken.ensures))
-
 pub returns : goal.returns
 returns c = omega (arith, woken_none (wired_in c.args.tables.now c.args.n.0) c.args.position.now c.args.waiting.now c.args.change (opened c.in_default.in_default-own.keys2))
