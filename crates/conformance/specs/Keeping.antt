@@ -1,9 +1,9 @@
 -- What the buffers hold before a run, what a run has to keep, and which byte is changed after it.
 use Rattle.std.specs.Prelude.{ℕ, zero, suc, ◌+◌, ◌-◌, ◌*◌, ◌%◌, Bool, true, false, cond, ◌&&◌, List, [], ◌∷◌, ◌++◌, length, ◌==◌, nat_eq, slice_index, slice_set}
+use Rattle.std.specs.Prelude.{Ok, Err}
 use Rattle.model.specs.Refusal.{work_size}
 use Rattle.output.specs.Finding.{part_at}
-use Rattle.run.specs.declared.answer.Answer.{Answer}
-use Rattle.run.specs.declared.answer.Answer.TheVariants as a
+use Rattle.run.specs.Answers.{Answer}
 use Rattle.conformance.specs.declared.buffers.Change.{Change}
 use Rattle.conformance.specs.declared.buffers.Change.TheVariants.{FirstOfWork, LastOfWork, LastOfTrace, LastOfSnapshot, Nothing}
 use Rattle.printing.specs.Printing.{nodes_in, variables_in}
@@ -45,8 +45,8 @@ all_kept trace entries snapshot shown work cleared seed =
 
 -- whether a run kept what it has to keep: a refusal all bytes; a run those after its entries, its snapshot and the bytes that it clears
 abbrev pub keeps : Answer → List ℕ → List ℕ → List ℕ → List ℕ → ℕ → Bool
-keeps (a.Refused r) job trace snapshot work seed = all_kept trace 0 snapshot 0 work 0 seed
-keeps (a.Ended x) job trace snapshot work seed =
+keeps (Err r) job trace snapshot work seed = all_kept trace 0 snapshot 0 work 0 seed
+keeps (Ok x) job trace snapshot work seed =
     is_cleared work && all_kept trace (7 * x.turns) snapshot (snapshot_length job snapshot) work work_size seed
 
 -- a buffer with one more, modulo 256, at a place; unchanged if it has no such place

@@ -4,12 +4,13 @@ ghost use Rattle.conformance.specs.Keeping.{fill_byte, filling, is_kept, is_clea
 ghost use Rattle.conformance.specs.Keeping.{change_of, changed_at, changed_last, changed_trace, changed_snapshot, changed_work};
 
 use command::bytes;
+use command::refusal::Refusal;
 use declared::count_of;
 use job::buffers::WORK;
 use job::decode;
 use output::places::next_part;
-use run::answer::Answer;
 use tables::cells::CELLS;
+use turns::ending::Ending;
 
 // The bytes at the front of the work buffer that are 0 after a run.
 const CLEARED: usize = WORK;
@@ -156,7 +157,7 @@ fn all_kept(
 // Whether a run kept what it has to keep: a refusal all three buffers; a run what follows its entries, its snapshot and the cleared bytes,
 // and those are 0.
 pub fn kept(
-    answer: Answer,
+    answer: Result<Ending, Refusal>,
     job: &[u8],
     trace: &[u8],
     snapshot: &[u8],
@@ -166,8 +167,8 @@ pub fn kept(
     ensures { result ≡ keeps answer job.now trace.now snapshot.now work.now seed }
 {
     match answer {
-        Answer::Refused(_) => all_kept(trace, 0, snapshot, 0, work, 0, seed),
-        Answer::Ended(ending) => {
+        Err(_) => all_kept(trace, 0, snapshot, 0, work, 0, seed),
+        Ok(ending) => {
             let entries = 7 * (ending.turns as usize);
             let shown = snapshot_size(job, snapshot);
             is_cleared(work) && all_kept(trace, entries, snapshot, shown, work, CLEARED, seed)

@@ -59,12 +59,12 @@ fn conform(
         head.monitored,
     );
     match printed {
-        Printed::Put(next, answer) => {
+        Some(Printed { end, answer }) => {
             change_one(trace, snapshot, work, head.change);
             let keeps = kept(answer, job, trace, snapshot, work, head.seed);
-            put_verdict(text, next, keeps)
+            put_verdict(text, end, keeps)
         }
-        Printed::NoRoom => at,
+        None => at,
     }
 }
 

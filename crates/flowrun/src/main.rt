@@ -10,7 +10,7 @@ ghost use Rattle.flowrun.specs.Numbers.{number_as};
 ghost use Rattle.printing.specs.Printing.{lines_by, text_size};
 
 use job::schedule::Schedule;
-use printing::{Printed, TEXT, run_to_text};
+use printing::{TEXT, run_to_text};
 use std::env::{Env, FillError};
 use std::io;
 use std::io::{Eprint, Print, Read};
@@ -143,8 +143,8 @@ fn put_lines(text: &mut [u8], job: &[u8], order: Order) -> usize
         order.monitored,
     );
     match printed {
-        Printed::Put(next, _) => next,
-        Printed::NoRoom => 0,
+        Some(printed) => printed.end,
+        None => 0,
     }
 }
 

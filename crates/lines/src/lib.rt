@@ -6,6 +6,7 @@ pub mod tallies;
 mod trace;
 
 ghost use Rattle.std.specs.Prelude.{◌+◌, ◌*◌, ◌≤◌, length};
+ghost use Rattle.command.specs.Refusals.{number_of};
 ghost use Rattle.writing.specs.Writing.{Writes};
 ghost use Rattle.turns.specs.Endings.{answer_of};
 ghost use Rattle.output.specs.Finding.{part_at};
@@ -19,10 +20,10 @@ use turns::ending::Ending;
 
 // Puts the line of a refusal: `refused`, number, place.
 pub fn put_refusal(text: &mut [u8], at: usize, refusal: Refusal) -> usize
-    requires { at + length (refused_line refusal.number refusal.place) ≤ length text.old }
-    ensures { Writes (refused_line refusal.number refusal.place) text.old at text.new result }
+    requires { at + length (refused_line (number_of refusal.reason) refusal.place) ≤ length text.old }
+    ensures { Writes (refused_line (number_of refusal.reason) refusal.place) text.old at text.new result }
 {
-    let numbers = [refusal.number as u64, refusal.place as u64];
+    let numbers = [refusal.reason.number() as u64, refusal.place as u64];
     put_line(text, at, b"refused", &numbers)
 }
 

@@ -6,4 +6,3 @@ pub mod Worked
 pub mod Meaning
 pub mod Dispatched
 pub mod SecretLines
-pub mod Room

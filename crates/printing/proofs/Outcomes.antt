@@ -5,9 +5,8 @@ use mathlib.Core.Bool.{Bool, true, false, cond}
 use mathlib.Core.List.{List, [], ◌++◌, append-nil}
 use native.Mathlib.Omega.{arith}
 use lib.ListN.{length, drop, length-append, length-map}
-use Rattle.run.specs.declared.answer.Answer.{Answer}
-use Rattle.run.specs.declared.answer.Answer.TheVariants as a
-use Rattle.run.specs.Answers.{handed_for, Delivers}
+use Rattle.std.proofs.Common.{Some, None, Ok, Err}
+use Rattle.run.specs.Answers.{Answer, handed_for, Delivers}
 use Rattle.writing.specs.Writing.{Writes, placed}
 use Rattle.writing.proofs.Placing.{length-placed}
 use Rattle.output.specs.Finding.{part_at}
@@ -35,10 +34,11 @@ use Rattle.model.proofs.Valid.{job-valid, limits}
 use Rattle.model.proofs.Growth.{length-turns}
 use Rattle.model.proofs.Bounds.{length-trace, length-variables, RunBounded, monitored-fits, unmonitored-fits, snapshot-fits}
 use Rattle.command.specs.declared.refusal.Refusal.{Refusal as Refused}
-use Rattle.command.specs.Reading.{refusal_of}
+use Rattle.command.specs.Refusals.{refusal_of}
 use Rattle.model.specs.Refusal.{IsAccepted, commands_of}
 use Rattle.tables.specs.Stands.{Stands}
-use Rattle.job.specs.declared.Verdict.{Verdict}
+use Rattle.std.proofs.Common.{Result}
+use Rattle.command.specs.declared.refusal.Refusal.{Refusal as Refused}
 use Rattle.job.specs.Decoding.{Decides}
 use Rattle.job.specs.declared.schedule.Schedule.{Schedule}
 use Rattle.job.specs.declared.schedule.Schedule.TheVariants as s
@@ -46,14 +46,13 @@ use Rattle.job.specs.Scheduling.{decode_by}
 use Rattle.turns.specs.declared.ending.Ending.{Ending}
 use Rattle.turns.specs.Endings.{answer_of}
 use Rattle.turns.specs.Runs.{run_of}
-use Rattle.printing.specs.declared.Printed.TheVariants as p
-use Rattle.printing.specs.Printing.{nodes_in, variables_in, tally_lines, ended_lines, total_lines, lines_by, text_size, no_room, said_by}
+use Rattle.printing.specs.Printing.{nodes_in, variables_in, tally_lines, ended_lines, total_lines, lines_by, text_size, said_by}
 use Rattle.printing.specs.Printing.{said_of}
 use Rattle.printing.proofs.Fronts.{parts_end, run-front}
 use Rattle.printing.proofs.Short.{run_short, tallies_short}
 
 -- the tables of an accepted job
-pub stands_of : (d : Decoded) (t : List ℕ) (r : Verdict) → Decides d t r → IsAccepted d → Stands t (commands_of d)
+pub stands_of : (d : Decoded) (t : List ℕ) (r : Result (Unit {0}) Refused) → Decides d t r → IsAccepted d → Stands t (commands_of d)
 stands_of (accepted past) t r h is = h.judged.tables past refl
 stands_of (rejected q) t r h is = absurd is
 
@@ -63,7 +62,7 @@ few_of job (accepted past) e is = (limits past (job-valid job past e).commands).
 few_of job (rejected q) e is = absurd is
 
 -- a refusal
-pub refused-result : (r : Result) (before after : Buffers) (x : Answer) (q : Refused) → Delivers r before after x → x ≡ a.Refused q → r ≡
+pub refused-result : (r : Result) (before after : Buffers) (x : Answer) (q : Refused) → Delivers r before after x → x ≡ Err q → r ≡
     refused (refusal_of q)
 refused-result (refused p) before after x q d e = let told = rw e at d.told in cc
 refused-result (ran y trace snapshot) before after x q d e = let told = rw e at d.told in let w : ◌≡◌ {A = ℕ} 0 1 = cc in absurd (omega
@@ -115,14 +114,14 @@ pub record EndedAs (schedule : Schedule) (m : Bool) (job : List ℕ) (before aft
 
 pub ended_as :
     (schedule : Schedule) (m : Bool) (job : List ℕ) (before after : Buffers) (x : Answer) (y : Ending)
-    → Delivers (handed_for schedule m job (sizes_of before)).result before after x → x ≡ a.Ended y → EndedAs schedule m job before after y
+    → Delivers (handed_for schedule m job (sizes_of before)).result before after x → x ≡ Ok y → EndedAs schedule m job before after y
 unfolding report
 ended_as schedule m job before after x y d e = by_decoded (decode_by schedule job (sizes_of before)) refl
   where
     by_decoded : (f : Decoded) → decode_by schedule job (sizes_of before) ≡ f → EndedAs schedule m job before after y
     by_decoded (accepted past) p =
         let same = handed-ran schedule m job (sizes_of before) past p in
-        let given : Delivers (report (program_of past) (run_of schedule m past).run) before after (a.Ended y) =
+        let given : Delivers (report (program_of past) (run_of schedule m past).run) before after (Ok y) =
         subst (λ (z : Answer). Delivers (report (program_of past) (run_of schedule m past).run) before after z) e
         (subst (λ (h : Handed). Delivers h.result before after x) same d) in
         let told = given.told in
@@ -138,7 +137,7 @@ ended_as schedule m job before after x y d e = by_decoded (decode_by schedule jo
         }
     by_decoded (rejected r) p =
         let same = handed-refused schedule m job (sizes_of before) r p in
-        let given : Delivers (refused r) before after (a.Ended y) = subst (λ (z : Answer). Delivers (refused r) before after z) e (subst
+        let given : Delivers (refused r) before after (Ok y) = subst (λ (z : Answer). Delivers (refused r) before after z) e (subst
         (λ (h : Handed). Delivers h.result before after x) same d) in
         let told = given.told in
         let w : ◌≡◌ {A = ℕ} 0 1 = cc in absurd (omega arith)
@@ -279,7 +278,7 @@ pub put_as :
     (room : Bool) (schedule : Schedule) (job text : List ℕ) (at : ℕ) (printed : List ℕ) (next : ℕ) (h : Handed) (before after : Buffers)
     (x : Answer)
     → room ≡ true → Writes (lines_by schedule job h) text at printed next → Delivers h.result before after x
-    → (said_by (p.Put next x) ≡ cond room (said_of at schedule job h) no_room)
+    → (said_by (Some (record { end = next; answer = x })) ≡ cond room (Some (said_of at schedule job h)) None)
     × ((printed ≡ cond room (placed text at (lines_by schedule job h)) text)
     × ((after.trace ≡ cond room (trace_after h.result before.trace) before.trace)
     × ((after.snapshot ≡ cond room (snapshot_after h.result before.snapshot) before.snapshot)

@@ -1,21 +1,21 @@
 -- The tallies that are printed from an array of counts.
-use Prim.Native.Nat.{ℕ, ◌+◌, ◌*◌, ◌≤◌, ◌<◌}
+use Prim.Native.Nat.{ℕ, ◌+◌, ◌*◌, ◌<◌}
 use mathlib.Core.Path.{◌≡◌, refl, ap, ◌∙◌}
 use mathlib.Core.List.{List, ◌++◌}
 use native.Mathlib.Omega.{arith}
-use lib.ListN.{length, get_or, drop, replicate, length-replicate}
+use lib.ListN.{length, get_or, drop}
 use Rattle.model.specs.Command.{Command}
 use Rattle.model.specs.Declared.{handler_of}
 use Rattle.model.specs.Program.{Program, program_of}
 use Rattle.writing.specs.Writing.{joined, Writes}
-use Rattle.writing.proofs.Placing.{placed-front, length-writes}
+use Rattle.writing.proofs.Placing.{placed-front}
 use Rattle.writing.proofs.Putting.{same_first}
 use Rattle.tables.specs.Programs.{Handlers, program_in}
 use Rattle.tables.specs.Stands.{Stands}
 use Rattle.tables.proofs.Standing.{program-stands}
 use Rattle.lines.specs.Lines.{tally_line, four_at, tally_lines_in}
 use Rattle.tally.specs.Tallies.{tally_in}
-use Rattle.tally.proofs.Fours.{length_fours, four-at}
+use Rattle.tally.proofs.Fours.{four-at}
 use Rattle.printing.specs.Printing.{tally_lines}
 
 -- the handlers count nothing
@@ -49,15 +49,6 @@ same_tallies P turns trace snapshot nodes before counts next w =
         let first : 4 * n ≡ 4 * n + 0 = omega arith in
         let zeroth : get_or counts (4 * n) 0 ≡ get_or (f n) 0 0 = ap (λ (p : ℕ). get_or counts p 0) first ∙ number n h 0 (omega arith) in
         rw (zeroth, number n h 1 (omega arith), number n h 2 (omega arith), number n h 3 (omega arith))
-
--- it is as long as it was
-pub same_size :
-    (P : Program) (turns : ℕ) (trace snapshot : List ℕ) (nodes : ℕ) (counts : List ℕ) (next : ℕ) → nodes ≤ 32
-    → Writes (joined (tally_in P turns trace snapshot) nodes) (replicate 128 0) 0 counts next → length counts ≡ 128
-same_size P turns trace snapshot nodes counts next few w =
-    let f = tally_in P turns trace snapshot in
-    let long = length-replicate {A = ℕ} 128 0 in
-    length-writes (joined f nodes) (replicate 128 0) 0 counts next (omega (arith, long, length_fours f (λ n. refl) nodes)) w ∙ long
 
 -- tables that stand for commands, with any handlers
 pub tabled_tallies :

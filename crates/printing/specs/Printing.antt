@@ -1,5 +1,5 @@
 -- What is printed for a job ("Jobs worked by hand").
-use Rattle.std.specs.Prelude.{ℕ, ◌+◌, Bool, List, [], ◌++◌, leb, length}
+use Rattle.std.specs.Prelude.{ℕ, ◌+◌, Bool, List, [], ◌++◌, leb, length, Option, None, Some}
 use Rattle.writing.specs.Writing.{joined}
 use Rattle.lines.specs.Lines.{run_lines, tally_line, refused_line, examined_line}
 use Rattle.tally.specs.Tallies.{tally_in}
@@ -14,7 +14,6 @@ use Rattle.job.specs.declared.schedule.Schedule.{Schedule}
 use Rattle.job.specs.declared.schedule.Schedule.TheVariants as s
 use Rattle.run.specs.Answers.{Told, told_by, told_in}
 use Rattle.printing.specs.declared.Printed.{Printed}
-use Rattle.printing.specs.declared.Printed.TheVariants as p
 
 -- how many nodes and variables a job declares
 abbrev pub nodes_in : List ℕ → ℕ
@@ -59,21 +58,21 @@ text_size = 131072
 abbrev pub has_room : List ℕ → ℕ → Bool
 has_room text at = leb (at + text_size) (length text)
 
--- what a call says: the place after the lines and what the run tells, or that the text has no room
-pub data Said : Type 0 where
-  put : ℕ → Told → Said
-  no_room : Said
+-- what a call says that puts lines: the place after them, and what the run tells
+pub record Said : Type 0 where
+  pub end : ℕ
+  pub told : Told
 
--- what each of the code's answers says
-abbrev pub said_by : Printed → Said
-said_by (p.Put next x) = put next (told_by x)
-said_by p.NoRoom = no_room
+-- what each of the code's answers says: nothing, if the text has no room
+abbrev pub said_by : Option Printed → Option Said
+said_by (Some p) = Some (record { end = p.end; told = told_by p.answer })
+said_by None = None
 
 -- what is said of a job whose lines begin at a place, by what is handed over
 abbrev pub said_of : ℕ → Schedule → List ℕ → Handed → Said
-said_of at schedule job h = put (at + length (lines_by schedule job h)) (told_in h.result)
+said_of at schedule job h = record { end = at + length (lines_by schedule job h); told = told_in h.result }
 
 -- the place after what was put from a place on
-abbrev pub place_after : ℕ → Printed → ℕ
-place_after at (p.Put next x) = next
-place_after at p.NoRoom = at
+abbrev pub place_after : ℕ → Option Printed → ℕ
+place_after at (Some p) = p.end
+place_after at None = at

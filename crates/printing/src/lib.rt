@@ -1,7 +1,7 @@
 // A job that is run, and the lines of its run.
 #![tactic(auto)]
 
-ghost use Rattle.std.specs.Prelude.{◌+◌, ◌*◌, ◌≤◌, ◌≡◌, cond, length};
+ghost use Rattle.std.specs.Prelude.{◌+◌, ◌*◌, ◌≤◌, ◌≡◌, cond, length, Some, None};
 ghost use Rattle.model.specs.Table.{max_nodes};
 ghost use Rattle.model.specs.Refusal.{decode_job, IsAccepted};
 ghost use Rattle.model.specs.Result.{trace_after, snapshot_after, work_after};
@@ -11,15 +11,15 @@ ghost use Rattle.tables.specs.Programs.{Handlers, program_in};
 ghost use Rattle.turns.specs.Endings.{answer_of};
 ghost use Rattle.output.specs.Finding.{part_at};
 ghost use Rattle.printing.specs.Printing.{nodes_in, variables_in, tally_lines, ended_lines, total_lines, lines_by};
-ghost use Rattle.printing.specs.Printing.{text_size, has_room, no_room, said_by, said_of, place_after};
+ghost use Rattle.printing.specs.Printing.{text_size, has_room, said_by, said_of, place_after};
 
 use command::bytes;
+use command::refusal::Refusal;
 use declared::count_of;
 use job::decode;
 use job::schedule::Schedule;
 use lines::tallies::put_tally_lines;
 use lines::{put_examined, put_refusal, put_run};
-use run::answer::Answer;
 use run::run;
 use tables::cells::CELLS;
 use tally::{COUNTS, put_counts};
@@ -28,11 +28,11 @@ use turns::ending::Ending;
 // Bytes of text that are enough for the lines of every run.
 pub const TEXT: usize = 131072;
 
-// A run that is printed: the place after its lines, and its answer; or a text that has no room for what a run may print.
+// A run that is printed: the place after its lines, and its answer.
 #[derive(Clone, Copy)]
-pub enum Printed {
-    Put(usize, Answer),
-    NoRoom,
+pub struct Printed {
+    pub end: usize,
+    pub answer: Result<Ending, Refusal>,
 }
 
 // Puts the lines of the tallies of the first nodes (S-12).
@@ -78,7 +78,7 @@ fn put_ended(
     decode(job, &mut tables);
     let nodes = count_of(&tables, bytes::NODE) as usize;
     let variables = count_of(&tables, bytes::VAR) as usize;
-    let turns = ending.turns as u64;
+    let turns = u64::from(ending.turns);
     let next = put_run(text, at, ending, trace, snapshot, nodes, variables);
     put_tallies(text, next, &tables, turns, trace, snapshot, nodes)
 }
@@ -98,16 +98,11 @@ fn put_total(text: &mut [u8], at: usize, schedule: Schedule, examined: u32) -> u
 fn has_room(text: &[u8], at: usize) -> bool
     ensures { result ≡ has_room text.now at }
 {
-    if text.len() < at {
-        return false;
-    }
-    if text.len() - at < TEXT {
-        return false;
-    }
-    true
+    at <= text.len() && TEXT <= text.len() - at
 }
 
-// Runs a job and puts the lines of its run into the text. If the text has no room for what a run may print, nothing is run or changed.
+// Runs a job and puts the lines of its run into the text. If the text has no room for what a run may print, it answers None, and nothing is
+// run or changed.
 pub fn run_to_text(
     text: &mut [u8],
     at: usize,
@@ -117,11 +112,11 @@ pub fn run_to_text(
     snapshot: &mut [u8],
     work: &mut [u8],
     monitored: bool,
-) -> Printed
+) -> Option<Printed>
     ensures end { place_after at result ≤ at + text_size }
     ensures answer { said_by result ≡ cond (has_room text.old at)
-        (said_of at schedule job.now
-        (handed_with schedule monitored job.now trace.old snapshot.old work.old)) no_room }
+        (Some (said_of at schedule job.now
+        (handed_with schedule monitored job.now trace.old snapshot.old work.old))) None }
     ensures text { text.new ≡ cond (has_room text.old at)
         (placed text.old at (lines_by schedule job.now
         (handed_with schedule monitored job.now trace.old snapshot.old work.old)))
@@ -140,19 +135,19 @@ pub fn run_to_text(
         work.old) work.old }
 {
     if !has_room(text, at) {
-        return Printed::NoRoom;
+        return None;
     }
     let handed = run(job, schedule, trace, snapshot, work, monitored);
     let answer = handed.answer;
     match answer {
-        Answer::Refused(refusal) => {
-            let next = put_refusal(text, at, refusal);
-            Printed::Put(next, answer)
+        Err(refusal) => {
+            let end = put_refusal(text, at, refusal);
+            Some(Printed { end, answer })
         }
-        Answer::Ended(ending) => {
-            let end = put_ended(text, at, ending, job, trace, snapshot);
-            let next = put_total(text, end, schedule, handed.examined);
-            Printed::Put(next, answer)
+        Ok(ending) => {
+            let next = put_ended(text, at, ending, job, trace, snapshot);
+            let end = put_total(text, next, schedule, handed.examined);
+            Some(Printed { end, answer })
         }
     }
 }

@@ -2,8 +2,8 @@
 use Prim.Native.Nat.{ℕ, ◌+◌, ◌-◌, ◌*◌, ◌≤◌}
 use mathlib.Core.Path.{◌≡◌, refl, sym, ap, subst, ◌∙◌}
 use mathlib.Core.Bool.{Bool, true, false}
-use mathlib.Core.List.{List, [], ◌∷◌, ◌++◌}
-use Rattle.std.proofs.Common.{None}
+use mathlib.Core.List.{List, ◌++◌}
+use Rattle.std.proofs.Common.{None, Ok, Err}
 use native.Mathlib.Omega.{arith}
 use lib.ListN.{length, get_or, drop, replicate, length-drop, length-replicate}
 use lib.Seq.{ext_get_or, get_or-drop}
@@ -22,7 +22,7 @@ use Rattle.model.proofs.Results.{and_then_accepted, buffers_fit, buffers_fit_for
 use Rattle.model.proofs.DispatchDecoding.{budget-good, under_accepted}
 use Rattle.model.proofs.Valid.{job-valid}
 use Rattle.command.specs.declared.refusal.Refusal.{Refusal as Refused}
-use Rattle.command.specs.Reading.{refusal_of}
+use Rattle.command.specs.Refusals.{refusal_of}
 use Rattle.handlers.specs.Loading.{loaded}
 use Rattle.handlers.proofs.Slots.{length-loaded, beyond-loaded}
 use Rattle.tables.specs.Stands.{Stands}
@@ -33,12 +33,9 @@ use Rattle.job.specs.declared.schedule.Schedule.TheVariants as s
 use Rattle.job.specs.Scheduling.{decode_by, budget_refusal, turns_by}
 use Rattle.turns.specs.declared.ending.CountedEnding.{CountedEnding}
 use Rattle.turns.specs.Runs.{run_of, Loaded, RunsAs}
-use Rattle.run.specs.declared.answer.Answer.{Answer}
 use Rattle.run.specs.declared.answer.Handed.{Handed as Answered}
-use Rattle.run.specs.declared.answer.Answer.TheVariants as a
 use Rattle.run.specs.Delivered.{AcceptedWith, DeliversRunOf, DeliversRun}
-use Rattle.run.specs.Exported.{numbers_in, numbers_with}
-use Rattle.run.specs.Answers.{Told, refusal, answer, told_by, told_in, handed_for, buffers, Delivers}
+use Rattle.run.specs.Answers.{Answer, answer, told_by, told_in, handed_for, buffers, Delivers}
 
 -- lists that agree from a place on
 drop-same : (n : ℕ) (xs ys : List ℕ) → length xs ≡ length ys → ((i : ℕ) → n ≤ i → get_or xs i 0 ≡ get_or ys i 0) → drop n xs ≡ drop n ys
@@ -166,16 +163,16 @@ pub record Reports (h : Handed) (before after : Buffers) (x : Answered) : Type 0
 -- what the entry points report
 module _ (schedule : Schedule) (m : Bool) (job : List ℕ) (before : Buffers) where
   pub reports_refused : (q : Refused) → decode_by schedule job (sizes_of before) ≡ rejected (refusal_of q)
-      → Reports (handed_for schedule m job (sizes_of before)) before before (record { answer = a.Refused q; examined = 0 })
-  reports_refused q e = subst (λ (h : Handed). Reports h before before (record { answer = a.Refused q; examined = 0 }))
+      → Reports (handed_for schedule m job (sizes_of before)) before before (record { answer = Err q; examined = 0 })
+  reports_refused q e = subst (λ (h : Handed). Reports h before before (record { answer = Err q; examined = 0 }))
       (sym (handed-refused schedule m job (sizes_of before) (refusal_of q) e))
       (record { delivers = record { told = refl; left = record { trace = refl; snapshot = refl; work = refl } }; examined = refl })
 
   pub reports_ran : (after : Buffers) (x : CountedEnding) (past : List Command) → decode_by schedule job (sizes_of before) ≡ accepted past
       → DeliversRun schedule m job before after x
-      → Reports (handed_for schedule m job (sizes_of before)) before after (record { answer = a.Ended x.ending; examined = x.examined })
+      → Reports (handed_for schedule m job (sizes_of before)) before after (record { answer = Ok x.ending; examined = x.examined })
   reports_ran after x past e h = subst (λ (y : Handed). Reports y before after (record {
-    answer = a.Ended x.ending;
+    answer = Ok x.ending;
     examined = x.examined;
   }))
       (sym (handed-ran schedule m job (sizes_of before) past e))
@@ -189,10 +186,3 @@ pub delivers_by :
     → after.work ≡ work_after result before.work → Delivers result before after x
 delivers_by result before after x told trace snapshot work =
     record { told = told; left = record { trace = trace; snapshot = snapshot; work = work } }
-
--- the eight numbers of what is told, one by one, and the examined total
-pub nine_numbers : (told : Told) (examined : ℕ) (n : List ℕ) → n ≡ numbers_in told
-    → get_or n 0 0 ∷ get_or n 1 0 ∷ get_or n 2 0 ∷ get_or n 3 0 ∷ get_or n 4 0 ∷ get_or n 5 0 ∷ get_or n 6 0 ∷ get_or n 7 0 ∷ examined ∷ []
-    ≡ numbers_with told examined
-nine_numbers (refusal r) examined n e = rw e
-nine_numbers (answer x) examined n e = rw e

@@ -1,25 +1,30 @@
 -- The code's answers in document 01's numbers, and what an entry point leaves.
 use Rattle.std.specs.Prelude.{ℕ, ◌≡◌, Bool, true, false, List, length}
+use Rattle.std.specs.Prelude.{Result as CodeResult, Ok, Err}
 use Rattle.model.specs.Output.{Answer as Meant}
 use Rattle.model.specs.Refusal.{Refusal, Sizes, sizes}
 use Rattle.model.specs.Result.{Result, refused, ran, monitored, unmonitored, Buffers, sizes_of, trace_after, snapshot_after, work_after}
 use Rattle.model.specs.DispatchResult.{Handed, dispatch_monitored, dispatch_unmonitored}
-use Rattle.command.specs.Reading.{refusal_of}
+use Rattle.command.specs.declared.refusal.Refusal.{Refusal as Refused}
+use Rattle.command.specs.Refusals.{refusal_of}
 use Rattle.job.specs.declared.schedule.Schedule.{Schedule}
 use Rattle.job.specs.declared.schedule.Schedule.TheVariants as s
+use Rattle.turns.specs.declared.ending.Ending.{Ending}
 use Rattle.turns.specs.Endings.{answer_of}
-use Rattle.run.specs.declared.answer.Answer.{Answer}
-use Rattle.run.specs.declared.answer.Answer.TheVariants as a
 
 -- what is told: number and place of a refusal, or stop, completed turns and attempted entry
 pub data Told : Type 0 where
   refusal : Refusal → Told
   answer : Meant → Told
 
+-- the code's answer: how the run of a job ended, or the refusal of the job
+abbrev pub Answer : Type 0
+Answer = CodeResult Ending Refused
+
 -- what each of the code's answers tells
 abbrev pub told_by : Answer → Told
-told_by (a.Refused r) = refusal (refusal_of r)
-told_by (a.Ended x) = answer (answer_of x)
+told_by (Err r) = refusal (refusal_of r)
+told_by (Ok x) = answer (answer_of x)
 
 -- what the model's result tells
 abbrev pub told_in : Result → Told

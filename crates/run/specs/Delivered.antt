@@ -1,5 +1,5 @@
 -- The run of an accepted job with its buffers.
-use Rattle.std.specs.Prelude.{ℕ, ◌≡◌, Bool, List}
+use Rattle.std.specs.Prelude.{ℕ, ◌≡◌, Bool, List, Ok}
 use Rattle.model.specs.Command.{Command}
 use Rattle.model.specs.Program.{program_of}
 use Rattle.model.specs.Dispatch.{Dispatched, examined_in}
@@ -10,7 +10,6 @@ use Rattle.job.specs.declared.schedule.Schedule.{Schedule}
 use Rattle.job.specs.Scheduling.{decode_by}
 use Rattle.turns.specs.declared.ending.CountedEnding.{CountedEnding}
 use Rattle.turns.specs.Runs.{run_of}
-use Rattle.run.specs.declared.answer.Answer.TheVariants as a
 use Rattle.run.specs.Answers.{Delivers}
 
 -- the job is accepted, its turns given in this way, with buffers of these lengths, and the tables stand for its commands
@@ -21,7 +20,7 @@ pub record AcceptedWith (schedule : Schedule) (job t : List ℕ) (b : Sizes) : T
 
 -- the answer, the examined total and the buffers afterwards are those of the run of the job's commands
 pub record DeliversRunOf (d : Dispatched) (past : List Command) (before after : Buffers) (x : CountedEnding) : Type 0 where
-  pub delivers : Delivers (report (program_of past) d.run) before after (a.Ended x.ending)
+  pub delivers : Delivers (report (program_of past) d.run) before after (Ok x.ending)
   pub examined : x.examined ≡ examined_in d.choices
 
 abbrev pub DeliversRun : Schedule → Bool → List ℕ → Buffers → Buffers → CountedEnding → Type 0

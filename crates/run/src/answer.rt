@@ -2,16 +2,9 @@
 use command::refusal::Refusal;
 use turns::ending::Ending;
 
-// The answer to a job: its refusal, or how its run ended.
-#[derive(Clone, Copy)]
-pub enum Answer {
-    Refused(Refusal),
-    Ended(Ending),
-}
-
-// The answer to a job, and how many nodes were examined for the choices of its run (S-2).
+// The answer to a job, how its run ended or its refusal, and how many nodes were examined for the choices of its run (S-2).
 #[derive(Clone, Copy)]
 pub struct Handed {
-    pub answer: Answer,
+    pub answer: Result<Ending, Refusal>,
     pub examined: u32,
 }

@@ -5,26 +5,28 @@ ghost use Rattle.run.specs.Answers.{told_by, told_in, monitored_with, unmonitore
 ghost use Rattle.run.specs.Answers.{monitored_under, unmonitored_under};
 ghost use Rattle.run.specs.Exported.{numbers_in, numbers_with};
 
-use crate::answer::{Answer, Handed};
+use crate::answer::Handed;
 use crate::{dispatch_monitored, dispatch_unmonitored, run_monitored, run_unmonitored};
+use command::refusal::Refusal;
+use turns::ending::Ending;
 
 // The numbers of an answer.
-fn numbers_in(answer: Answer) -> [u64; 8]
+fn numbers_in(answer: Result<Ending, Refusal>) -> [u64; 8]
     ensures { result ≡ numbers_in (told_by answer) }
 {
     match answer {
-        Answer::Refused(r) => [r.number as u64, r.place as u64, 0, 0, 0, 0, 0, 0],
-        Answer::Ended(x) => {
+        Err(r) => [u64::from(r.reason.number()), r.place as u64, 0, 0, 0, 0, 0, 0],
+        Ok(x) => {
             let e = x.attempted();
             [
                 0,
                 0,
-                x.stop() as u64,
-                x.turns as u64,
-                e.node as u64,
-                e.kind as u64,
-                e.number as u64,
-                e.value as u64,
+                u64::from(x.stop()),
+                u64::from(x.turns),
+                u64::from(e.node),
+                u64::from(e.kind),
+                u64::from(e.number),
+                u64::from(e.value),
             ]
         }
     }
@@ -34,19 +36,10 @@ fn numbers_in(answer: Answer) -> [u64; 8]
 fn numbers_with(handed: Handed) -> [u64; 9]
     ensures { result ≡ numbers_with (told_by handed.answer) handed.examined }
 {
-    let answer = handed.answer;
-    let n = numbers_in(answer);
-    [
-        n[0],
-        n[1],
-        n[2],
-        n[3],
-        n[4],
-        n[5],
-        n[6],
-        n[7],
-        handed.examined as u64,
-    ]
+    let mut numbers = [0; 9];
+    numbers[..8].copy_from_slice(&numbers_in(handed.answer));
+    numbers[8] = u64::from(handed.examined);
+    numbers
 }
 
 // The monitored run (01's "watched").

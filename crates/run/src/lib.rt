@@ -11,13 +11,13 @@ ghost use Rattle.run.specs.Answers.{told_by, told_in, buffers, handed_with, moni
 ghost use Rattle.run.specs.Answers.{monitored_under, unmonitored_under};
 ghost use Rattle.run.specs.Delivered.{AcceptedWith, DeliversRun};
 
-use answer::{Answer, Handed};
+use answer::Handed;
+use command::refusal::Refusal;
 use handlers::load::load;
-use job::Verdict;
-use job::buffers::{WORK, judge};
+use job::buffers::{Lengths, WORK, judge};
 use job::schedule::Schedule;
 use tables::cells::CELLS;
-use turns::ending::CountedEnding;
+use turns::ending::{CountedEnding, Ending};
 use turns::run_turns;
 use writing::put_zeros;
 
@@ -66,33 +66,32 @@ pub fn run(
         (handed_with schedule monitored job.now trace.old snapshot.old work.old).result
         work.old }
 {
+    let lengths = Lengths {
+        trace: trace.len(),
+        snapshot: snapshot.len(),
+        work: work.len(),
+    };
     let mut tables = [0u32; CELLS];
-    let verdict = judge(
-        job,
-        schedule,
-        &mut tables,
-        trace.len(),
-        snapshot.len(),
-        work.len(),
-    );
-    match verdict {
-        Verdict::Refused(r) => Handed {
-            answer: Answer::Refused(r),
+    if let Err(refusal) = judge(job, schedule, &mut tables, lengths) {
+        return Handed {
+            answer: Err(refusal),
             examined: 0,
-        },
-        Verdict::Accepted => {
-            let made = run_accepted(job, schedule, &tables, trace, snapshot, work, monitored);
-            let ending = made.ending;
-            Handed {
-                answer: Answer::Ended(ending),
-                examined: made.examined,
-            }
-        }
+        };
+    }
+    let made = run_accepted(job, schedule, &tables, trace, snapshot, work, monitored);
+    Handed {
+        answer: Ok(made.ending),
+        examined: made.examined,
     }
 }
 
 // The monitored run (01's "watched").
-pub fn run_monitored(job: &[u8], trace: &mut [u8], snapshot: &mut [u8], work: &mut [u8]) -> Answer
+pub fn run_monitored(
+    job: &[u8],
+    trace: &mut [u8],
+    snapshot: &mut [u8],
+    work: &mut [u8],
+) -> Result<Ending, Refusal>
     ensures told { told_by result ≡
         told_in (monitored_with job.now trace.old snapshot.old work.old) }
     ensures trace { trace.new ≡ trace_after
@@ -102,12 +101,16 @@ pub fn run_monitored(job: &[u8], trace: &mut [u8], snapshot: &mut [u8], work: &m
     ensures work { work.new ≡ work_after
         (monitored_with job.now trace.old snapshot.old work.old) work.old }
 {
-    let handed = run(job, Schedule::Written, trace, snapshot, work, true);
-    handed.answer
+    run(job, Schedule::Written, trace, snapshot, work, true).answer
 }
 
 // The unmonitored run (01's "bare").
-pub fn run_unmonitored(job: &[u8], trace: &mut [u8], snapshot: &mut [u8], work: &mut [u8]) -> Answer
+pub fn run_unmonitored(
+    job: &[u8],
+    trace: &mut [u8],
+    snapshot: &mut [u8],
+    work: &mut [u8],
+) -> Result<Ending, Refusal>
     ensures told { told_by result ≡
         told_in (unmonitored_with job.now trace.old snapshot.old work.old) }
     ensures trace { trace.new ≡ trace_after
@@ -117,8 +120,7 @@ pub fn run_unmonitored(job: &[u8], trace: &mut [u8], snapshot: &mut [u8], work: 
     ensures work { work.new ≡ work_after
         (unmonitored_with job.now trace.old snapshot.old work.old) work.old }
 {
-    let handed = run(job, Schedule::Written, trace, snapshot, work, false);
-    handed.answer
+    run(job, Schedule::Written, trace, snapshot, work, false).answer
 }
 
 // The monitored run (01's "watched") of a job without TURN commands, its turns dispatched with a budget.

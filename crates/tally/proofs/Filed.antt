@@ -1,12 +1,9 @@
 -- The counts made from bytes are those of the run.
 use Prim.Native.Nat.{ℕ, ◌*◌, ◌/◌, ◌≤◌, ◌<◌}
-use mathlib.Core.Path.{◌≡◌, refl, ap, ◌∙◌}
-use mathlib.Core.Bool.{Bool, true, false, cond}
+use mathlib.Core.Path.{◌≡◌, ap, ◌∙◌}
 use mathlib.Core.List.{List, [], ◌++◌, append-nil}
 use native.Mathlib.Omega.{arith}
-use lib.Dec.{leb}
 use lib.ListN.{length, drop, length-append, length-map}
-use borrow.Author.Tests.{le-leb, leb-true}
 use Rattle.model.specs.Program.{Program, program_of}
 use Rattle.model.specs.Run.{Run, Step, entries_of, entry_at}
 use Rattle.model.specs.Output.{trace_in, snapshot_bytes}
@@ -62,7 +59,7 @@ pub filed_holds : FiledHolds
 filed_holds P r more rest n h =
     let long : length r.steps ≤ length (trace_in r ++ more) / 7 =
     omega (arith, size P r more rest, length-append (trace_in r) more) in
-    counts-back P r more rest (length r.steps) n (rw (le-leb (length r.steps) (length (trace_in r ++ more) / 7) long)) h
+    counts-back P r more rest (length r.steps) n (omega (arith, long)) h
 
 pub filed_alone_holds : FiledAloneHolds
 filed_alone_holds P r turns rest n long h =
@@ -71,15 +68,8 @@ filed_alone_holds P r turns rest n long h =
     bytes : length (trace_in r) ≡ 7 * length r.steps
     bytes = size P r [] rest
 
-    whole : length (trace_in r) / 7 ≡ length r.steps
-    whole = omega (arith, bytes)
-
     held : entries_held turns (trace_in r) ≡ length r.steps
-    held = by_test (leb turns (length (trace_in r) / 7)) refl
-      where
-        by_test : (b : Bool) → leb turns (length (trace_in r) / 7) ≡ b → cond b turns (length (trace_in r) / 7) ≡ length r.steps
-        by_test true p = omega (arith, whole, leb-true turns (length (trace_in r) / 7) p)
-        by_test false p = whole
+    held = omega (arith, bytes)
 
 pub left-holds : LeftHolds
 left-holds job past r trace snapshot before e =

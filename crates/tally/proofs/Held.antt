@@ -1,12 +1,9 @@
 -- The entries that a trace holds; arrays of zeros; and the counts by two arrays, as those by the entries.
-use Prim.Native.Nat.{ℕ, ◌*◌, ◌/◌, ◌≤◌, ◌<◌}
-use mathlib.Core.Path.{◌≡◌, refl, ap₂}
-use mathlib.Core.Bool.{Bool, true, false, cond}
+use Prim.Native.Nat.{ℕ, ◌*◌, ◌≤◌}
+use mathlib.Core.Path.{◌≡◌, ap₂}
 use mathlib.Core.List.{List, [], ◌∷◌}
 use native.Mathlib.Omega.{arith}
-use lib.Dec.{leb}
 use lib.ListN.{length, replicate, length-replicate, get_or-replicate}
-use borrow.Author.Tests.{leb-true, le-leb, lt-leb}
 use Rattle.model.specs.Table.{max_nodes}
 use Rattle.model.specs.Program.{Program}
 use Rattle.model.specs.Tally.{received, taken, started}
@@ -18,17 +15,7 @@ use Rattle.tally.specs.Tallies.{entries_held, tally_in}
 
 -- no more than the trace has bytes for
 pub held_fits : (turns : ℕ) (trace : List ℕ) → 7 * entries_held turns trace ≤ length trace
-held_fits turns trace = by_test (leb turns (length trace / 7)) refl
-  where
-    by_test : (b : Bool) → leb turns (length trace / 7) ≡ b → 7 * cond b turns (length trace / 7) ≤ length trace
-    by_test true p = omega (arith, leb-true turns (length trace / 7) p)
-    by_test false p = omega arith
-
-pub held_all : (turns : ℕ) (trace : List ℕ) → turns ≤ length trace / 7 → turns ≡ entries_held turns trace
-held_all turns trace h = rw (le-leb turns (length trace / 7) h)
-
-pub held_whole : (turns : ℕ) (trace : List ℕ) → length trace / 7 < turns → length trace / 7 ≡ entries_held turns trace
-held_whole turns trace h = rw (lt-leb turns (length trace / 7) h)
+held_fits turns trace = omega arith
 
 -- an array of zeros
 pub counts_zeros : Numbered (λ n. 0) (replicate 32 0)

@@ -1,7 +1,8 @@
 -- What is told and left of a job that is accepted.
 use Prim.Native.Nat.{ℕ, ◌≤◌}
 use mathlib.Core.Path.{◌≡◌, refl, ◌∙◌}
-use mathlib.Core.List.{List, [], ◌∷◌}
+use mathlib.Core.List.{List}
+use Rattle.std.proofs.Common.{Ok}
 use native.Mathlib.Omega.{arith}
 use Rattle.model.specs.Table.{NODE, max_nodes}
 use Rattle.model.specs.Declared.{handler_of}
@@ -14,7 +15,7 @@ use Rattle.tables.specs.Tables.{count_in}
 use Rattle.tables.specs.Programs.{program_in}
 use Rattle.tables.proofs.Standing.{program-stands}
 use Rattle.job.proofs.Judged.{Accepted}
-use Rattle.tally.specs.Tallies.{tally_in, tally_told, tallies_after}
+use Rattle.tally.specs.Tallies.{tally_in, nodes_told, tallies_after}
 
 module _ (job t : List ℕ) (a : Accepted (decode_job job) t) (nodes : ℕ) (counted : nodes ≡ count_in t NODE) where
   nodes-same : nodes ≡ (program_of a.past).nodes
@@ -25,7 +26,7 @@ module _ (job t : List ℕ) (a : Accepted (decode_job job) t) (nodes : ℕ) (cou
   unfolding program_of
   few-nodes = omega (arith, nodes-same, (limits a.past (job-valid job a.past a.decoded).commands).nodes)
 
-  pub told_of : 0 ∷ 0 ∷ nodes ∷ [] ≡ tally_told (decode_job job)
+  pub told_of : Ok nodes ≡ nodes_told (decode_job job)
   told_of = rw (a.decoded, nodes-same)
 
   pub left_of :

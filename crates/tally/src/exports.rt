@@ -1,9 +1,20 @@
 // The entry point for programs in C and Rust (include/leqsumir.h): what is told as three numbers.
 ghost use Rattle.std.specs.Prelude.{◌≡◌};
 ghost use Rattle.model.specs.Refusal.{decode_job};
-ghost use Rattle.tally.specs.Tallies.{tally_told, tallies_after};
+ghost use Rattle.tally.specs.Tallies.{told_by, numbers_of, tally_told, tallies_after};
 
 use crate::{COUNTS, tally};
+use command::refusal::Refusal;
+
+// The numbers of an answer.
+fn numbers_of(answer: Result<u32, Refusal>) -> [u64; 3]
+    ensures { result ≡ numbers_of (told_by answer) }
+{
+    match answer {
+        Ok(nodes) => [0, 0, u64::from(nodes)],
+        Err(r) => [u64::from(r.reason.number()), r.place as u64, 0],
+    }
+}
 
 // The tally (S-12) of a run of a job, by the number of its turns, its trace and its snapshot (01's "picture"): four counts a node.
 pub fn leqsumir_tally(
@@ -18,5 +29,5 @@ pub fn leqsumir_tally(
     ensures counts { counts.new ≡ tallies_after (decode_job job.now) turns
         trace.now snapshot.now counts.old }
 {
-    *answer = tally(job, turns, trace, snapshot, counts);
+    *answer = numbers_of(tally(job, turns, trace, snapshot, counts));
 }

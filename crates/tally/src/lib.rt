@@ -11,12 +11,13 @@ ghost use Rattle.model.specs.Table.{max_nodes};
 ghost use Rattle.model.specs.Refusal.{decode_job};
 ghost use Rattle.writing.specs.Writing.{Writes, joined};
 ghost use Rattle.tables.specs.Programs.{Handlers, program_in};
-ghost use Rattle.tally.specs.Tallies.{entries_held, tally_in, tally_told, tallies_after};
+ghost use Rattle.tally.specs.Tallies.{entries_held, tally_in, nodes_told, told_by, tallies_after};
 
 use command::bytes;
+use command::refusal::Refusal;
 use counting::count_entries;
 use declared::count_of;
-use job::{Verdict, decode};
+use job::decode;
 use nodes::put_nodes;
 use tables::cells::CELLS;
 
@@ -28,10 +29,7 @@ fn entries_held(turns: u64, trace: &[u8]) -> usize
     ensures { result ≡ entries_held turns trace.now }
 {
     let whole = trace.len() / 7;
-    if turns <= whole as u64 {
-        return turns as usize;
-    }
-    whole
+    turns.min(whole as u64) as usize
 }
 
 // Writes the four counts of each of the first nodes to the front of an array, and answers the place after them.
@@ -56,26 +54,21 @@ pub fn put_counts(
 }
 
 // Tallies a run by its job, how many turns it completed, its trace and its snapshot (01's "picture"): the counts of the job's nodes at the
-// front of an array. It answers number and place of the refusal of the job, and how many nodes the job has.
+// front of an array. It answers how many nodes the job has, or its refusal.
 pub fn tally(
     job: &[u8],
     turns: u64,
     trace: &[u8],
     snapshot: &[u8],
     counts: &mut [u64; COUNTS],
-) -> [u64; 3]
-    ensures told { result ≡ tally_told (decode_job job.now) }
+) -> Result<u32, Refusal>
+    ensures told { told_by result ≡ nodes_told (decode_job job.now) }
     ensures counts { counts.new ≡ tallies_after (decode_job job.now) turns
         trace.now snapshot.now counts.old }
 {
     let mut tables = [0u32; CELLS];
-    let verdict = decode(job, &mut tables);
-    match verdict {
-        Verdict::Refused(r) => [r.number as u64, r.place as u64, 0],
-        Verdict::Accepted => {
-            let nodes = count_of(&tables, bytes::NODE);
-            put_counts(counts, &tables, turns, trace, snapshot, nodes as usize);
-            [0, 0, nodes as u64]
-        }
-    }
+    decode(job, &mut tables)?;
+    let nodes = count_of(&tables, bytes::NODE);
+    put_counts(counts, &tables, turns, trace, snapshot, nodes as usize);
+    Ok(nodes)
 }

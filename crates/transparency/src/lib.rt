@@ -4,15 +4,16 @@
 ghost use Rattle.run.specs.Answers.{told_by, buffers, call, Monitored, Unmonitored};
 ghost use Rattle.transparency.specs.Claims.{Transparent};
 
-use run::answer::Answer;
+use command::refusal::Refusal;
 use run::{run_monitored, run_unmonitored};
+use turns::ending::Ending;
 
 // The two answers. If both runs accept the job, they part exactly if the monitored one ends with stop 1, and then after as many turns as
 // it has completed.
 #[derive(Clone, Copy)]
 pub struct Both {
-    pub monitored: Answer,
-    pub unmonitored: Answer,
+    pub monitored: Result<Ending, Refusal>,
+    pub unmonitored: Result<Ending, Refusal>,
 }
 
 // The monitored run, and the unmonitored one.
@@ -47,7 +48,7 @@ pub fn run_both(
         unmonitored_work,
     );
     Both {
-        monitored: monitored,
-        unmonitored: unmonitored,
+        monitored,
+        unmonitored,
     }
 }

@@ -1,4 +1,4 @@
-use mathlib.Core.Path.{refl, sym, ◌∙◌}
+use mathlib.Core.Path.{refl, ◌∙◌}
 use mathlib.Core.List.{[]}
 use native.Mathlib.Omega.{arith}
 use Rattle.model.specs.Table.{NODE, VAR}
@@ -9,14 +9,6 @@ use Rattle.writing.proofs.Putting.{front-room, back-room, two_put}
 use Rattle.printing.proofs.Tallying.{tabled_tallies}
 use Rattle.printing.proofs.Outcomes.{stands_of, few_of}
 use Rattle.printing.proofs.put_ended.Goals as goal
-
-pub slice_bounds-count_of-end : goal.slice_bounds-count_of-end
-slice_bounds-count_of-end c = sym (stands_of _ _ _ c.decode.ensures
-    c.requires.accepted).size
-
-pub slice_bounds-count_of-end-2 : goal.slice_bounds-count_of-end-2
-slice_bounds-count_of-end-2 c = sym (stands_of _ _ _ c.decode.ensures
-    c.requires.accepted).size
 
 pub put_run-next-requires : goal.put_run-next-requires
 put_run-next-requires c = let stands = stands_of _ _ _ c.decode.ensures c.requires.accepted in
@@ -31,9 +23,6 @@ put_run-next-requires c = let stands = stands_of _ _ _ c.decode.ensures c.requir
       variables_in_bounds_2 = rw (nodes, variables) fits;
     }
 
-pub slice_bounds-put_tallies-end : goal.slice_bounds-put_tallies-end
-slice_bounds-put_tallies-end c = sym (stands_of _ _ _ c.decode.ensures c.requires.accepted).size
-
 pub put_tallies-requires : goal.put_tallies-requires
 put_tallies-requires c = let stands = stands_of _ _ _ c.decode.ensures c.requires.accepted in
     let nodes = c.count_of-nodes.ensures ∙ stands.counts NODE (omega arith) in
@@ -42,7 +31,7 @@ put_tallies-requires c = let stands = stands_of _ _ _ c.decode.ensures c.require
     record {
       nodes_le_max_nodes = rw nodes (few_of c.args.job.now _ refl c.requires.accepted);
       nodes_in_bounds = λ hs.
-          rw (nodes, tabled_tallies _ _ stands hs c.args.ending.turns c.args.trace.now c.args.snapshot.now _)
+          rw (nodes, c.from-turns.ensures, tabled_tallies _ _ stands hs c.args.ending.turns c.args.trace.now c.args.snapshot.now _)
           (back-room _ _ _ _ c.requires.snapshot_in_bounds _ _ run);
     }
 
@@ -51,6 +40,6 @@ returns c = let stands = stands_of _ _ _ c.decode.ensures c.requires.accepted in
     let nodes = c.count_of-nodes.ensures ∙ stands.counts NODE (omega arith) in
     let variables = c.count_of-variables.ensures ∙ stands.counts VAR (omega arith) in
     let run = rw (nodes, variables) at c.put_run-next.ensures in
-    let tallies = rw (nodes, tabled_tallies _ _ stands (λ n. []) c.args.ending.turns c.args.trace.now c.args.snapshot.now _) at
+    let tallies = rw (nodes, c.from-turns.ensures, tabled_tallies _ _ stands (λ n. []) c.args.ending.turns c.args.trace.now c.args.snapshot.now _) at
     (c.put_tallies.ensures (λ n. [])) in
     two_put _ _ _ _ c.requires.snapshot_in_bounds _ _ run _ _ tallies

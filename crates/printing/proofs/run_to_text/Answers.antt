@@ -5,11 +5,11 @@ use Prim.Native.Nat.{ℕ, ◌+◌, ◌≤◌}
 use native.Mathlib.Omega.{arith}
 use lib.ListN.{length}
 use borrow.Author.Tests.{leb-true}
-use Rattle.run.specs.declared.answer.Answer.TheVariants as a
+use Rattle.std.proofs.Common.{Ok, Err}
 use Rattle.turns.specs.Endings.{answer_of}
 use Rattle.model.specs.Result.{Buffers, sizes_of}
 use Rattle.model.specs.DispatchResult.{Handed}
-use Rattle.command.specs.Reading.{refusal_of}
+use Rattle.command.specs.Refusals.{refusal_of}
 use Rattle.run.specs.Answers.{buffers, handed_for, Delivers}
 use Rattle.writing.proofs.Placing.{writes-on}
 use Rattle.run.proofs.Delivering.{delivers_by}
@@ -18,14 +18,14 @@ use Rattle.printing.proofs.Outcomes.{EndedAs, refused-result, ended_as, is-accep
 use Rattle.printing.proofs.Outcomes.{refused-same, kept-length, put_as}
 use Rattle.printing.proofs.Short.{refused-short, total-short}
 use Rattle.printing.proofs.run_to_text.Goals as goal
-use Rattle.printing.proofs.run_to_text.Goals.{In-Ended}
+use Rattle.printing.proofs.run_to_text.Goals.{In-Ok}
 
 -- room is as many bytes as the text may take
 large : (text : List ℕ) (at : ℕ) → has_room text at ≡ true → at + text_size ≤ length text
 large text at room = leb-true (at + text_size) (length text) room
 
 -- a run that ended: what it left, and how long its lines are
-module _ (c : In-Ended) where
+module _ (c : In-Ok) where
   abbrev before : Buffers
   before = buffers c.args.trace.now c.args.snapshot.now c.args.work.now
 
@@ -40,34 +40,23 @@ module _ (c : In-Ended) where
       delivers_by given.result before left c.run-handed.result.answer c.run-handed.ensures.told c.run-handed.ensures.trace
       c.run-handed.ensures.snapshot c.run-handed.ensures.work
 
-  ended : EndedAs c.args.schedule c.args.monitored c.args.job.now before left c.in-Ended.ending
-  ended = ended_as c.args.schedule c.args.monitored c.args.job.now before left _ _ delivered c.in-Ended.is
+  ended : EndedAs c.args.schedule c.args.monitored c.args.job.now before left c.in-Ok.ending
+  ended = ended_as c.args.schedule c.args.monitored c.args.job.now before left _ _ delivered c.in-Ok.is
 
-  short : length (ended_lines c.args.job.now (answer_of c.in-Ended.ending) left.trace left.snapshot) + 30 ≤ text_size
+  short : length (ended_lines c.args.job.now (answer_of c.in-Ok.ending) left.trace left.snapshot) + 30 ≤ text_size
   short = lines-short _ _ _ _ _ _ ended (λ i. omega (arith, c.slice_known-5-1.given i)) (λ i. omega (arith, c.slice_known-6-1.given i))
 
-pub returns-then-not-has_room : goal.returns-then-not-has_room
-returns-then-not-has_room c = let full = sym c.has_room.ensures ∙ c.if-not-has_room.true in
-    record {
-      end = omega arith;
-      answer = rw full;
-      text = rw full;
-      trace = rw full;
-      snapshot = rw full;
-      work = rw full;
-    }
-
-pub put_refusal-next-requires : goal.put_refusal-next-requires
-put_refusal-next-requires c =
+pub put_refusal-end-requires : goal.put_refusal-end-requires
+put_refusal-end-requires c =
     omega (
       arith,
       large _ _ (sym c.has_room.ensures ∙ c.if-not-has_room.false),
-      refused-short c.in-Refused.refusal.number c.in-Refused.refusal.place,
+      refused-short c.in-Err.refusal.number c.in-Err.refusal.place,
     )
 
-pub put_ended-end-requires : goal.put_ended-end-requires
-put_ended-end-requires c =
-    let i = (goal.at.put_ended-end-requires c).In-Ended in
+pub put_ended-next-requires : goal.put_ended-next-requires
+put_ended-next-requires c =
+    let i = (goal.at.put_ended-next-requires c).In-Ok in
     record {
       accepted = is-accepted _ _ _ _ _ _ (ended i);
       turns_in_bounds = trace-inside _ _ _ _ _ _ (ended i);
@@ -75,30 +64,30 @@ put_ended-end-requires c =
       snapshot_in_bounds = omega (arith, large _ _ (sym c.has_room.ensures ∙ c.if-not-has_room.false), short i);
     }
 
-pub put_total-next-requires : goal.put_total-next-requires
-put_total-next-requires c =
-    let i = (goal.at.put_total-next-requires c).In-Ended in
+pub put_total-end-requires : goal.put_total-end-requires
+put_total-end-requires c =
+    let i = (goal.at.put_total-end-requires c).In-Ok in
     let wide = large _ _ (sym c.has_room.ensures ∙ c.if-not-has_room.false) in
     omega (
       arith,
       wide,
       short i,
-      c.put_ended-end.ensures.place,
-      kept-length _ _ _ _ _ c.put_ended-end.ensures (omega (arith, wide, short i)),
+      c.put_ended-next.ensures.place,
+      kept-length _ _ _ _ _ c.put_ended-next.ensures (omega (arith, wide, short i)),
       total-short c.args.schedule c.run-handed.result.examined,
     )
 
-pub returns-in-Refused : goal.returns-in-Refused
-returns-in-Refused c = let before = buffers c.args.trace.now c.args.snapshot.now c.args.work.now in
+pub returns-in-Err : goal.returns-in-Err
+returns-in-Err c = let before = buffers c.args.trace.now c.args.snapshot.now c.args.work.now in
     let h = handed_for c.args.schedule c.args.monitored c.args.job.now (sizes_of before) in
     let d = delivers_by h.result before (buffers _ _ _) c.run-handed.result.answer c.run-handed.ensures.told c.run-handed.ensures.trace c.run-handed.ensures.snapshot c.run-handed.ensures.work in
-    let same = refused-same c.args.schedule c.args.job.now h (refusal_of c.in-Refused.refusal) (refused-result _ _ _ _ _ d c.in-Refused.is) in
-    let puts = rw same at c.put_refusal-next.ensures in
-    let run = rw c.in-Refused.is at d in
-    let puts_all = put_as _ c.args.schedule c.args.job.now _ _ _ _ h before _ (a.Refused c.in-Refused.refusal)
+    let same = refused-same c.args.schedule c.args.job.now h (refusal_of c.in-Err.refusal) (refused-result _ _ _ _ _ d c.in-Err.is) in
+    let puts = rw same at c.put_refusal-end.ensures in
+    let run = rw c.in-Err.is at d in
+    let puts_all = put_as _ c.args.schedule c.args.job.now _ _ _ _ h before _ (Err c.in-Err.refusal)
     (sym c.has_room.ensures ∙ c.if-not-has_room.false) puts run in
     record {
-      end = omega (arith, c.put_refusal-next.ensures.place, refused-short c.in-Refused.refusal.number c.in-Refused.refusal.place);
+      end = omega (arith, c.put_refusal-end.ensures.place, refused-short c.in-Err.refusal.number c.in-Err.refusal.place);
       answer = puts_all.0;
       text = puts_all.1.0;
       trace = puts_all.1.1.0;
@@ -106,18 +95,18 @@ returns-in-Refused c = let before = buffers c.args.trace.now c.args.snapshot.now
       work = puts_all.1.1.1.1;
     }
 
-pub returns-in-Ended : goal.returns-in-Ended
-returns-in-Ended c =
-    let i = (goal.at.returns-in-Ended c).In-Ended in
+pub returns-in-Ok : goal.returns-in-Ok
+returns-in-Ok c =
+    let i = (goal.at.returns-in-Ok c).In-Ok in
     let room = sym c.has_room.ensures ∙ c.if-not-has_room.false in
     let wide = large _ _ room in
     let more = total-short c.args.schedule c.run-handed.result.examined in
-    let both = writes-on _ _ _ _ _ _ _ _ (omega (arith, wide, short i, more)) c.put_ended-end.ensures c.put_total-next.ensures in
+    let both = writes-on _ _ _ _ _ _ _ _ (omega (arith, wide, short i, more)) c.put_ended-next.ensures c.put_total-end.ensures in
     let puts = rw (lines_same _ _ _ _ _ _ (ended i) c.run-handed.result.examined c.run-handed.ensures.examined) at both in
-    let run = rw c.in-Ended.is at (delivered i) in
-    let puts_all = put_as _ c.args.schedule c.args.job.now _ _ _ _ (given i) (before i) _ (a.Ended c.in-Ended.ending) room puts run in
+    let run = rw c.in-Ok.is at (delivered i) in
+    let puts_all = put_as _ c.args.schedule c.args.job.now _ _ _ _ (given i) (before i) _ (Ok c.in-Ok.ending) room puts run in
     record {
-      end = omega (arith, c.put_ended-end.ensures.place, c.put_total-next.ensures.place, short i, more);
+      end = omega (arith, c.put_ended-next.ensures.place, c.put_total-end.ensures.place, short i, more);
       answer = puts_all.0;
       text = puts_all.1.0;
       trace = puts_all.1.1.0;

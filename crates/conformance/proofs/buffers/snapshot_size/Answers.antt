@@ -4,12 +4,13 @@ use Rattle.model.specs.Refusal.{Decoded, accepted, rejected, commands_of}
 use Rattle.model.specs.Table.{NODE, VAR}
 use Rattle.tables.specs.Stands.{Stands}
 use Rattle.tables.proofs.Blank.{stands-blank}
-use Rattle.job.specs.declared.Verdict.{Verdict}
+use Rattle.std.proofs.Common.{Result}
+use Rattle.command.specs.declared.refusal.Refusal.{Refusal as Refused}
 use Rattle.job.specs.Decoding.{Decides}
 use Rattle.conformance.proofs.buffers.snapshot_size.Goals as goal
 
 -- the tables of any job
-stands_for : (d : Decoded) (t : List ℕ) (r : Verdict) → Decides d t r → Stands t (commands_of d)
+stands_for : (d : Decoded) (t : List ℕ) (r : Result (Unit {0}) Refused) → Decides d t r → Stands t (commands_of d)
 stands_for (accepted past) t r h = h.judged.tables past refl
 stands_for (rejected q) t r h = rw (h.cleared q refl) stands-blank
 
