@@ -133,7 +133,7 @@ fn snapshot_size(job: &[u8], snapshot: &[u8]) -> usize
     ensures { result ≡ snapshot_length job.now snapshot.now }
 {
     let mut tables = [0u32; CELLS];
-    decode(job, &mut tables);
+    let _ = decode(job, &mut tables);
     let nodes = count_of(&tables, bytes::NODE);
     let variables = count_of(&tables, bytes::VAR);
     size_of(snapshot, nodes, variables)

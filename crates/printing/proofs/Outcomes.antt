@@ -37,7 +37,7 @@ use Rattle.command.specs.declared.refusal.Refusal.{Refusal as Refused}
 use Rattle.command.specs.Refusals.{refusal_of}
 use Rattle.model.specs.Refusal.{IsAccepted, commands_of}
 use Rattle.tables.specs.Stands.{Stands}
-use Rattle.std.proofs.Common.{Result}
+use Rattle.std.proofs.Common.{Result as CodeResult}
 use Rattle.command.specs.declared.refusal.Refusal.{Refusal as Refused}
 use Rattle.job.specs.Decoding.{Decides}
 use Rattle.job.specs.declared.schedule.Schedule.{Schedule}
@@ -52,7 +52,7 @@ use Rattle.printing.proofs.Fronts.{parts_end, run-front}
 use Rattle.printing.proofs.Short.{run_short, tallies_short}
 
 -- the tables of an accepted job
-pub stands_of : (d : Decoded) (t : List ℕ) (r : Result (Unit {0}) Refused) → Decides d t r → IsAccepted d → Stands t (commands_of d)
+pub stands_of : (d : Decoded) (t : List ℕ) (r : CodeResult (Unit {0}) Refused) → Decides d t r → IsAccepted d → Stands t (commands_of d)
 stands_of (accepted past) t r h is = h.judged.tables past refl
 stands_of (rejected q) t r h is = absurd is
 

@@ -75,7 +75,7 @@ fn put_ended(
         text.old at text.new result }
 {
     let mut tables = [0u32; CELLS];
-    decode(job, &mut tables);
+    let _ = decode(job, &mut tables);
     let nodes = count_of(&tables, bytes::NODE) as usize;
     let variables = count_of(&tables, bytes::VAR) as usize;
     let turns = u64::from(ending.turns);

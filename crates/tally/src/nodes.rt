@@ -7,7 +7,7 @@ ghost use Rattle.tables.specs.Programs.{Handlers, program_in};
 ghost use Rattle.tally.specs.Counted.{tally_by};
 
 use command::numbers::NodeNum;
-use declared::{First, first_message};
+use declared::first_message;
 use output::places::{next_part, waiting_in};
 use writing::put_all;
 
@@ -16,8 +16,8 @@ fn count_started(tables: &[u32], n: NodeNum) -> u64
     ensures { (hs : Handlers) → result ≡ started (program_in tables.now hs) n.0 }
 {
     match first_message(tables, n) {
-        First::Message(_) => 1,
-        First::Nothing => 0,
+        Some(_) => 1,
+        None => 0,
     }
 }
 

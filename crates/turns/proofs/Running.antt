@@ -296,7 +296,7 @@ module _ (schedule : Schedule) (monitored : Bool) {job t w : List ℕ} (ready : 
                     (numbers_of x)
                     (view turned.state) (sym completes);
                 total = total;
-                few = omega (arith, u.few, chosen-few);
+                few = omega (arith, u.few, bounds.1, nodes_in_lem, nodes-few);
                 low = omega (arith, bounds.0);
                 writes = rw bytes (writes-on (trace_bytes (entries_of u.done)) (entry_bytes (numbers_of x)) before 0 trace at after next
                     (omega (arith, long, many, u.count)) u.writes p);

@@ -3,10 +3,10 @@ use lib.ListN.{length}
 use Rattle.tables.specs.Programs.{program_in}
 use Rattle.tally.proofs.nodes.count_started.Goals as goal
 
-pub returns-in-Message : goal.returns-in-Message
+pub returns-in-Some : goal.returns-in-Some
 unfolding program_in
-returns-in-Message c hs = ap length (rw c.in-Message.is at c.first_message.ensures)
+returns-in-Some c hs = ap length (rw c.in-Some.is at c.first_message.ensures)
 
-pub returns-in-Nothing : goal.returns-in-Nothing
+pub returns-in-None : goal.returns-in-None
 unfolding program_in
-returns-in-Nothing c hs = ap length (rw c.in-Nothing.is at c.first_message.ensures)
+returns-in-None c hs = ap length (rw c.in-None.is at c.first_message.ensures)
