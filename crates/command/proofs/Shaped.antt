@@ -15,7 +15,7 @@ use Rattle.model.specs.Table.{OperandKind, scope, owner, start, answer, node, po
 use Rattle.model.specs.Table.{jump, absent, width, Row, table, operands_in, operands_of, list_of, kind_at, group_of, Limit, largest_of}
 use Rattle.model.specs.Command.{number_at}
 use Rattle.model.proofs.Reading.{number-none}
-use Rattle.command.specs.Rows.{unpacked, kind_meant, limit_of, Says, row_in, Finds}
+use Rattle.command.specs.Rows.{unpacked, kind_of, kind_meant, limit_of, Says, row_in, Finds}
 use Rattle.command.specs.Reading.{IsWidth}
 
 -- what a row says, all columns together: byte, group, length and widths; kinds; largest count; that its byte is a command
@@ -31,7 +31,7 @@ given p =
     let s = unpacked p in
     record {
       numbers = s.byte ∷ s.group ∷ s.length ∷ s.first_width ∷ s.second_width ∷ s.third_width ∷ s.fourth_width ∷ [];
-      kinds = kind_meant s.first_kind ∷ kind_meant s.second_kind ∷ kind_meant s.third_kind ∷ kind_meant s.fourth_kind ∷ [];
+      kinds = kind_meant (kind_of s.first_kind) ∷ kind_meant (kind_of s.second_kind) ∷ kind_meant (kind_of s.third_kind) ∷ kind_meant (kind_of s.fourth_kind) ∷ [];
       most = limit_of s.byte s.most;
       operands = Some (list_of (operands_of s.byte));
     }

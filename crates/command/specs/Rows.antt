@@ -44,10 +44,10 @@ unpacked p =
       second_width = p / 0x100_0000 % 0x10;
       third_width = p / 0x10_0000 % 0x10;
       fourth_width = p / 0x1_0000 % 0x10;
-      first_kind = kind_of (p / 0x1000_0000_0000 % 0x10);
-      second_kind = kind_of (p / 0x100_0000_0000 % 0x10);
-      third_kind = kind_of (p / 0x10_0000_0000 % 0x10);
-      fourth_kind = kind_of (p / 0x1_0000_0000 % 0x10);
+      first_kind = p / 0x1000_0000_0000 % 0x10;
+      second_kind = p / 0x100_0000_0000 % 0x10;
+      third_kind = p / 0x10_0000_0000 % 0x10;
+      fourth_kind = p / 0x1_0000_0000 % 0x10;
       most = p / 0x1_0000_0000_0000 % 0x1_0000;
     }
 
@@ -70,10 +70,10 @@ pub record Says (b : ℕ) (s : Shape) : Type 0 where
   pub width₂ : s.second_width ≡ width (kind_at b 1)
   pub width₃ : s.third_width ≡ width (kind_at b 2)
   pub width₄ : s.fourth_width ≡ width (kind_at b 3)
-  pub kind₁ : kind_meant s.first_kind ≡ kind_at b 0
-  pub kind₂ : kind_meant s.second_kind ≡ kind_at b 1
-  pub kind₃ : kind_meant s.third_kind ≡ kind_at b 2
-  pub kind₄ : kind_meant s.fourth_kind ≡ kind_at b 3
+  pub kind₁ : kind_meant (kind_of s.first_kind) ≡ kind_at b 0
+  pub kind₂ : kind_meant (kind_of s.second_kind) ≡ kind_at b 1
+  pub kind₃ : kind_meant (kind_of s.third_kind) ≡ kind_at b 2
+  pub kind₄ : kind_meant (kind_of s.fourth_kind) ≡ kind_at b 3
   pub most : limit_of b s.most ≡ largest_of b
 
 -- the first of some packed rows with this byte

@@ -8,7 +8,7 @@ ghost use Rattle.command.specs.Reading.{ParsesAs, Reaches, Extends, others_at, h
 use crate::bytes;
 use crate::numbers::NodeNum;
 use crate::refusal::{Reason, Refusal};
-use crate::table::{row_of, unpack};
+use crate::table::{look_up, unpack};
 
 // A command that was read: its place in the job, its packed row of the table, its byte and group, and its operands, 0 where it has none.
 #[derive(Clone, Copy)]
@@ -60,11 +60,7 @@ pub fn operand(job: &[u8], at: usize, width: u8) -> u32
     ensures { result ≡ number_at job.now at width }
 {
     if width == 4 {
-        let a = u32::from(job[at]);
-        let b = u32::from(job[at + 1]);
-        let c = u32::from(job[at + 2]);
-        let d = u32::from(job[at + 3]);
-        return a + b * 256 + c * 65536 + d * 16777216;
+        return u32::from_le_bytes([job[at], job[at + 1], job[at + 2], job[at + 3]]);
     }
     if width == 1 {
         return u32::from(job[at]);
@@ -77,7 +73,7 @@ fn extent_of(job: &[u8], at: usize) -> Result<Extent, Refusal>
     requires { at < length job.now }
     ensures { Extends job.now at result }
 {
-    let Some(row) = row_of(job[at]) else {
+    let Some(row) = look_up(job[at]) else {
         return Err(Refusal {
             reason: Reason::UnknownByte,
             place: at,

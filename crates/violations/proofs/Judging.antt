@@ -18,7 +18,7 @@ use Rattle.model.specs.Valid.{Plain}
 use Rattle.model.proofs.Logic.{true_false, or_first, or_second, any_next, any_last}
 use Rattle.command.specs.declared.table.Row.{Row as Shape}
 use Rattle.command.specs.declared.read.Command.{Command as Code}
-use Rattle.command.specs.Rows.{unpacked, kind_meant, sharing, limit_of, Says, is_handler_byte}
+use Rattle.command.specs.Rows.{unpacked, kind_of, kind_meant, sharing, limit_of, Says, is_handler_byte}
 use Rattle.command.specs.Reading.{command_of, Known}
 use Rattle.command.proofs.Known.{byte_low, permission_byte}
 use Rattle.command.proofs.Shaped.{width_zero}
@@ -93,10 +93,10 @@ module _ (t : List ℕ) (c : Code) (past : List Command) (s : Stands t past) whe
     tests =
         (eqb c.byte NODE && eqb d.flows 0)
         ∷ (is_handler_byte c.byte && eqb bodies 0)
-        ∷ names_nothing d c.first (kind_meant row.first_kind) c.first
-        ∷ names_nothing d c.first (kind_meant row.second_kind) c.second
-        ∷ names_nothing d c.first (kind_meant row.third_kind) c.third
-        ∷ names_nothing d c.first (kind_meant row.fourth_kind) c.fourth
+        ∷ names_nothing d c.first (kind_meant (kind_of row.first_kind)) c.first
+        ∷ names_nothing d c.first (kind_meant (kind_of row.second_kind)) c.second
+        ∷ names_nothing d c.first (kind_meant (kind_of row.third_kind)) c.third
+        ∷ names_nothing d c.first (kind_meant (kind_of row.fourth_kind)) c.fourth
         ∷ []
 
     undeclared_as : undeclared past (command_of c) ≡ any_of tests
@@ -125,11 +125,11 @@ module _ (t : List ℕ) (c : Code) (past : List Command) (s : Stands t past) whe
         → row.length ≡ row.first_width → false ≡ undeclared past (command_of c)
     undeclared-single e f g l =
         let says : Says c.byte row = rw is k.row in
-        let second : kind_meant row.second_kind ≡ absent = says.kind₂
+        let second : kind_meant (kind_of row.second_kind) ≡ absent = says.kind₂
         ∙ width_zero _ (omega (arith, says.length, says.width₁, says.width₂)) in
-        let third : kind_meant row.third_kind ≡ absent = says.kind₃
+        let third : kind_meant (kind_of row.third_kind) ≡ absent = says.kind₃
         ∙ width_zero _ (omega (arith, says.length, says.width₁, says.width₃)) in
-        let fourth : kind_meant row.fourth_kind ≡ absent = says.kind₄
+        let fourth : kind_meant (kind_of row.fourth_kind) ≡ absent = says.kind₄
         ∙ width_zero _ (omega (arith, says.length, says.width₁, says.width₄)) in
         sym (undeclared_as ∙ rw (any_next, any_next, any_next, any_next, any_next, any_last, e, f, g, second, third, fourth))
 

@@ -7,7 +7,7 @@ ghost use Rattle.model.specs.Command.{Command as Past};
 ghost use Rattle.model.specs.Refusal.{exceeds_count, no_owner, names_nothing, undeclared, out_of_reach, repeated, empty_span};
 ghost use Rattle.model.specs.Refusal.{violation};
 ghost use Rattle.model.specs.Valid.{Plain};
-ghost use Rattle.command.specs.Rows.{kind_meant};
+ghost use Rattle.command.specs.Rows.{kind_of, kind_meant};
 ghost use Rattle.command.specs.Reading.{command_of, Known};
 ghost use Rattle.tables.specs.Tables.{count_in, item_count_in};
 ghost use Rattle.tables.specs.Stands.{Stands};
@@ -17,7 +17,7 @@ use command::bytes;
 use command::numbers::{FunNum, NodeNum, VarNum};
 use command::read::Command;
 use command::refusal::Reason;
-use command::table::{OperandKind, unpack};
+use command::table::{OperandKind, kind_of, unpack};
 
 // How many flows, nodes, variables and functions are declared.
 #[derive(Clone, Copy)]
@@ -89,11 +89,11 @@ fn has_no_owner(d: Counts, scope: u32, x: u32) -> bool
     }
 }
 
-// An operand of this kind names nothing that is declared or allowed.
-fn names_nothing(d: Counts, scope: u32, kind: OperandKind, x: u32) -> bool
-    ensures { result ≡ names_nothing (counts_as d) scope (kind_meant kind) x }
+// An operand whose kind has this digit names nothing that is declared or allowed.
+fn names_nothing(d: Counts, scope: u32, digit: u8, x: u32) -> bool
+    ensures { result ≡ names_nothing (counts_as d) scope (kind_meant (kind_of digit)) x }
 {
-    match kind {
+    match kind_of(digit) {
         OperandKind::Scope => 2 < x,
         OperandKind::Owner => has_no_owner(d, scope, x),
         OperandKind::Node => d.nodes <= x,
