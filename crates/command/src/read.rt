@@ -2,7 +2,7 @@
 ghost use Rattle.std.specs.Prelude.{◌≡◌, cond, ◌+◌, ◌<◌, ◌≤◌, eqb, length, get_or};
 ghost use Rattle.model.specs.Table.{BODY, operands_of, list_of};
 ghost use Rattle.model.specs.Command.{number_at, end_at, read_command};
-ghost use Rattle.command.specs.Rows.{unpacked};
+ghost use Rattle.command.specs.Rows.{unpacked, Finds};
 ghost use Rattle.command.specs.Reading.{ParsesAs, Reaches, Extends, others_at, head_in, IsWidth};
 
 use crate::bytes;
@@ -68,12 +68,13 @@ pub fn operand(job: &[u8], at: usize, width: u8) -> u32
     0
 }
 
-// The extent of the command at a place: refused by 2 if its byte is none, by 3 if its operands run past the end.
-fn extent_of(job: &[u8], at: usize) -> Result<Extent, Refusal>
-    requires { at < length job.now }
+// The extent of the command at a place, by what looking its byte up found: refused by 2 if it is none, by 3 if its operands run past the
+// end.
+fn extent_of(job: &[u8], at: usize, found: Option<u64>) -> Result<Extent, Refusal>
+    requires { (at < length job.now) × Finds (get_or job.now at 0) found }
     ensures { Extends job.now at result }
 {
-    let Some(row) = look_up(job[at]) else {
+    let Some(row) = found else {
         return Err(Refusal {
             reason: Reason::UnknownByte,
             place: at,
@@ -121,7 +122,8 @@ pub fn read_command(job: &[u8], at: usize) -> Result<Parsed, Refusal>
     requires { at < length job.now }
     ensures { ParsesAs job.now at result }
 {
-    let extent = extent_of(job, at)?;
+    let byte = job[at];
+    let extent = extent_of(job, at, look_up(byte))?;
     let row = extent.row;
     let next = extent.next;
     let shape = unpack(row);
@@ -130,7 +132,7 @@ pub fn read_command(job: &[u8], at: usize) -> Result<Parsed, Refusal>
     let command = Command {
         place: at,
         row,
-        byte: job[at],
+        byte,
         group: shape.group,
         first,
         second: others.second,
@@ -145,13 +147,14 @@ pub fn read_head(job: &[u8], at: usize) -> Option<Head>
     requires { at < length job.now }
     ensures { result ≡ head_in (read_command job.now at) }
 {
-    let Ok(extent) = extent_of(job, at) else {
+    let byte = job[at];
+    let Ok(extent) = extent_of(job, at, look_up(byte)) else {
         return None;
     };
     let shape = unpack(extent.row);
     let first = operand(job, at + 1, shape.first_width);
     Some(Head {
-        byte: job[at],
+        byte,
         group: shape.group,
         first,
         next: extent.next,
