@@ -1,4 +1,4 @@
-// What the tables say of permissions, each under its own kind of number.
+// What the tables say of permissions, each under its own kind of number; what the questions share is `marked`.
 #![tactic(auto)]
 
 ghost use Rattle.std.specs.Prelude.{◌≡◌};

@@ -1,4 +1,5 @@
-// The command bytes.
+// The command bytes. Numbers and no enum: the format names them, the tables count by them, tests go by ranges of them, and every definition
+// speaks of the byte.
 ghost use Rattle.std.specs.Prelude.{◌≡◌};
 ghost use Rattle.command.specs.Rows.{is_handler_byte};
 

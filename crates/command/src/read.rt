@@ -10,7 +10,8 @@ use crate::numbers::NodeNum;
 use crate::refusal::{Reason, Refusal};
 use crate::table::{look_up, unpack};
 
-// A command that was read: its place in the job, its packed row of the table, its byte and group, and its operands, 0 where it has none.
+// A command that was read: its place in the job, its packed row of the table, its byte and group, and its operands, 0 where it has none. That
+// row and group are those of its byte stays a clause (`Known`): `notes::note` takes any command.
 #[derive(Clone, Copy)]
 pub struct Command {
     pub place: usize,
@@ -117,7 +118,8 @@ fn read_others(job: &[u8], at: usize, row: u64) -> Others
     }
 }
 
-// The command at a place, or its refusal.
+// The command at a place, or its refusal. That the place is inside the job stays a clause, here and for all that look at a place: whoever asks
+// has just tested it.
 pub fn read_command(job: &[u8], at: usize) -> Result<Parsed, Refusal>
     requires { at < length job.now }
     ensures { ParsesAs job.now at result }

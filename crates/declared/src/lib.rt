@@ -1,5 +1,5 @@
 // What the tables say of flows, nodes, variables, functions and their answers, wires, handlers, first messages, and where the items of a
-// node or a function are, each under its own kind of number.
+// node or a function are, each under its own kind of number; what the questions share is `entry`, `flagged`, `marked` and `half`.
 #![tactic(auto)]
 
 ghost use Rattle.std.specs.Prelude.{◌≡◌, ℕ, ◌<◌, is_some, option_to_list};
@@ -49,7 +49,8 @@ pub fn start_of(tables: &[u32], x: VarNum) -> u32
     entry(tables, cells::INITIAL, x.0 as usize)
 }
 
-// The last reply of a function: its number among the items plus 1, or 0 if there is none.
+// The last reply of a function: its number among the items plus 1, or 0 if there is none. A number and no `Option`: the next item takes it as
+// it is.
 pub fn last_reply(tables: &[u32], f: FunNum) -> u32
     ensures { result ≡ last_reply_in tables.now f.0 }
 {
@@ -166,7 +167,7 @@ pub fn targets_of(tables: &[u32], n: NodeNum, port: u32) -> u32
     0
 }
 
-// The last range of a node and a function: its number among the items plus 1, or 0 if there is none.
+// The last range of a node and a function: its number among the items plus 1, or 0 if there is none, as of a last reply.
 pub fn last_range(tables: &[u32], n: NodeNum, f: FunNum) -> u32
     ensures { result ≡ last_range_in tables.now n.0 f.0 }
 {

@@ -17,9 +17,7 @@ fn read_slot(job: &[u8], work: &[u8], n: NodeNum, position: u32) -> Instruction
     if work.len() < at + 2 {
         return Instruction::Skip;
     }
-    let low = u32::from(work[at]);
-    let high = u32::from(work[at + 1]);
-    let place = low + high * 256;
+    let place = u16::from_le_bytes([work[at], work[at + 1]]);
     read_instruction(job, place as usize)
 }
 

@@ -12,7 +12,7 @@ use command::numbers::NodeNum;
 use command::read::{Head, open_after, read_head};
 use writing::put_one;
 
-// Stores a place in the slot of a node's command, if it fits: two bytes, lowest byte first.
+// Stores a place in the slot of a node's command, if it fits: two bytes, lowest byte first; what is above them is lost.
 fn store(work: &mut [u8], n: NodeNum, i: u32, place: usize)
     ensures { work.new ≡ stored work.old (slot_of n.0 i) place }
 {

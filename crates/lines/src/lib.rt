@@ -53,7 +53,8 @@ pub fn put_examined(text: &mut [u8], at: usize, examined: u32) -> usize
     put_line(text, at, b"examined", &numbers)
 }
 
-// Puts the lines of a run that left this trace and this snapshot (01's "picture"): entries, answer, nodes, variables.
+// Puts the lines of a run that left this trace and this snapshot (01's "picture"): entries, answer, nodes, variables. How many of these there
+// are is handed over beside the snapshot: the job alone tells it.
 pub fn put_run(
     text: &mut [u8],
     at: usize,

@@ -7,7 +7,8 @@ use command::read::operand;
 use text::{put_decimal, put_fields};
 use writing::put_one;
 
-// Puts the line of entry k: node, kind, number, value.
+// Puts the line of entry k: node, kind, number, value. That the trace has entry k stays a clause, for all that read an entry: whoever asks
+// counts them.
 fn put_entry_line(text: &mut [u8], at: usize, trace: &[u8], k: usize) -> usize
     requires k_in_bounds { 7 * k + 7 ≤ length trace.now }
     requires k_in_bounds_2 { at + length (entry_line trace.now k) ≤ length text.old }

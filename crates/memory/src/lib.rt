@@ -8,10 +8,10 @@ pub mod variables;
 
 use command::numbers::VarNum;
 
-// The position of a node that is idle.
+// The position of a node that is idle: a number, as the definitions and the snapshot have it.
 pub const IDLE: u32 = 255;
 
-// The sender of a START value.
+// The sender of a START value: a number, as the definitions and the snapshot have it.
 pub const START_SENDER: u8 = 255;
 
 // A node's registers: the position in its handler, the accumulator (01's "hand") and the message being handled.

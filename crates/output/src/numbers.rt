@@ -6,7 +6,7 @@ ghost use Rattle.output.specs.Written.{entry_with};
 
 use entries::{Entry, Event};
 
-// Node, kind, number and value.
+// Node, kind, number and value, as trace and lines show them: the kind is 01's number.
 #[derive(Clone, Copy)]
 pub struct Numbers {
     pub node: u32,

@@ -10,7 +10,7 @@ use crate::{dispatch_monitored, dispatch_unmonitored, run_monitored, run_unmonit
 use command::refusal::Refusal;
 use turns::ending::Ending;
 
-// The numbers of an answer.
+// The numbers of an answer. No `From`: neither the `Result` nor the array is a type of this crate.
 fn numbers_in(answer: Result<Ending, Refusal>) -> [u64; 8]
     ensures { result ≡ numbers_in (told_by answer) }
 {

@@ -43,7 +43,8 @@ fn run_accepted(
     made
 }
 
-// The run of any job with any buffers, monitored or not, its turns given in either way.
+// The run of any job with any buffers, monitored or not, its turns given in either way. A bool says by which rule, and no closure: the
+// definitions choose by it too (`rule_of`). Trace, snapshot and work buffer go one by one, as C hands them over.
 pub fn run(
     job: &[u8],
     schedule: Schedule,
@@ -85,7 +86,7 @@ pub fn run(
     }
 }
 
-// The monitored run (01's "watched").
+// The monitored run (01's "watched"). The four entry points differ in a word: they are the names that README gives and C calls.
 pub fn run_monitored(
     job: &[u8],
     trace: &mut [u8],

@@ -1,5 +1,5 @@
 // The static library of the entry points, for programs in C and Rust (include/leqsumir.h): each calls the function of the same name in
-// the crate run, and promises what that one does.
+// the crate run, and promises what that one does. One function for each name of the C interface.
 #![tactic(auto)]
 
 ghost use Rattle.std.specs.Prelude.{◌≡◌};

@@ -32,7 +32,8 @@ fn entries_held(turns: u64, trace: &[u8]) -> usize
     turns.min(whole as u64) as usize
 }
 
-// Writes the four counts of each of the first nodes to the front of an array, and answers the place after them.
+// Writes the four counts of each of the first nodes to the front of an array, and answers the place after them. That there are at most 32
+// nodes stays a clause, here and below: the tables tell it of accepted jobs alone.
 pub fn put_counts(
     counts: &mut [u64; COUNTS],
     tables: &[u32],

@@ -21,7 +21,8 @@ fn count_started(tables: &[u32], n: NodeNum) -> u64
     }
 }
 
-// Writes the counts of the first nodes, four a node: started, received, taken, waiting. The place of each node's part of the snapshot (01's "picture") is carried along from part to part.
+// Writes the counts of the first nodes, four a node: started, received, taken, waiting. The place of each node's part of the snapshot (01's
+// "picture") is carried along from part to part.
 pub fn put_nodes(
     counts: &mut [u64],
     tables: &[u32],

@@ -1,4 +1,5 @@
-// Writing to a buffer from one place to the next: each function answers the place after what it wrote.
+// Writing to a buffer from one place to the next: each function answers the place after what it wrote. Buffer and place go separately: the
+// clauses speak of the buffer before and after, and a struct that lends it would hide that.
 #![tactic(auto)]
 
 ghost use Rattle.std.specs.Prelude.{[], ◌∷◌, ◌+◌, ◌*◌, ◌≤◌, ◌<◌, length, take, replicate};
@@ -32,7 +33,7 @@ pub fn put_word(buffer: &mut [u8], at: usize, value: u32) -> usize
     put_all(buffer, at, &value.to_le_bytes())
 }
 
-// Writes the first values as 4 bytes each.
+// Writes the first values as 4 bytes each. Their number stands beside them, as in the clause.
 pub fn put_words(buffer: &mut [u8], at: usize, values: &[u32], count: usize) -> usize
     requires { (at + 4 * count ≤ length buffer.old) × (count ≤ length values.now) }
     ensures { Writes (numbers_bytes (take count values.now)) buffer.old at buffer.new result }
