@@ -1,5 +1,5 @@
 -- What the code asks of an item.
-use Rattle.std.specs.Prelude.{ℕ, Bool}
+use Rattle.std.specs.Prelude.{Bool}
 use Rattle.tables.specs.Items.{Item, item, holds, is_this, is_to}
 use Rattle.items.specs.declared.Question.{Question}
 use Rattle.items.specs.declared.Question.TheVariants.{Holds, Is, To}

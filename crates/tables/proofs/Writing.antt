@@ -4,12 +4,12 @@ use mathlib.Core.Path.{◌≡◌, sym, ◌∙◌}
 use mathlib.Core.Bool.{false}
 use mathlib.Core.List.{List}
 use native.Mathlib.Omega.{arith}
-use lib.ListN.{length, get_or, set, get_or-eq_default, length-replicate, get_or-replicate}
-use lib.Seq.{set_out, ext_get_or}
+use lib.ListN.{length, get_or, set, get_or-eq_default}
+use lib.Seq.{set_out}
 use borrow.Author.Tests.{lt-ltb, le-ltb}
 use Rattle.tables.specs.declared.cells.Section.{Section}
 use Rattle.tables.specs.Bits.{bit_of}
-use Rattle.tables.specs.Cells.{cell_count, entry_in, put_in, mark_cell, marks_with, mark_in, mark_at, blank}
+use Rattle.tables.specs.Cells.{entry_in, put_in, mark_cell, marks_with, mark_in, mark_at}
 
 -- a cell inside its section, and what lies outside
 module _ (t : List ℕ) (s : Section) (i : ℕ) where

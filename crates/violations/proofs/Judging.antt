@@ -9,7 +9,7 @@ use lib.Dec.{ltb, leb, eqb}
 use lib.ListN.{get_or}
 use borrow.Author.Tests.{eqb-true, ne_eqb}
 use Rattle.model.specs.Table.{FLOW, NODE, VAR, FUN, REPLY, WIRE, ANY, ARG, READ, WRITE, SPAN, BODY, GET, PUT, PLUS, START, operands_in}
-use Rattle.model.specs.Table.{operands_of, is_range_byte, kind_at, start, answer, value, jump, low, high, argument, absent, group_of}
+use Rattle.model.specs.Table.{operands_of, is_range_byte, kind_at, absent, group_of}
 use Rattle.model.specs.Command.{Command, Operands, quaternary, ternary, binary}
 use Rattle.model.specs.Declared.{count_among, occurs, open_body, flow_of, sees, started_in}
 use Rattle.model.specs.Refusal.{any_of, is_reached, exceeds_count, Counts, names_nothing, undeclared, out_of_reach, must_differ, repeated}

@@ -5,6 +5,3 @@ use Rattle.declared.proofs.reply_to.Goals as goal
 
 pub returns-then-last-eq0 : goal.returns-then-last-eq0
 returns-then-last-eq0 c = sym (ap second_of (found_none _ _ _ (sym c.last_reply-last.ensures ∙ c.if-last-eq0.true)))
-
-pub returns : goal.returns
-returns c = rw c.last_reply-last.ensures at c.find.ensures

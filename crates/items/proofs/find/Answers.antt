@@ -1,7 +1,7 @@
 use mathlib.Core.Path.{sym, ap, ◌∙◌}
 use native.Mathlib.Omega.{arith}
 use Rattle.tables.specs.Items.{second_of}
-use Rattle.items.proofs.Searching.{found_hit, found_miss, found_none, goes_back}
+use Rattle.items.proofs.Searching.{found_hit, found_miss, found_none}
 use Rattle.items.proofs.find.Goals as goal
 
 pub returns-then-fits : goal.returns-then-fits
@@ -13,9 +13,6 @@ returns-then-fits c = let h = rw (
 ) at c.if-fits.true in
     rw c.entry-second.ensures
     (sym (ap second_of (c.loop-at.invariant ∙ found_hit _ _ c.loop-at.at c.loop-at-test.true h)))
-
-pub loop-at-smaller : goal.loop-at-smaller
-loop-at-smaller c = goes_back _ _ _ c.loop-at-test.true c.go_back-at.ensures
 
 pub loop-at-preserved : goal.loop-at-preserved
 loop-at-preserved c = let h = rw (

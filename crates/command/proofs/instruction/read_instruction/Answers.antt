@@ -1,5 +1,5 @@
 use mathlib.Core.Path.{sym, ◌∙◌}
-use Rattle.command.proofs.Instructed.{read_behind, read-other, read_none, read_cut_off, operand-inside, read_instructed}
+use Rattle.command.proofs.Instructed.{read_behind, read-other, read_none, read_cut_off, read_instructed}
 use Rattle.command.proofs.instruction.read_instruction.Goals as goal
 
 pub returns-then-job-at : goal.returns-then-job-at
@@ -14,10 +14,6 @@ returns-in_default c = read_none _ _ c.in_default.ensures
 pub returns-then-job-at-2 : goal.returns-then-job-at-2
 returns-then-job-at-2 c = let handler = sym c.is_handler.ensures ∙ c.if-not-is_handler.false in
     read_cut_off _ _ _ c.in-Some.ensures handler _ c.unpack-shape.ensures c.if-job-at-2.true
-
-pub operand-x-requires : goal.operand-x-requires
-operand-x-requires c = let handler = sym c.is_handler.ensures ∙ c.if-not-is_handler.false in
-    operand-inside c.args.job.now c.args.at _ c.in-Some.ensures handler _ c.unpack-shape.ensures c.if-job-at-2.false
 
 pub returns : goal.returns
 returns c = let handler = sym c.is_handler.ensures ∙ c.if-not-is_handler.false in

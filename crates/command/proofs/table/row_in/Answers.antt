@@ -1,9 +1,6 @@
-use mathlib.Core.Path.{refl, sym, ◌∙◌}
+use mathlib.Core.Path.{sym, ◌∙◌}
 use Rattle.command.proofs.Shaped.{row_here, row-passed, row_missing}
 use Rattle.command.proofs.table.row_in.Goals as goal
-
-pub loop-row-init : goal.loop-row-init
-loop-row-init c = refl
 
 pub returns-then-row-byte : goal.returns-then-row-byte
 returns-then-row-byte c = sym (c.loop-row.invariant ∙ row_here _ _ _ c.loop-row-test.true c.if-row-byte.true)

@@ -1,11 +1,10 @@
 use Prim.Native.Nat.{◌-◌, ◌*◌}
 use mathlib.Core.Path.{◌≡◌, sym, ◌∙◌}
-use native.Mathlib.Omega.{arith}
 use lib.ListN.{length}
 use Rattle.model.specs.Table.{TURN}
 use Rattle.model.specs.Declared.{count_of}
 use Rattle.job.specs.Scheduling.{sizes_of}
-use Rattle.job.proofs.Buffered.{turn-found, turn-none, turns-written, budget-few}
+use Rattle.job.proofs.Buffered.{turn-found, turn-none}
 use Rattle.job.proofs.buffers.check_schedule.Goals as goal
 
 pub returns-then-turns-ne0 : goal.returns-then-turns-ne0
@@ -13,13 +12,6 @@ returns-then-turns-ne0 c job past decoded long counted = let place : length job 
     rw (c.saturating_sub.ensures, ← place)
     (turn-found c.args.schedule _ c.in-Dispatched.is job (sizes_of c.args.lengths) past decoded
     (λ e. c.if-turns-ne0.true (sym counted ∙ e)))
-
-pub check_buffers-requires-in-Dispatched : goal.check_buffers-requires-in-Dispatched
-check_buffers-requires-in-Dispatched c = omega (arith, (budget-few c.args.schedule _ c.in-Dispatched.is c.requires).1)
-
-pub returns-in-Written : goal.returns-in-Written
-returns-in-Written c job past decoded long counted = turns-written c.args.schedule c.in-Written.is job (sizes_of c.args.lengths) past _
-    (rw counted (c.check_buffers.ensures job long))
 
 pub returns-else-turns-ne0 : goal.returns-else-turns-ne0
 returns-else-turns-ne0 c job past decoded long counted = turn-none c.args.schedule _ c.in-Dispatched.is job (sizes_of c.args.lengths) past

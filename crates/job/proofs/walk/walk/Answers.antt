@@ -1,4 +1,3 @@
-use native.Mathlib.Omega.{arith}
 use Rattle.std.proofs.lemmas.Result.{err_from_is_err_and}
 use Rattle.model.proofs.Decoding.{decode-empty, decode-long}
 use Rattle.job.proofs.Judged.{walk_refuses}
@@ -14,18 +13,10 @@ returns-then-job-gt16384 c = walk_refuses _ _ _ _ (decode-long _ c.if-job-eq0.fa
 pub loop-at-init : goal.loop-at-init
 loop-at-init c = (c.if-job-gt16384.false, going_start _ _ _ c.if-job-eq0.false c.if-job-gt16384.false c.clear.ensures c.requires)
 
-pub advance-requires : goal.advance-requires
-advance-requires c = (c.loop-at-test.true, c.loop-at.invariant.0)
-
 pub returns-in_err-at : goal.returns-in_err-at
 returns-in_err-at c = let g = c.loop-at.invariant.1 in
     let p = err_from_is_err_and c.from_residual.result c.from_residual.ensures.1 in rw (p.1, p.2)
     (going-stop _ _ _ _ g c.loop-at-test.true _ _ _ (c.in_err-at.ensures g.past g.stands g.uses g.valid g.short))
-
-pub loop-at-smaller : goal.loop-at-smaller
-loop-at-smaller c = let g = c.loop-at.invariant.1 in
-    let o = c.in_ok-at.ensures g.past g.stands g.uses g.valid g.short in
-    omega (arith, o.later, c.loop-at-test.true)
 
 pub loop-at-preserved : goal.loop-at-preserved
 loop-at-preserved c = let g = c.loop-at.invariant.1 in

@@ -1,5 +1,0 @@
-use mathlib.Core.Path.{◌∙◌}
-use Rattle.notes.proofs.commands.note_start.Goals as goal
-
-pub returns : goal.returns
-returns c = c.put-3.ensures ∙ rw (c.put-2.ensures, c.put.ensures, c.flow_of-flow.ensures)
