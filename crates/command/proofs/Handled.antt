@@ -1,10 +1,10 @@
 -- A handler command by its byte: the bytes that are left for SKIP, and that every named command is recognised.
-use Prim.Native.Nat.{ℕ, suc, ◌≤◌, ◌<◌}
+use Prim.Native.Nat.{ℕ, suc, ◌≤◌}
 use mathlib.Core.Path.{◌≡◌, refl}
 use mathlib.Core.Bool.{Bool, true, false, cond, ◌&&◌}
 use native.Mathlib.Omega.{arith}
 use lib.Dec.{leb, eqb}
-use borrow.Author.Tests.{leb-true, leb-false, le-leb, lt-leb, eqb-true, ne_eqb}
+use borrow.Author.Tests.{leb-true, leb-false, le-leb, eqb-true}
 use Rattle.model.specs.Table.{SET, TAKE, CALL, SKIP, operands_in, operands_of}
 use Rattle.model.specs.Declared.{instruction}
 use Rattle.model.specs.Valid.{NamedInstruction}
@@ -13,21 +13,6 @@ use Rattle.command.specs.Instructions.{recognised}
 
 up : (b k : ℕ) → k ≤ b → ¬ (b ≡ k) → suc k ≤ b
 up b k h n = omega arith
-
--- none of the bytes 41 SET to 4A CALL
-pub skip_left :
-    (b x : ℕ) → ¬ (b ≡ 0x41) → ¬ (b ≡ 0x42) → ¬ (b ≡ 0x43) → ¬ (b ≡ 0x44) → ¬ (b ≡ 0x45) → ¬ (b ≡ 0x46) → ¬ (b ≡ 0x47) → ¬ (b ≡ 0x48)
-    → ¬ (b ≡ 0x49) → ¬ (b ≡ 0x4A)
-    → instruction SKIP 0 ≡ recognised b x
-skip_left b x n₁ n₂ n₃ n₄ n₅ n₆ n₇ n₈ n₉ n₁₀ = rw (ne_eqb b TAKE n₂) (by_range (leb SET b) refl)
-  where
-    high : SET ≤ b → CALL < b
-    high h = up b 0x4A (up b 0x49 (up b 0x48 (up b 0x47 (up b 0x46
-        (up b 0x45 (up b 0x44 (up b 0x43 (up b 0x42 (up b 0x41 h n₁) n₂) n₃) n₄) n₅) n₆) n₇) n₈) n₉) n₁₀
-
-    by_range : (t : Bool) → leb SET b ≡ t → instruction SKIP 0 ≡ cond (t && leb b CALL) (instruction b x) (instruction SKIP 0)
-    by_range true e = rw (lt-leb b CALL (high (leb-true SET b e)))
-    by_range false e = refl
 
 -- a named command is recognised
 module _ (b x : ℕ) (named : NamedInstruction (instruction b x)) where

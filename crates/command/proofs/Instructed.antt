@@ -8,7 +8,7 @@ use native.Mathlib.Omega.{arith}
 use lib.Dec.{leb}
 use lib.ListN.{length, get_or, get_or-eq_default}
 use borrow.Author.Tests.{leb-false, lt-leb, ne_eqb}
-use Rattle.model.specs.Table.{SET, TAKE, CALL, SKIP, operands_in, operands_of, list_of, kind_at}
+use Rattle.model.specs.Table.{SET, TAKE, CALL, SKIP, operands_in, operands_of, list_of}
 use Rattle.model.specs.Command.{Parsed, whole, unknown, cut_short, number_at, end_at, read_command}
 use Rattle.model.specs.Declared.{instruction}
 use Rattle.model.proofs.Logic.{true_false}
@@ -16,9 +16,7 @@ use Rattle.model.proofs.Reading.{read-unknown, read_short, read_whole, read_at}
 use Rattle.command.specs.declared.table.Row.{Row as Shape}
 use Rattle.command.specs.Instructions.{recognised, instruction_in, instruction_from}
 use Rattle.command.specs.Rows.{unpacked, Says, is_handler_byte}
-use Rattle.command.specs.Reading.{IsWidth}
 use Rattle.command.proofs.Known.{OneOperand, handler-single}
-use Rattle.command.proofs.Shaped.{width_is}
 
 -- a byte that is no handler command is taken for SKIP
 other_skipped : (b x : ℕ) → is_handler_byte b ≡ false → instruction SKIP 0 ≡ recognised b x
@@ -67,9 +65,6 @@ module _ (job : List ℕ) (place : ℕ) where
     -- the operand runs past the end
     pub read_cut_off : length job < place + 1 + s.first_width → instruction SKIP 0 ≡ instruction_from job place
     read_cut_off l = rw (read_short job place (list_of (operands_of (get_or job place 0))) says.known (omega (arith, ends)))
-
-    pub operand-inside : place + 1 + s.first_width ≤ length job → (place + 1 + s.first_width ≤ length job) × IsWidth s.first_width
-    operand-inside l = (l, width_is (kind_at (get_or job place 0) 0) s.first_width says.width₁)
 
     -- a whole command
     pub read_instructed :

@@ -1,6 +1,6 @@
 -- What is read at a place by a row of the code's table.
 use Prim.Native.Nat.{ℕ, ◌+◌, ◌≤◌, ◌<◌}
-use mathlib.Core.Path.{◌≡◌, refl, ◌∙◌}
+use mathlib.Core.Path.{◌≡◌, refl}
 use mathlib.Core.List.{List}
 use Rattle.std.proofs.Common.{None, Some}
 use native.Mathlib.Omega.{arith}
@@ -35,10 +35,6 @@ module _ (job : List ℕ) (place : ℕ) where
     pub read-cut : length job < place + 1 + s.length → refusal_at place (read_command job place) ≡ Some (refuse 3 place)
     read-cut l = rw (read_short job place (list_of (operands_of (get_or job place 0))) says.known (rw ends at l))
 
-    -- a whole command
-    pub read-reaches : (next : ℕ) → next ≡ place + 1 + s.length → next ≤ length job → Reaches job place row next
-    read-reaches next e l = record { says = says; ends = e ∙ ends; inside = l }
-
   -- the operands of a whole command, by the columns of its row
   module _ (row next : ℕ) (reach : Reaches job place row next) (s : Shape) (is : s ≡ unpacked row) where
     shape : Says (get_or job place 0) s
@@ -49,18 +45,6 @@ module _ (job : List ℕ) (place : ℕ) where
     first_fits = (
       omega (arith, shape.width₁, reach.ends, reach.inside),
       width_is (kind_at (get_or job place 0) 0) s.first_width shape.width₁,
-    )
-
-    pub second_fits : (place + 1 + s.first_width + s.second_width ≤ length job) × IsWidth s.second_width
-    second_fits = (
-      omega (arith, shape.width₁, shape.width₂, reach.ends, reach.inside),
-      width_is (kind_at (get_or job place 0) 1) s.second_width shape.width₂,
-    )
-
-    pub third-fits : (place + 1 + s.first_width + s.second_width + s.third_width ≤ length job) × IsWidth s.third_width
-    third-fits = (
-      omega (arith, shape.width₁, shape.width₂, shape.width₃, reach.ends, reach.inside),
-      width_is (kind_at (get_or job place 0) 2) s.third_width shape.width₃,
     )
 
     pub fourth-fits :

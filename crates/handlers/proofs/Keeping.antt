@@ -24,7 +24,6 @@ use Rattle.command.specs.Reading.{head_in}
 use Rattle.command.proofs.Taken.{head_there}
 use Rattle.handlers.specs.Loading.{slot_of, stored, loaded}
 use Rattle.model.specs.Refusal.{IsAccepted, commands_of}
-use Rattle.handlers.proofs.Slots.{length-loaded}
 
 -- an accepted job has its commands
 pub accepted-is : (d : Decoded) → IsAccepted d → d ≡ accepted (commands_of d)
@@ -60,10 +59,6 @@ keeping_start job all w e =
 module _ {job : List ℕ} {all : List Command} {w u : List ℕ} {place opened index : ℕ} (k : Keeping job all w u place opened index) where
   pub keeping_end : length job ≤ place → u ≡ loaded w all
   keeping_end h = k.same ∙ ap (loaded w) (scanning_end k.scanning h)
-
-  -- the length stays
-  pub keeping_length : length u ≡ length w
-  keeping_length = ap length k.same ∙ length-loaded w k.past
 
   -- the position is inside a handler
   pub keeping_position : index ≤ 64

@@ -7,7 +7,7 @@ use native.Mathlib.Omega.{arith}
 use mathlib.Core.Logic.{◌⊎◌, inl, inr, ⊎_elim}
 use lib.Dec.{leb, ltb}
 use lib.ListN.{length, get_or}
-use borrow.Author.Tests.{eqb-true, eq-eqb, leb-true, le-leb, lt-leb, ltb-true, ltb-false}
+use borrow.Author.Tests.{eqb-true, eq-eqb, leb-true, le-leb, ltb-true, ltb-false}
 use Rattle.model.specs.Command.{Command, number_at}
 use Rattle.model.specs.Declared.{is_handler, open_body, belongs, body_length}
 use Rattle.model.specs.Conclusion.{Reads, begin, further}
@@ -39,9 +39,6 @@ module _ (w : List ℕ) (n i place at : ℕ) (slot : at ≡ slot_of n i) where
   store_writes between high after last h p q =
       rw (← slot, le-leb (at + 2) (length w) h)
       (writes-on (place % 256 ∷ []) (place / 256 % 256 ∷ []) w at between high after last (omega arith) p q).buffer
-
-  pub store_nothing : length w < at + 2 → w ≡ stored w (slot_of n i) place
-  store_nothing h = rw (← slot, lt-leb (at + 2) (length w) h)
 
 pub length-loaded : (w : List ℕ) (past : List Command) → length (loaded w past) ≡ length w
 unfolding loaded

@@ -86,9 +86,6 @@ module _ (schedule : Schedule) (job : List ℕ) (b : Sizes) (t : List ℕ) where
 
 -- the tests of a schedule that is one of the two
 module _ (schedule : Schedule) (budget : ℕ) (is : schedule ≡ s.Dispatched budget) where
-  pub budget_bad : bad_budget budget ≡ true → Some (refuse 13 0) ≡ budget_refusal schedule
-  budget_bad e = rw (is, e)
-
   pub budget-good : bad_budget budget ≡ false → None ≡ budget_refusal schedule
   budget-good e = rw (is, e)
 
@@ -120,14 +117,5 @@ module _ (job : List ℕ) (size turns trace snapshot work : ℕ) (long : length 
   abbrev decided : Option Refusal
   decided = short_buffer_for job (sizes trace snapshot work) turns
 
-  pub trace-short : trace < 7 * turns → Some (refuse 10 size) ≡ decided
-  trace-short p = rw (long, lt-ltb trace (7 * turns) p)
-
   pub snapshot-short : 7 * turns ≤ trace → snapshot < 3136 → Some (refuse 11 size) ≡ decided
   snapshot-short p q = rw (long, le-ltb trace (7 * turns) p, lt-ltb snapshot 3136 q)
-
-  pub work-short : 7 * turns ≤ trace → 3136 ≤ snapshot → work < 4096 → Some (refuse 12 size) ≡ decided
-  work-short p q r = rw (long, le-ltb trace (7 * turns) p, le-ltb snapshot 3136 q, lt-ltb work 4096 r)
-
-  pub all-long : 7 * turns ≤ trace → 3136 ≤ snapshot → 4096 ≤ work → None ≡ decided
-  all-long p q r = rw (le-ltb trace (7 * turns) p, le-ltb snapshot 3136 q, le-ltb work 4096 r)

@@ -7,7 +7,7 @@ use mathlib.Core.List.{List, [], ◌∷◌, ◌++◌}
 use Rattle.std.proofs.Common.{Some}
 use native.Mathlib.Omega.{arith}
 use lib.Dec.{ltb, eqb}
-use lib.ListN.{length, get_or, get_or-append, get_or-eq_default}
+use lib.ListN.{length, get_or, get_or-append}
 use lib.Seq.{get_or_at}
 use borrow.Author.Tests.{ltb-true, ltb-false, eqb-true, eqb-false, le-ltb}
 use Rattle.model.specs.Table.{TURN, operands_in, operands_of, node, group_of}
@@ -131,12 +131,3 @@ pub first-turn :
     (job : List ℕ) (past : List Command) → Reads job (length job) past
     → ¬ (count_of TURN past ≡ 0) → written_turn past ≡ Some (refuse 14 (length job - 2 * count_of TURN past))
 first-turn job past reads = (turning reads).first
-
--- the place of a turn, as the code finds it: inside the job, or after the last turn
-module _ (job : List ℕ) (m k count first left : ℕ) (counted : count ≡ m) (from : first ≡ length job - 2 * count)
-    (rest : left ≡ length job - first) where
-  pub turn_inside : (x : ℕ) → x ≡ get_or job (first + (2 * k + 1)) 0 → x ≡ get_or job (length job - 2 * m + 2 * k + 1) 0
-  turn_inside x e = let q : first + (2 * k + 1) ≡ length job - 2 * m + 2 * k + 1 = omega arith in rw q at e
-
-  pub turn_outside : left ≤ 2 * k + 1 → 0 ≡ get_or job (length job - 2 * m + 2 * k + 1) 0
-  turn_outside h = sym (get_or-eq_default job 0 (omega arith))

@@ -53,14 +53,6 @@ pub ahead-first : (all : ℕ) → all < 2 ^ 32 → Ahead all 0 all
 ahead-first all small = record { inside = omega arith; small = small; bits = λ j. let e : 0 + j ≡ j = omega arith in rw e }
 
 module _ {all k targets : ℕ} (a : Ahead all k targets) where
-  -- while one of them is 1, k is below 32
-  pub ahead-inside : 0 < targets → k < 32
-  ahead-inside h = by_place (32 - k) refl a.small
-    where
-      by_place : (d : ℕ) → 32 - k ≡ d → targets < 2 ^ d → k < 32
-      by_place zero e l = absurd (omega (arith, l))
-      by_place (suc d) e l = omega arith
-
   -- at the end none of them is 1
   pub ahead-over : k ≡ 32 → targets ≡ 0
   ahead-over e = let l : targets < 2 ^ 0 = rw e at a.small in omega (arith, l)

@@ -15,7 +15,16 @@ fn numbers_in(answer: Result<Ending, Refusal>) -> [u64; 8]
     ensures { result ≡ numbers_in (told_by answer) }
 {
     match answer {
-        Err(r) => [u64::from(r.reason.number()), r.place as u64, 0, 0, 0, 0, 0, 0],
+        Err(r) => [
+            u64::from(r.reason.number()),
+            r.place as u64,
+            0,
+            0,
+            0,
+            0,
+            0,
+            0,
+        ],
         Ok(x) => {
             let e = x.attempted();
             [

@@ -1,11 +1,10 @@
 -- Numbers of 4 bytes, one after the other.
-use Prim.Native.Nat.{ℕ, ◌+◌, ◌*◌, ◌≤◌, ◌<◌}
+use Prim.Native.Nat.{ℕ, ◌+◌, ◌*◌, ◌≤◌}
 use mathlib.Core.Path.{◌≡◌, refl, ap, ◌∙◌}
 use mathlib.Core.List.{List, [], ◌∷◌, ◌++◌}
-use native.Mathlib.Numerals.{add-one}
 use native.Mathlib.Omega.{arith}
 use lib.ListN.{length, get_or, take}
-use lib.Seq.{take-suc, length-take-le}
+use lib.Seq.{length-take-le}
 use Rattle.model.specs.Output.{bytes4}
 use Rattle.writing.specs.Writing.{numbers_bytes, joined}
 use Rattle.writing.proofs.Putting.{first_shift}
@@ -34,7 +33,3 @@ numbers_snoc : (vs : List ℕ) (v : ℕ) → numbers_bytes (vs ++ (v ∷ [])) �
 unfolding numbers_bytes
 numbers_snoc [] v = refl
 numbers_snoc (w ∷ vs) v = ap (λ (l : List ℕ). bytes4 w ++ l) (numbers_snoc vs v)
-
-pub numbers-next : (vs : List ℕ) (i : ℕ) → i < length vs → numbers_bytes (take (i + 1) vs) ≡ numbers_bytes (take i vs) ++ bytes4 (get_or vs i 0)
-numbers-next vs i h = ap (λ (k : ℕ). numbers_bytes (take k vs)) (add-one i) ∙ ap numbers_bytes (take-suc vs i 0 h)
-    ∙ numbers_snoc (take i vs) (get_or vs i 0)
