@@ -26,7 +26,7 @@ fn wrapped(n: u32, nodes: u32) -> u32
 }
 
 // The first ready node of so many, going round from a number on. If the ready count is 0 it is nobody, and no node is examined (S-4); else
-// each is examined in turn until one is ready.
+// each is examined in turn until one is ready: a loop that yields the node by break, as 01 asks.
 pub fn choose(position: &[u32; 32], waiting: &[u8; 32], ready: u32, nodes: u32, from: u32) -> Choice
     requires nodes_bound { (nodes ≤ 32) × (from ≤ nodes) }
     requires ready_value { ready ≡ ready_count_in position.now waiting.now nodes }

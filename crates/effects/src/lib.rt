@@ -28,7 +28,7 @@ fn continue_at(own: Registers, position: u32, accumulator: u32, change: Change) 
     Effect { registers, change }
 }
 
-// The effect of a handler command.
+// The effect of a handler command. ADD and PLUS add by the supplied wrapping add, as 01 asks.
 pub fn effect_of(
     tables: &[u32],
     instruction: Instruction,

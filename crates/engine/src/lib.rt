@@ -23,7 +23,8 @@ use plans::plan_turn;
 
 // The state of a run: of each node the position in its handler, the accumulator (01's "hand"), the message being handled and how many
 // messages wait; the waiting messages of all nodes, 16 slots a node, oldest first, and their senders; the variables; how many nodes are
-// ready (S-4). Arrays of one size for every job: no heap, fixed memory.
+// ready (S-4). Arrays of one size for every job: no heap, fixed memory. That no more messages wait at a node than it has slots stays a
+// clause (`BoundedCounts`): `ready_count` takes any state.
 #[derive(Drop)]
 pub struct State {
     pub position: [u32; 32],

@@ -51,7 +51,8 @@ fn advance(job: &[u8], at: usize, tables: &mut [u32], uses: &mut [u32]) -> Resul
     admit(job, at, read.command, read.next, tables, uses)
 }
 
-// The tests 1 to 8 and 15: the verdict, the tables of an accepted job, and what its handlers use.
+// The tests 1 to 8 and 15: the verdict, the tables of an accepted job, and what its handlers use. The place goes on by the length of each
+// command, so no range has it.
 pub(crate) fn walk(job: &[u8], tables: &mut [u32; CELLS], uses: &mut [u32]) -> Result<(), Refusal>
     requires { Uses uses.old [] }
     ensures { Walks (decode job.now) tables.new uses.new result }

@@ -66,7 +66,8 @@ fn put_variables(
     put_words(snapshot, at, &state.variable, variables)
 }
 
-// Writes the snapshot of a state: its first nodes and its first variables, as many as are asked for.
+// Writes the snapshot of a state: its first nodes and its first variables, as many as are asked for. That the buffer has room for every
+// snapshot stays a clause: refusal 11 is the test for it.
 pub fn put_snapshot(snapshot: &mut [u8], state: &State, nodes: usize, variables: usize) -> usize
     requires snapshot_size_in_bounds { (snapshot_size ≤ length snapshot.old) × (nodes ≤ max_nodes) × (variables ≤ max_variables) }
     requires bounded_counts { BoundedCounts state.now.waiting }

@@ -6,7 +6,7 @@ ghost use Rattle.tally.specs.Tallies.{told_by, numbers_of, tally_told, tallies_a
 use crate::{COUNTS, tally};
 use command::refusal::Refusal;
 
-// The numbers of an answer.
+// The numbers of an answer. No `From`: neither the `Result` nor the array is a type of this crate.
 fn numbers_of(answer: Result<u32, Refusal>) -> [u64; 3]
     ensures { result ≡ numbers_of (told_by answer) }
 {
