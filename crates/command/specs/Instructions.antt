@@ -1,6 +1,5 @@
 -- Handler commands of the code, in the model's words.
-use Rattle.std.specs.Prelude.{ℕ, cond, ◌&&◌, List, leb, ltb, eqb, length, get_or}
-use Rattle.std.specs.Prelude.{Option, None, Some}
+use Rattle.std.specs.Prelude.{ℕ, cond, ◌&&◌, List, leb, ltb, eqb, length, get_or, Option, None, Some}
 use Rattle.model.specs.Table.{SET, TAKE, GET, PUT, ADD, PLUS, JUMPZ, JUMP, SEND, CALL, SKIP}
 use Rattle.model.specs.Command.{Parsed, whole, unknown, cut_short, read_command}
 use Rattle.model.specs.Declared.{Instruction as Meant, instruction}

@@ -1,6 +1,5 @@
 -- What the code reads at a place of a job, in the model's words.
-use Rattle.std.specs.Prelude.{ℕ, ◌+◌, ◌≤◌, ◌≡◌, List, ◌⊎◌, length, get_or}
-use Rattle.std.specs.Prelude.{Option, None, Some, Result, Ok, Err}
+use Rattle.std.specs.Prelude.{ℕ, ◌+◌, ◌≤◌, ◌≡◌, List, ◌⊎◌, length, get_or, Option, None, Some, Result, Ok, Err}
 use Rattle.model.specs.Table.{operands_of, list_of, group_of}
 use Rattle.model.specs.Command.{Command as Past, Parsed as ParsedAs, whole, unknown, cut_short, quaternary, number_at, end_at, read_command}
 use Rattle.model.specs.Refusal.{Refusal as RefusedFor, refuse}

@@ -1,4 +1,4 @@
--- Refusals of the code, in document 01's numbers.
+-- Refusals of the code, in the numbers of document 01, and of S-2 (13 and 14), S-5 (15) and S-7 (19).
 use Rattle.std.specs.Prelude.{ℕ}
 use Rattle.model.specs.Refusal.{Refusal as RefusedFor, refuse}
 use Rattle.command.specs.declared.refusal.Reason.{Reason}

@@ -1,6 +1,5 @@
 -- The rows of the code's table, and what they say in the model's words.
-use Rattle.std.specs.Prelude.{ℕ, zero, suc, ◌+◌, ◌/◌, ◌%◌, ◌≡◌, Bool, cond, ◌&&◌, List, [], ◌∷◌, leb, eqb, get_or}
-use Rattle.std.specs.Prelude.{Option, None, Some}
+use Rattle.std.specs.Prelude.{ℕ, zero, suc, ◌+◌, ◌/◌, ◌%◌, ◌≡◌, Bool, cond, ◌&&◌, List, [], ◌∷◌, leb, eqb, get_or, Option, None, Some}
 use Rattle.model.specs.Table.{ARG, SPAN, SET, SKIP, OperandKind as Meant, scope, owner, start, answer, node, port, target, function, argument, value}
 use Rattle.model.specs.Table.{low, high, variable, jump, absent, is_range_byte, width, operands_of, list_of, kind_at, group_of, Limit, limit}
 use Rattle.model.specs.Table.{largest_of}

@@ -2,7 +2,7 @@
 ghost use Rattle.std.specs.Prelude.{◌≡◌};
 ghost use Rattle.command.specs.Refusals.{number_of};
 
-// Which test turns a job away; the numbers are 01's.
+// Which test turns a job away; the numbers are 01's, and those of S-2 (13 and 14), S-5 (15) and S-7 (19).
 #[derive(Clone, Copy)]
 pub enum Reason {
     Length = 1,

@@ -4,8 +4,8 @@ use Rattle.std.specs.Prelude.{Ok, Err}
 use Rattle.model.specs.Refusal.{work_size}
 use Rattle.output.specs.Finding.{part_at}
 use Rattle.run.specs.Answers.{Answer}
-use Rattle.conformance.specs.declared.buffers.Change.{Change}
-use Rattle.conformance.specs.declared.buffers.Change.TheVariants.{FirstOfWork, LastOfWork, LastOfTrace, LastOfSnapshot, Nothing}
+use Rattle.conformance.specs.declared.buffers.ChangedByte.{ChangedByte}
+use Rattle.conformance.specs.declared.buffers.ChangedByte.TheVariants.{FirstOfWork, LastOfWork, LastOfTrace, LastOfSnapshot, Nothing}
 use Rattle.printing.specs.Printing.{nodes_in, variables_in}
 
 -- byte i of a filling
@@ -58,22 +58,22 @@ abbrev pub changed_last : List ℕ → List ℕ
 changed_last buffer = changed_at buffer (length buffer - 1)
 
 -- the change that a number asks for
-abbrev pub change_of : ℕ → Change
+abbrev pub change_of : ℕ → ChangedByte
 change_of number =
     cond (number == 1) FirstOfWork (cond (number == 2) LastOfWork (cond (number == 3) LastOfTrace (cond (number == 4) LastOfSnapshot Nothing)))
 
 -- the trace buffer after a change
-abbrev pub changed_trace : Change → List ℕ → List ℕ
+abbrev pub changed_trace : ChangedByte → List ℕ → List ℕ
 changed_trace LastOfTrace trace = changed_last trace
 changed_trace _ trace = trace
 
 -- the snapshot buffer after it
-abbrev pub changed_snapshot : Change → List ℕ → List ℕ
+abbrev pub changed_snapshot : ChangedByte → List ℕ → List ℕ
 changed_snapshot LastOfSnapshot snapshot = changed_last snapshot
 changed_snapshot _ snapshot = snapshot
 
 -- the work buffer after it
-abbrev pub changed_work : Change → List ℕ → List ℕ
+abbrev pub changed_work : ChangedByte → List ℕ → List ℕ
 changed_work FirstOfWork work = changed_at work 0
 changed_work LastOfWork work = changed_last work
 changed_work _ work = work

@@ -21,7 +21,7 @@ const STEP: usize = 31;
 // Which byte is changed after a run: the first or the last of the work buffer, the last of the trace or of the snapshot buffer, or none.
 // Where a buffer is longer than what a run writes to it, its last byte is one that the run has to keep.
 #[derive(Clone, Copy)]
-pub enum Change {
+pub enum ChangedByte {
     FirstOfWork,
     LastOfWork,
     LastOfTrace,
@@ -29,16 +29,16 @@ pub enum Change {
     Nothing,
 }
 
-impl From<u8> for Change {
+impl From<u8> for ChangedByte {
     ghost from_gives = { λ number change. change ≡ change_of number };
 
-    fn from(number: u8) -> Change {
+    fn from(number: u8) -> ChangedByte {
         match number {
-            1 => Change::FirstOfWork,
-            2 => Change::LastOfWork,
-            3 => Change::LastOfTrace,
-            4 => Change::LastOfSnapshot,
-            _ => Change::Nothing,
+            1 => ChangedByte::FirstOfWork,
+            2 => ChangedByte::LastOfWork,
+            3 => ChangedByte::LastOfTrace,
+            4 => ChangedByte::LastOfSnapshot,
+            _ => ChangedByte::Nothing,
         }
     }
 }
@@ -88,17 +88,17 @@ fn change_last(buffer: &mut [u8])
 }
 
 // Changes the byte that is asked for.
-pub fn change_one(trace: &mut [u8], snapshot: &mut [u8], work: &mut [u8], which: Change)
+pub fn change_one(trace: &mut [u8], snapshot: &mut [u8], work: &mut [u8], which: ChangedByte)
     ensures trace { trace.new ≡ changed_trace which trace.old }
     ensures snapshot { snapshot.new ≡ changed_snapshot which snapshot.old }
     ensures work { work.new ≡ changed_work which work.old }
 {
     match which {
-        Change::FirstOfWork => change_at(work, 0),
-        Change::LastOfWork => change_last(work),
-        Change::LastOfTrace => change_last(trace),
-        Change::LastOfSnapshot => change_last(snapshot),
-        Change::Nothing => {}
+        ChangedByte::FirstOfWork => change_at(work, 0),
+        ChangedByte::LastOfWork => change_last(work),
+        ChangedByte::LastOfTrace => change_last(trace),
+        ChangedByte::LastOfSnapshot => change_last(snapshot),
+        ChangedByte::Nothing => {}
     }
 }
 

@@ -2,7 +2,7 @@
 ghost use Rattle.std.specs.Prelude.{◌≤◌, IfSome, IsTrue, length};
 ghost use Rattle.conformance.specs.Input.{HeadFits};
 
-use crate::buffers::Change;
+use crate::buffers::ChangedByte;
 use job::schedule::Schedule;
 use std::io::Read;
 
@@ -12,7 +12,7 @@ use std::io::Read;
 pub struct Head {
     pub schedule: Schedule,
     pub monitored: bool,
-    pub change: Change,
+    pub change: ChangedByte,
     pub seed: u8,
     pub job: usize,
     pub trace: usize,
@@ -50,7 +50,7 @@ fn read_head(reader: &mut impl Read) -> Option<Head> {
     Some(Head {
         schedule: schedule_of(head[0], pair(head[10], head[11])),
         monitored: head[0] % 2 == 0,
-        change: Change::from(head[0] / 2 % 8),
+        change: ChangedByte::from(head[0] / 2 % 8),
         seed: head[1],
         job: usize::from(pair(head[2], head[3])),
         trace: usize::from(pair(head[4], head[5])),

@@ -1,8 +1,7 @@
 // The engine: the state of a run, its start, and one turn.
 #![tactic(auto)]
 
-ghost use Rattle.std.specs.Prelude.{◌≡◌, ◌⊎◌, ◌≤◌, ◌<◌, get_or};
-ghost use Rattle.std.specs.Prelude.{None};
+ghost use Rattle.std.specs.Prelude.{◌≡◌, ◌⊎◌, ◌≤◌, ◌<◌, get_or, None};
 ghost use Rattle.model.specs.Table.{NODE};
 ghost use Rattle.command.specs.Instructions.{fetched_of};
 ghost use Rattle.tables.specs.Tables.{count_in};

@@ -1,6 +1,5 @@
 -- Trace entries and outcomes of a turn: the code's enums in document 01's numbers.
-use Rattle.std.specs.Prelude.{ℕ, ◌≡◌, Bool, true, false, cond, List}
-use Rattle.std.specs.Prelude.{Result, Ok, Err}
+use Rattle.std.specs.Prelude.{ℕ, ◌≡◌, Bool, true, false, cond, List, Result, Ok, Err}
 use Rattle.model.specs.Program.{Program}
 use Rattle.model.specs.State.{State, accumulator_at}
 use Rattle.model.specs.Turn.{Entry as Meant, entry, entry_of, Turned, completed, stopped, turn}

@@ -1,6 +1,5 @@
 // Fetching the commands of handlers: their places from the work buffer, the commands from the job.
-ghost use Rattle.std.specs.Prelude.{◌≡◌, ◌⊎◌, ◌<◌};
-ghost use Rattle.std.specs.Prelude.{None};
+ghost use Rattle.std.specs.Prelude.{◌≡◌, ◌⊎◌, ◌<◌, None};
 ghost use Rattle.command.specs.Instructions.{instruction_of, fetched_of, command_in};
 ghost use Rattle.handlers.specs.Loading.{slot_in, handlers_in};
 

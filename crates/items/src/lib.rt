@@ -46,8 +46,8 @@ fn go_back(at: usize, before: usize) -> usize
     0
 }
 
-// A chain goes by the numbers of items in the tables: no heap, fixed memory.
-// The second number of the first item that fits a question, from the last one of a chain back, which is given by its number plus 1, or 0 if there is none.
+// The second number of the first item that fits a question, from the last one of a chain back, which is given by its number plus 1, or 0 if
+// there is none. A chain goes by the numbers of items in the tables: no heap, fixed memory.
 pub fn find(tables: &[u32], last: usize, q: Question) -> Option<u32>
     ensures { result ≡ second_of (found_item (asked q) (chain_in tables.now last last)) }
 {

@@ -1,6 +1,5 @@
 -- What the code's steps and verdicts say, in the model's words.
-use Rattle.std.specs.Prelude.{ℕ, suc, ◌≤◌, ◌<◌, ◌≡◌, cond, List, ◌∷◌, ltb, length}
-use Rattle.std.specs.Prelude.{Option, None, Some, Result, Ok, Err}
+use Rattle.std.specs.Prelude.{ℕ, suc, ◌≤◌, ◌<◌, ◌≡◌, cond, List, ◌∷◌, ltb, length, Option, None, Some, Result, Ok, Err}
 use Rattle.model.specs.Command.{Command}
 use Rattle.model.specs.Refusal.{Refusal, refuse, Decoded, accepted, rejected, decode_from}
 use Rattle.model.specs.Valid.{Valid}

@@ -1,6 +1,5 @@
 -- The tests of a job whose turns are given in either way: as its TURN commands, or by the dispatcher with a budget (S-2).
-use Rattle.std.specs.Prelude.{ℕ, cond, List}
-use Rattle.std.specs.Prelude.{Option, None, Some}
+use Rattle.std.specs.Prelude.{ℕ, cond, List, Option, None, Some}
 use Rattle.model.specs.Table.{TURN}
 use Rattle.model.specs.Command.{Command}
 use Rattle.model.specs.Refusal.{Refusal, refuse, Decoded, first_of, Sizes, sizes, short_buffer, short_buffer_for, decode_for}
@@ -11,8 +10,8 @@ use Rattle.job.specs.declared.schedule.Schedule.{Schedule}
 use Rattle.job.specs.declared.schedule.Schedule.TheVariants as s
 
 -- the lengths of the three buffers
-abbrev pub sizes_of : Lengths → Sizes
-sizes_of b = sizes b.trace b.snapshot b.work
+abbrev pub sizes_as : Lengths → Sizes
+sizes_as b = sizes b.trace b.snapshot b.work
 
 -- the commands of a job after all tests, or its refusal
 abbrev pub decode_by : Schedule → List ℕ → Sizes → Decoded

@@ -1,12 +1,11 @@
 // All tests of a job with its buffers.
-ghost use Rattle.std.specs.Prelude.{◌≡◌, List, ℕ, ◌<◌, length};
-ghost use Rattle.std.specs.Prelude.{None};
+ghost use Rattle.std.specs.Prelude.{◌≡◌, List, ℕ, ◌<◌, length, None};
 ghost use Rattle.model.specs.Command.{Command};
 ghost use Rattle.model.specs.Declared.{count_of};
 ghost use Rattle.model.specs.Table.{TURN};
 ghost use Rattle.model.specs.Refusal.{accepted, decode_job, short_buffer_for};
 ghost use Rattle.job.specs.Decoding.{verdict_of, Decides};
-ghost use Rattle.job.specs.Scheduling.{sizes_of, budget_refusal, schedule_refusal, decode_by};
+ghost use Rattle.job.specs.Scheduling.{sizes_as, budget_refusal, schedule_refusal, decode_by};
 
 use crate::decode;
 use crate::schedule::Schedule;
@@ -34,7 +33,7 @@ const BUDGET: u64 = 4096;
 // The tests 10 to 12: a job of this length, with buffers of these lengths, for so many turns.
 fn check_buffers(size: usize, turns: usize, lengths: Lengths) -> Result<(), Refusal>
     requires { turns < 4294967296 }
-    ensures { (job : List ℕ) → length job ≡ size → verdict_of result ≡ short_buffer_for job (sizes_of lengths) turns }
+    ensures { (job : List ℕ) → length job ≡ size → verdict_of result ≡ short_buffer_for job (sizes_as lengths) turns }
 {
     let Lengths {
         trace,
@@ -89,7 +88,7 @@ fn check_schedule(
 ) -> Result<(), Refusal>
     requires { budget_refusal schedule ≡ None }
     ensures { (job : List ℕ) (past : List Command) → decode_job job ≡ accepted past → length job ≡ size → count_of TURN past ≡ turns
-        → verdict_of result ≡ schedule_refusal schedule job (sizes_of lengths) past }
+        → verdict_of result ≡ schedule_refusal schedule job (sizes_as lengths) past }
 {
     match schedule {
         Schedule::Written => check_buffers(size, turns as usize, lengths),
@@ -113,7 +112,7 @@ fn judge_under(
     lengths: Lengths,
 ) -> Result<(), Refusal>
     requires { budget_refusal schedule ≡ None }
-    ensures { Decides (decode_by schedule job.now (sizes_of lengths)) tables.new result }
+    ensures { Decides (decode_by schedule job.now (sizes_as lengths)) tables.new result }
 {
     decode(job, tables)?;
     let turns = count_of(tables, bytes::TURN);
@@ -132,7 +131,7 @@ pub fn judge(
     tables: &mut [u32; CELLS],
     lengths: Lengths,
 ) -> Result<(), Refusal>
-    ensures { Decides (decode_by schedule job.now (sizes_of lengths)) tables.new result }
+    ensures { Decides (decode_by schedule job.now (sizes_as lengths)) tables.new result }
 {
     if let Err(refusal) = check_budget(schedule) {
         clear(tables);

@@ -1,6 +1,5 @@
 // How the turns of a run are given; the turns of an accepted job are its last commands, 2 bytes each.
-ghost use Rattle.std.specs.Prelude.{◌≡◌};
-ghost use Rattle.std.specs.Prelude.{None};
+ghost use Rattle.std.specs.Prelude.{◌≡◌, None};
 ghost use Rattle.job.specs.Prepared.{turn_in};
 ghost use Rattle.job.specs.Scheduling.{budget_refusal, turns_by};
 

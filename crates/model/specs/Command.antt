@@ -1,6 +1,5 @@
 -- One command, and how it is read from the bytes of a job ("The job").
-use Rattle.std.specs.Prelude.{ℕ, zero, suc, ◌+◌, ◌*◌, Bool, cond, ◌&&◌, List, leb, eqb, length, get_or}
-use Rattle.std.specs.Prelude.{Option, None, Some}
+use Rattle.std.specs.Prelude.{ℕ, zero, suc, ◌+◌, ◌*◌, Bool, cond, ◌&&◌, List, leb, eqb, length, get_or, Option, None, Some}
 use Rattle.model.specs.Table.{OperandKind, width, operands_of, operand_at}
 
 -- the operands of a command, 0 where it has none

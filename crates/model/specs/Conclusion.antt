@@ -1,7 +1,6 @@
 -- Demand 1 of the definitions: a job is refused at the first test that it fails, by number and place, buffers untouched; every other job
 -- runs to one of the stops 0 to 3.
-use Rattle.std.specs.Prelude.{ℕ, ◌*◌, ◌≤◌, ◌<◌, ◌≡◌, ◌↔◌, ◌⊎◌, List, [], ◌∷◌, length, take, drop, replicate}
-use Rattle.std.specs.Prelude.{None, Some}
+use Rattle.std.specs.Prelude.{ℕ, ◌*◌, ◌≤◌, ◌<◌, ◌≡◌, ◌↔◌, ◌⊎◌, List, [], ◌∷◌, length, take, drop, replicate, None, Some}
 use Rattle.model.specs.Table.{max_turns, max_job}
 use Rattle.model.specs.Command.{Command, whole, unknown, cut_short, read_command}
 use Rattle.model.specs.Declared.{turns_of}

@@ -1,7 +1,6 @@
 -- What commands declare ("The job"), as functions of the commands read so far, the latest first (`past`).
 -- Each value for `c ∷ past` is made from `c` and the values for `past`. Numbers are counted from 0 over the whole job.
-use Rattle.std.specs.Prelude.{ℕ, ◌+◌, ◌-◌, Bool, true, false, cond, not, ◌&&◌, ◌||◌, List, [], ◌∷◌, ◌++◌, leb, eqb}
-use Rattle.std.specs.Prelude.{Option, None, Some, unwrap_or}
+use Rattle.std.specs.Prelude.{ℕ, ◌+◌, ◌-◌, Bool, true, false, cond, not, ◌&&◌, ◌||◌, List, [], ◌∷◌, ◌++◌, leb, eqb, Option, None, Some, unwrap_or}
 use Rattle.model.specs.Table.{FLOW, NODE, VAR, FUN, REPLY, SPAN, BODY, SET, SKIP, START, TURN, is_among}
 use Rattle.model.specs.Command.{Operands, same_operands, Command, is}
 

@@ -1,6 +1,5 @@
 -- What a dispatched job comes to (S-2): every job, with any budget and any buffers.
-use Rattle.std.specs.Prelude.{ℕ, ◌*◌, ◌≤◌, ◌<◌, ◌≡◌, ◌↔◌, ◌⊎◌, List, ◌++◌, length}
-use Rattle.std.specs.Prelude.{None, Some}
+use Rattle.std.specs.Prelude.{ℕ, ◌*◌, ◌≤◌, ◌<◌, ◌≡◌, ◌↔◌, ◌⊎◌, List, ◌++◌, length, None, Some}
 use Rattle.model.specs.Table.{max_turns, max_job}
 use Rattle.model.specs.Command.{Command}
 use Rattle.model.specs.Program.{Program, program_of}

@@ -1,6 +1,5 @@
 -- What a dispatched entry point hands over (S-2): its refusals, and its results.
-use Rattle.std.specs.Prelude.{ℕ, Bool, cond, ◌||◌, List, eqb, ltb}
-use Rattle.std.specs.Prelude.{Option}
+use Rattle.std.specs.Prelude.{ℕ, Bool, cond, ◌||◌, List, eqb, ltb, Option}
 use Rattle.model.specs.Table.{TURN, max_turns}
 use Rattle.model.specs.Command.{Command, is}
 use Rattle.model.specs.Program.{Program, program_of}

@@ -1,7 +1,6 @@
 -- Test 5 ("Largest counts"; S-1, S-5): what the largest counts over the whole job say of every job, where a row of `Readings` would show
 -- one case. The commands of a body have a count of their own.
-use Rattle.std.specs.Prelude.{◌≤◌, ◌<◌, ◌≡◌, true, false, List, [], ◌∷◌}
-use Rattle.std.specs.Prelude.{Some}
+use Rattle.std.specs.Prelude.{◌≤◌, ◌<◌, ◌≡◌, true, false, List, [], ◌∷◌, Some}
 use Rattle.model.specs.Table.{REPLY, ARG, SPAN, is_range_byte, Limit, limit, largest_of}
 use Rattle.model.specs.Command.{Command}
 use Rattle.model.specs.Declared.{count_among}

@@ -1,7 +1,6 @@
 -- When a job is refused ("When a job is turned away"): the tests 1 to 12, after test 8 the test 15 of request S-5, and after test 9 the
 -- test 19 of request S-7, each with its number and place, in their order.
-use Rattle.std.specs.Prelude.{ℕ, zero, suc, ◌*◌, Bool, false, cond, not, ◌&&◌, ◌||◌, List, [], ◌∷◌, leb, ltb, eqb, length, is_some}
-use Rattle.std.specs.Prelude.{Option, None, Some}
+use Rattle.std.specs.Prelude.{ℕ, zero, suc, ◌*◌, Bool, false, cond, not, ◌&&◌, ◌||◌, List, [], ◌∷◌, leb, ltb, eqb, length, is_some, Option, None, Some}
 use Rattle.model.specs.Table.{FLOW, NODE, VAR, FUN, REPLY, WIRE, ANY, ARG, READ, WRITE, SPAN, BODY, GET, PUT, PLUS, JUMPZ, JUMP}
 use Rattle.model.specs.Table.{CALL, START, TURN, OperandKind, scope, owner, start, answer, node, port, target, function, argument}
 use Rattle.model.specs.Table.{value, low, high, variable, jump, absent, kind_at, group_of, Limit, largest_of, max_port, max_handler}

@@ -1,7 +1,6 @@
 -- The command table ("The job"): each command byte with its operands, in the paper's order and under the paper's names; the largest counts.
 -- REPLY is that of request S-1, SPAN that of S-5.
-use Rattle.std.specs.Prelude.{ℕ, ◌/◌, Bool, false, cond, ◌||◌, List, [], ◌∷◌, eqb, get_or}
-use Rattle.std.specs.Prelude.{Option, None, Some}
+use Rattle.std.specs.Prelude.{ℕ, ◌/◌, Bool, false, cond, ◌||◌, List, [], ◌∷◌, eqb, get_or, Option, None, Some}
 
 -- the command bytes
 abbrev pub FLOW : ℕ

@@ -1,7 +1,6 @@
 -- What holds of the commands of every accepted job, and of every state of its runs: what proofs about code rest on. No definition above
 -- uses it.
-use Rattle.std.specs.Prelude.{ℕ, ◌+◌, ◌^◌, ◌≤◌, ◌<◌, ◌≡◌, true, false, ◌&&◌, List, [], ◌∷◌, ◌⊎◌, leb, length, get_or}
-use Rattle.std.specs.Prelude.{None}
+use Rattle.std.specs.Prelude.{ℕ, ◌+◌, ◌^◌, ◌≤◌, ◌<◌, ◌≡◌, true, false, ◌&&◌, List, [], ◌∷◌, ◌⊎◌, leb, length, get_or, None}
 use Rattle.model.specs.Table.{FLOW, NODE, VAR, FUN, REPLY, ARG, SPAN, SET, SKIP, TURN, OperandKind, scope, owner, start, answer}
 use Rattle.model.specs.Table.{node, port, target, function, argument, value, low, high, variable, jump, absent, operands_of, kind_at}
 use Rattle.model.specs.Table.{max_flows, max_nodes, max_variables, max_functions, max_replies, max_handler, max_ranges, max_turns, max_port}

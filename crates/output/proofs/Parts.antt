@@ -6,7 +6,7 @@ use native.Mathlib.Nat.{mod-eq_of_lt}
 use native.Mathlib.Numerals.{add-one}
 use native.Mathlib.Omega.{arith}
 use lib.ListN.{length, get_or, take, drop, length-drop, length-append, length-take}
-use lib.Seq.{length-take-le}
+use lib.Seq.{length-take-le, take-suc}
 use Rattle.model.specs.State.{Message, State, queue_at, waiting_at, variable_at}
 use Rattle.model.specs.Output.{bytes4, messages_bytes, node_bytes, nodes_bytes, part_start, variables_bytes}
 use Rattle.model.specs.Valid.{Bounded}
@@ -19,7 +19,7 @@ use Rattle.engine.specs.declared.State.{State as Code}
 use Rattle.engine.specs.Engine.{view}
 use Rattle.writing.specs.Writing.{numbers_bytes, Writes}
 use Rattle.writing.proofs.Placing.{writes-on, writes_nothing}
-use Rattle.writing.proofs.Words.{numbers-next}
+use Rattle.writing.proofs.Words.{numbers_snoc}
 use Rattle.output.specs.Written.{shown_bytes}
 
 -- the part of node n is written, and the place of the next one is known
@@ -108,6 +108,11 @@ one_shown s few before n snapshot at after next fits same w x =
       short = omega (arith, x.place, short);
       size = same ∙ w.size;
     }
+
+-- numbers, with one more
+numbers-next : (vs : List ℕ) (i : ℕ) → i < length vs → numbers_bytes (take (i + 1) vs) ≡ numbers_bytes (take i vs) ++ bytes4 (get_or vs i 0)
+numbers-next vs i h = ap (λ (k : ℕ). numbers_bytes (take k vs)) (add-one i) ∙ ap numbers_bytes (take-suc vs i 0 h)
+    ∙ numbers_snoc (take i vs) (get_or vs i 0)
 
 -- the variables are numbers one after the other
 variables_numbers : (s : State) (k : ℕ) → k ≤ length s.variable → variables_bytes s k ≡ numbers_bytes (take k s.variable)

@@ -1,6 +1,5 @@
 -- A turn as a plan: the node's registers after it, what it changes besides, its outcome, and the ready count after it.
-use Rattle.std.specs.Prelude.{ℕ, ◌≤◌, ◌≡◌, Bool, true, cond, List, ◌⊎◌, get_or, set, Option}
-use Rattle.std.specs.Prelude.{None, Result}
+use Rattle.std.specs.Prelude.{ℕ, ◌≤◌, ◌≡◌, Bool, true, cond, List, ◌⊎◌, get_or, set, Option, None, Result}
 use Rattle.model.specs.Table.{NODE}
 use Rattle.model.specs.Program.{Program}
 use Rattle.model.specs.State.{Message, State, idle, waiting_at}

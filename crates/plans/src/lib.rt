@@ -1,8 +1,7 @@
 // What one turn of a node comes to, planned from numbers before anything is changed.
 #![tactic(auto)]
 
-ghost use Rattle.std.specs.Prelude.{◌≡◌, ◌⊎◌, not, ◌&&◌, ◌<◌, get_or};
-ghost use Rattle.std.specs.Prelude.{None, Ok, Err};
+ghost use Rattle.std.specs.Prelude.{◌≡◌, ◌⊎◌, not, ◌&&◌, ◌<◌, get_or, None, Ok, Err};
 ghost use Rattle.model.specs.Permission.{permitted};
 ghost use Rattle.model.specs.State.{message_from, idle};
 ghost use Rattle.command.specs.Instructions.{fetched_of};

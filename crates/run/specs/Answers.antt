@@ -1,6 +1,5 @@
--- The code's answers in document 01's numbers, and what an entry point leaves.
-use Rattle.std.specs.Prelude.{ℕ, ◌≡◌, Bool, true, false, List, length}
-use Rattle.std.specs.Prelude.{Result as CodeResult, Ok, Err}
+-- The code's answers in document 01's numbers, and what an entry point leaves. `Result` is the model's here, std's is `CodeResult`.
+use Rattle.std.specs.Prelude.{ℕ, ◌≡◌, Bool, true, false, List, length, Result as CodeResult, Ok, Err}
 use Rattle.model.specs.Output.{Answer as Meant}
 use Rattle.model.specs.Refusal.{Refusal, Sizes, sizes}
 use Rattle.model.specs.Result.{Result, refused, ran, monitored, unmonitored, Buffers, sizes_of, trace_after, snapshot_after, work_after}

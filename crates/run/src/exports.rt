@@ -15,16 +15,10 @@ fn numbers_in(answer: Result<Ending, Refusal>) -> [u64; 8]
     ensures { result ≡ numbers_in (told_by answer) }
 {
     match answer {
-        Err(r) => [
-            u64::from(r.reason.number()),
-            r.place as u64,
-            0,
-            0,
-            0,
-            0,
-            0,
-            0,
-        ],
+        Err(r) => {
+            let number = u64::from(r.reason.number());
+            [number, r.place as u64, 0, 0, 0, 0, 0, 0]
+        }
         Ok(x) => {
             let e = x.attempted();
             [

@@ -1,7 +1,6 @@
 -- Items: what is kept of each ARG, SPAN and REPLY command. Those of a range of arguments and those of a reply differ in what their numbers
 -- mean.
-use Rattle.std.specs.Prelude.{ℕ, Bool, cond, ◌&&◌, ◌||◌, List, [], ◌∷◌, leb, eqb}
-use Rattle.std.specs.Prelude.{Option, None, Some, option_map}
+use Rattle.std.specs.Prelude.{ℕ, Bool, cond, ◌&&◌, ◌||◌, List, [], ◌∷◌, leb, eqb, Option, None, Some, option_map}
 use Rattle.model.specs.Table.{REPLY, SPAN, is_range_byte}
 use Rattle.model.specs.Command.{Command, is}
 

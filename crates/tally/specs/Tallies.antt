@@ -1,6 +1,5 @@
 -- The tally (S-12) made from a job, a number of turns, and any bytes as trace and snapshot ("picture").
-use Rattle.std.specs.Prelude.{ℕ, ◌/◌, min, List, [], ◌∷◌, length}
-use Rattle.std.specs.Prelude.{Result, Ok, Err}
+use Rattle.std.specs.Prelude.{ℕ, ◌/◌, min, List, [], ◌∷◌, length, Result, Ok, Err}
 use Rattle.model.specs.Program.{Program, program_of}
 use Rattle.model.specs.Refusal.{Refusal, Decoded, accepted, rejected}
 use Rattle.model.specs.Result.{written}
@@ -31,18 +30,18 @@ nodes_told (accepted past) = Ok (program_of past).nodes
 nodes_told (rejected r) = Err r
 
 -- what the code's answer tells
-abbrev pub told_by : Result ℕ Refused → Result ℕ Refusal
-told_by (Ok nodes) = Ok nodes
-told_by (Err r) = Err (refusal_of r)
+abbrev pub answered_by : Result ℕ Refused → Result ℕ Refusal
+answered_by (Ok nodes) = Ok nodes
+answered_by (Err r) = Err (refusal_of r)
 
 -- what is told, as three numbers: number and place of a refusal, and how many nodes; 0 where there is none
-abbrev pub numbers_of : Result ℕ Refusal → List ℕ
-numbers_of (Ok nodes) = 0 ∷ 0 ∷ nodes ∷ []
-numbers_of (Err r) = r.number ∷ r.place ∷ 0 ∷ []
+abbrev pub numbers_told : Result ℕ Refusal → List ℕ
+numbers_told (Ok nodes) = 0 ∷ 0 ∷ nodes ∷ []
+numbers_told (Err r) = r.number ∷ r.place ∷ 0 ∷ []
 
 -- the numbers of what is told of a job
 abbrev pub tally_told : Decoded → List ℕ
-tally_told job = numbers_of (nodes_told job)
+tally_told job = numbers_told (nodes_told job)
 
 -- the caller's array afterwards: the counts of the job's nodes at the front, the other numbers unchanged; all of them for a refused job
 abbrev pub tallies_after : Decoded → ℕ → List ℕ → List ℕ → List ℕ → List ℕ

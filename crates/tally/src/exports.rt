@@ -1,14 +1,14 @@
 // The entry point for programs in C and Rust (include/leqsumir.h): what is told as three numbers.
 ghost use Rattle.std.specs.Prelude.{◌≡◌};
 ghost use Rattle.model.specs.Refusal.{decode_job};
-ghost use Rattle.tally.specs.Tallies.{told_by, numbers_of, tally_told, tallies_after};
+ghost use Rattle.tally.specs.Tallies.{answered_by, numbers_told, tally_told, tallies_after};
 
 use crate::{COUNTS, tally};
 use command::refusal::Refusal;
 
 // The numbers of an answer. No `From`: neither the `Result` nor the array is a type of this crate.
-fn numbers_of(answer: Result<u32, Refusal>) -> [u64; 3]
-    ensures { result ≡ numbers_of (told_by answer) }
+fn numbers_told(answer: Result<u32, Refusal>) -> [u64; 3]
+    ensures { result ≡ numbers_told (answered_by answer) }
 {
     match answer {
         Ok(nodes) => [0, 0, u64::from(nodes)],
@@ -29,5 +29,5 @@ pub fn leqsumir_tally(
     ensures counts { counts.new ≡ tallies_after (decode_job job.now) turns
         trace.now snapshot.now counts.old }
 {
-    *answer = numbers_of(tally(job, turns, trace, snapshot, counts));
+    *answer = numbers_told(tally(job, turns, trace, snapshot, counts));
 }

@@ -11,7 +11,7 @@ ghost use Rattle.model.specs.Table.{max_nodes};
 ghost use Rattle.model.specs.Refusal.{decode_job};
 ghost use Rattle.writing.specs.Writing.{Writes, joined};
 ghost use Rattle.tables.specs.Programs.{Handlers, program_in};
-ghost use Rattle.tally.specs.Tallies.{entries_held, tally_in, nodes_told, told_by, tallies_after};
+ghost use Rattle.tally.specs.Tallies.{entries_held, tally_in, nodes_told, answered_by, tallies_after};
 
 use command::bytes;
 use command::refusal::Refusal;
@@ -63,7 +63,7 @@ pub fn tally(
     snapshot: &[u8],
     counts: &mut [u64; COUNTS],
 ) -> Result<u32, Refusal>
-    ensures told { told_by result ≡ nodes_told (decode_job job.now) }
+    ensures told { answered_by result ≡ nodes_told (decode_job job.now) }
     ensures counts { counts.new ≡ tallies_after (decode_job job.now) turns
         trace.now snapshot.now counts.old }
 {

@@ -3,8 +3,7 @@
 
 pub mod ending;
 
-ghost use Rattle.std.specs.Prelude.{◌≡◌, List, ◌*◌, ◌≤◌, length};
-ghost use Rattle.std.specs.Prelude.{None};
+ghost use Rattle.std.specs.Prelude.{◌≡◌, List, ◌*◌, ◌≤◌, length, None};
 ghost use Rattle.model.specs.Table.{NODE, VAR, max_nodes, max_variables};
 ghost use Rattle.model.specs.Command.{Command};
 ghost use Rattle.model.specs.Program.{program_of};

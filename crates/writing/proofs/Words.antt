@@ -29,7 +29,7 @@ numbers-room vs before at count inside fits =
     rw numbers-each (omega (arith, length-numbers (take count vs), length-take-le count vs inside, fits))
 
 -- one number more at the end
-numbers_snoc : (vs : List ℕ) (v : ℕ) → numbers_bytes (vs ++ (v ∷ [])) ≡ numbers_bytes vs ++ bytes4 v
+pub numbers_snoc : (vs : List ℕ) (v : ℕ) → numbers_bytes (vs ++ (v ∷ [])) ≡ numbers_bytes vs ++ bytes4 v
 unfolding numbers_bytes
 numbers_snoc [] v = refl
 numbers_snoc (w ∷ vs) v = ap (λ (l : List ℕ). bytes4 w ++ l) (numbers_snoc vs v)
