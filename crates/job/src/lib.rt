@@ -6,9 +6,7 @@ mod later;
 pub mod schedule;
 mod walk;
 
-ghost use Rattle.std.specs.Prelude.{◌≡◌, length};
 ghost use Rattle.model.specs.Refusal.{decode_job};
-ghost use Rattle.tables.specs.Cells.{cell_count};
 ghost use Rattle.job.specs.Decoding.{Verdicts, Decides};
 
 use command::refusal::Refusal;

@@ -5,7 +5,6 @@ ghost use Rattle.model.specs.Refusal.{decode};
 ghost use Rattle.model.specs.Valid.{Valid};
 ghost use Rattle.command.specs.Reading.{command_of, Known};
 ghost use Rattle.tables.specs.Stands.{Stands};
-ghost use Rattle.tables.specs.Cells.{cell_count};
 ghost use Rattle.uses.specs.Uses.{Uses};
 ghost use Rattle.job.specs.Decoding.{Continues, Walks};
 

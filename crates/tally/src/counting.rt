@@ -1,5 +1,5 @@
 // What the entries of a trace count: for each node the entries that reach it, and its takings.
-ghost use Rattle.std.specs.Prelude.{◌≡◌, ℕ, ◌+◌, ◌*◌, ◌^◌, ◌≤◌, ◌<◌, length, get_or};
+ghost use Rattle.std.specs.Prelude.{ℕ, ◌+◌, ◌*◌, ◌^◌, ◌≤◌, ◌<◌, length, get_or};
 ghost use Rattle.model.specs.Table.{max_nodes};
 ghost use Rattle.model.specs.Tally.{reaches, takes, received, taken};
 ghost use Rattle.tables.specs.Bits.{bit_of};
