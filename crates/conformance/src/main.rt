@@ -34,7 +34,8 @@ fn put_verdict(text: &mut [u8], at: usize, keeps: bool) -> usize
 }
 
 // Fills the buffers, runs a job with them, changes a byte if the head asks for it, puts the run's lines and the line that says whether the
-// buffers were kept, and answers the place after them.
+// buffers were kept, and answers the place after them. Trace, snapshot and work buffer are lent one by one, here and in `buffers`, as
+// `run_to_text` takes them.
 fn conform(
     head: Head,
     job: &[u8],

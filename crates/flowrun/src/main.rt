@@ -9,6 +9,7 @@ ghost use Rattle.run.specs.Answers.{handed_for};
 ghost use Rattle.flowrun.specs.Numbers.{number_as};
 ghost use Rattle.printing.specs.Printing.{lines_by, text_size};
 
+use job::buffers::{SNAPSHOT, WORK};
 use job::schedule::Schedule;
 use printing::{TEXT, run_to_text};
 use std::env::{Env, FillError};
@@ -18,12 +19,8 @@ use std::io::{Eprint, Print, Read};
 // The bytes that are read at most: one more than a job may have, so that a longer one is refused for its length.
 const JOB: usize = 16385;
 
-// The bytes of the trace, snapshot (01's "picture") and work buffers: 7 for each of 4,096 turns, and what every run asks for.
+// The bytes of the trace buffer: 7 for each of 4,096 turns.
 const TRACE: usize = 28672;
-
-const SNAPSHOT: usize = 3136;
-
-const WORK: usize = 4096;
 
 // What the program is started for: a run, its turns given in this way, monitored or not.
 #[derive(Clone, Copy)]
@@ -40,7 +37,8 @@ const DISPATCH: &[u8] = b"dispatch";
 // The digits that a budget may have at most.
 const DIGITS: usize = 9;
 
-// The number that the digits of a word are; none if there are no digits, too many, or another byte among them.
+// The number that the digits of a word are; none if there are no digits, too many, or another byte among them. This is no `parse`, which
+// takes a `+` before the digits, and a word's bytes only as a `str`: with both seen to before, it would be no plainer.
 fn number_in(word: &[u8]) -> Option<u64>
     ensures { result ≡ number_as word.now }
 {
@@ -132,7 +130,7 @@ fn put_lines(text: &mut [u8], job: &[u8], order: Order) -> usize
     let mut trace = [0u8; TRACE];
     let mut snapshot = [0u8; SNAPSHOT];
     let mut work = [0u8; WORK];
-    let printed = run_to_text(
+    run_to_text(
         text,
         0,
         job,
@@ -141,11 +139,8 @@ fn put_lines(text: &mut [u8], job: &[u8], order: Order) -> usize
         &mut snapshot,
         &mut work,
         order.monitored,
-    );
-    match printed {
-        Some(printed) => printed.end,
-        None => 0,
-    }
+    )
+    .map_or(0, |printed| printed.end)
 }
 
 // Says on standard error why there are no lines. Where even that cannot be written, nothing is left to say.

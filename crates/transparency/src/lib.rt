@@ -16,7 +16,7 @@ pub struct Both {
     pub unmonitored: Result<Ending, Refusal>,
 }
 
-// The monitored run, and the unmonitored one.
+// The monitored run, and the unmonitored one. Their buffers are lent one by one, as the entry points take them.
 pub fn run_both(
     job: &[u8],
     trace: &mut [u8],
