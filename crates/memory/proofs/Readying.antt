@@ -82,6 +82,13 @@ module _ {all : ℕ} {position waiting : List ℕ} {k targets count : ℕ} (s : 
 ready-busy : (position waiting : List ℕ) (n : ℕ) → ¬ (get_or position n 0 ≡ idle) → ready_in position waiting n ≡ true
 ready-busy position waiting n h = rw (ne_eqb (get_or position n 0) idle h)
 
+ready-waits : (position waiting : List ℕ) (n : ℕ) → ¬ (get_or waiting n 0 ≡ 0) → ready_in position waiting n ≡ true
+ready-waits position waiting n h = by_position (eqb (get_or position n 0) idle)
+  where
+    by_position : (b : Bool) → not (b && eqb (get_or waiting n 0) 0) ≡ true
+    by_position true = rw (ne_eqb (get_or waiting n 0) 0 h)
+    by_position false = refl
+
 ready-idle : (position waiting : List ℕ) (n : ℕ) → get_or position n 0 ≡ idle → ready_in position waiting n ≡ not (eqb (get_or waiting n 0) 0)
 ready-idle position waiting n h = rw (eq-eqb (get_or position n 0) idle h)
 
@@ -200,6 +207,10 @@ module _ (t : List ℕ) (n : ℕ) (position waiting : List ℕ) (ready : ℕ) (c
     -- the counts of waiting messages without one of node n
     one_less : (m : ℕ) → ¬ (m ≡ n) → get_or (set waiting n (get_or waiting n 0 - 1)) m 0 ≡ get_or waiting m 0
     one_less m other = get_or-set_other waiting n m (get_or waiting n 0 - 1) 0 other
+
+    -- an idle node takes a message: it was ready and is
+    pub ready-begun : ¬ (get_or waiting n 0 ≡ 0) → ready ≡ ready_count_in (moved p) (set waiting n (get_or waiting n 0 - 1)) nodes
+    ready-begun some = same-others (ready-waits position waiting n some) (set waiting n (get_or waiting n 0 - 1)) one_less
 
   -- a node that was not idle and is not: it was ready and is, and its change wakes nodes
   module _ (p : ℕ) (busy : ¬ (get_or position n 0 ≡ idle)) (goes : ¬ (p ≡ idle)) where
