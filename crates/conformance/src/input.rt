@@ -43,10 +43,24 @@ fn schedule_of(flags: u8, budget: u16) -> Schedule {
     }
 }
 
+// Fills a buffer; none if the input ends before it is full, or a read fails. This is no `read_exact`, which tries an interrupted read again:
+// here the runs are over at one.
+fn read_full(reader: &mut impl Read, buffer: &mut [u8]) -> Option<()> {
+    let mut size: usize = 0;
+    while size < buffer.len() {
+        let count = reader.read(&mut buffer[size..]).ok()?;
+        if count == 0 {
+            return None;
+        }
+        size += count;
+    }
+    Some(())
+}
+
 // Reads a head; at the end of the input, be it inside a head, there is none.
 fn read_head(reader: &mut impl Read) -> Option<Head> {
     let mut head = [0u8; 12];
-    reader.read_exact(&mut head).ok()?;
+    read_full(reader, &mut head)?;
     Some(Head {
         schedule: schedule_of(head[0], pair(head[10], head[11])),
         monitored: head[0] % 2 == 0,
@@ -79,6 +93,6 @@ pub fn read_run(reader: &mut impl Read, job: &mut [u8]) -> Option<Head>
     if !is_short(head) {
         return None;
     }
-    reader.read_exact(&mut job[..head.job]).ok()?;
+    read_full(reader, &mut job[..head.job])?;
     Some(head)
 }
