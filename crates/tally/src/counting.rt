@@ -22,9 +22,7 @@ fn add_targets(counts: &mut [u64; 32], targets: u32)
         if ahead == 0 {
             break;
         }
-        if ahead % 2 == 1 {
-            counts[target] += 1;
-        }
+        counts[target] += u64::from(ahead % 2);
         ahead /= 2;
     }
 }
