@@ -67,7 +67,9 @@ fn argument_count(arguments: &impl Env) -> usize {
 }
 
 // Copies an argument to the front of a room, and answers it; the empty word if it is missing or longer than the room.
-fn argument<'a>(arguments: &impl Env, at: usize, room: &'a mut [u8]) -> &'a [u8] {
+fn argument<'a>(arguments: &impl Env, at: usize, room: &'a mut [u8]) -> &'a [u8]
+    ensures { length result.now ≤ length room.old }
+{
     let size = arguments.arg(at, room).unwrap_or(0);
     &room[..size]
 }

@@ -4,7 +4,9 @@ use Rattle.text.specs.Text.{decimal, line}
 use Rattle.writing.specs.Writing.{joined}
 use Rattle.model.specs.Command.{number_at}
 use Rattle.model.specs.Output.{Answer}
+use Rattle.output.specs.Written.{entry_with}
 use Rattle.output.specs.Finding.{entry_from, waiting_in, part_at}
+use Rattle.lines.specs.declared.answer.AnswerNumbers.{AnswerNumbers}
 
 -- the words `end`, `node`, `var`, `tally`, `refused` and `examined`
 abbrev pub end_word : List ℕ
@@ -30,6 +32,10 @@ unfoldable pub entry_line : List ℕ → ℕ → List ℕ
 entry_line trace k =
     let e = entry_from trace k in
     line (decimal e.node) (e.kind ∷ e.number ∷ e.value ∷ [])
+
+-- the answer with these numbers
+abbrev pub answer_with : AnswerNumbers → Answer
+answer_with x = record { stop = x.stop; turns = x.turns; attempted = entry_with x.attempted }
 
 -- `end`, stop, turns, attempted entry
 unfoldable pub end_line : Answer → List ℕ

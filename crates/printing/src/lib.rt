@@ -18,6 +18,7 @@ use command::refusal::Refusal;
 use declared::count_of;
 use job::decode;
 use job::schedule::Schedule;
+use lines::answer::AnswerNumbers;
 use lines::tallies::put_tally_lines;
 use lines::{put_examined, put_refusal, put_run};
 use run::run;
@@ -79,7 +80,8 @@ fn put_ended(
     let nodes = count_of(&tables, bytes::NODE) as usize;
     let variables = count_of(&tables, bytes::VAR) as usize;
     let turns = u64::from(ending.turns);
-    let next = put_run(text, at, ending, trace, snapshot, nodes, variables);
+    let answer = AnswerNumbers::from(ending);
+    let next = put_run(text, at, answer, trace, snapshot, nodes, variables);
     put_tallies(text, next, &tables, turns, trace, snapshot, nodes)
 }
 
@@ -141,7 +143,8 @@ pub fn run_to_text(
     let answer = handed.answer;
     match answer {
         Err(refusal) => {
-            let end = put_refusal(text, at, refusal);
+            let number = refusal.reason.number();
+            let end = put_refusal(text, at, number, refusal.place);
             Some(Printed { end, answer })
         }
         Ok(ending) => {

@@ -3,8 +3,8 @@ use Rattle.lines.proofs.put_end.Goals as goal
 
 pub put_line-requires : goal.put_line-requires
 unfolding end_line
-put_line-requires c = rw (← c.stop.ensures, ← c.attempted-x.ensures) at c.requires
+put_line-requires c = c.requires
 
 pub returns : goal.returns
 unfolding end_line
-returns c = rw (← c.stop.ensures, ← c.attempted-x.ensures) c.put_line.ensures
+returns c = c.put_line.ensures

@@ -3,8 +3,8 @@ use Rattle.lines.proofs.put_refusal.Goals as goal
 
 pub put_line-requires : goal.put_line-requires
 unfolding refused_line
-put_line-requires c = rw c.number.ensures c.requires
+put_line-requires c = c.requires
 
 pub returns : goal.returns
 unfolding refused_line
-returns c = rw c.number.ensures at c.put_line.ensures
+returns c = c.put_line.ensures

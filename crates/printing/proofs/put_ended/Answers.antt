@@ -1,7 +1,8 @@
-use mathlib.Core.Path.{refl, ◌∙◌}
+use mathlib.Core.Path.{refl, ap, ◌∙◌}
 use mathlib.Core.List.{[]}
 use native.Mathlib.Omega.{arith}
 use Rattle.model.specs.Table.{NODE, VAR}
+use Rattle.model.specs.Output.{Answer}
 use Rattle.turns.specs.Endings.{answer_of}
 use Rattle.lines.specs.Lines.{run_lines}
 use Rattle.printing.specs.Printing.{nodes_in, variables_in}
@@ -18,16 +19,16 @@ put_run-next-requires c = let stands = stands_of _ _ _ c.decode.ensures c.requir
     let lines = run_lines x c.args.trace.now c.args.snapshot.now (nodes_in c.args.job.now) (variables_in c.args.job.now) in
     let fits = front-room lines _ c.args.text.now c.args.at c.requires.snapshot_in_bounds in
     record {
-      turns_in_bounds = c.requires.turns_in_bounds;
+      turns_in_bounds = rw (ap (λ (a : Answer). a.turns) c.from-answer.ensures) c.requires.turns_in_bounds;
       variables_in_bounds = rw (nodes, variables) c.requires.job_in_bounds;
-      variables_in_bounds_2 = rw (nodes, variables) fits;
+      variables_in_bounds_2 = rw (nodes, variables, c.from-answer.ensures) fits;
     }
 
 pub put_tallies-requires : goal.put_tallies-requires
 put_tallies-requires c = let stands = stands_of _ _ _ c.decode.ensures c.requires.accepted in
     let nodes = c.count_of-nodes.ensures ∙ stands.counts NODE (omega arith) in
     let variables = c.count_of-variables.ensures ∙ stands.counts VAR (omega arith) in
-    let run = rw (nodes, variables) at c.put_run-next.ensures in
+    let run = rw (nodes, variables, c.from-answer.ensures) at c.put_run-next.ensures in
     record {
       nodes_le_max_nodes = rw nodes (few_of c.args.job.now _ refl c.requires.accepted);
       nodes_in_bounds = λ hs.
@@ -39,7 +40,7 @@ pub returns : goal.returns
 returns c = let stands = stands_of _ _ _ c.decode.ensures c.requires.accepted in
     let nodes = c.count_of-nodes.ensures ∙ stands.counts NODE (omega arith) in
     let variables = c.count_of-variables.ensures ∙ stands.counts VAR (omega arith) in
-    let run = rw (nodes, variables) at c.put_run-next.ensures in
+    let run = rw (nodes, variables, c.from-answer.ensures) at c.put_run-next.ensures in
     let tallies = rw (nodes, c.from-turns.ensures, tabled_tallies _ _ stands (λ n. []) c.args.ending.turns c.args.trace.now c.args.snapshot.now _) at
     (c.put_tallies.ensures (λ n. [])) in
     two_put _ _ _ _ c.requires.snapshot_in_bounds _ _ run _ _ tallies

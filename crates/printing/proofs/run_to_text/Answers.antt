@@ -9,7 +9,7 @@ use Rattle.std.proofs.Common.{Ok, Err}
 use Rattle.turns.specs.Endings.{answer_of}
 use Rattle.model.specs.Result.{Buffers, sizes_of}
 use Rattle.model.specs.DispatchResult.{Handed}
-use Rattle.command.specs.Refusals.{number_of, refusal_of}
+use Rattle.command.specs.Refusals.{refusal_of}
 use Rattle.run.specs.Answers.{buffers, handed_for, Delivers}
 use Rattle.writing.proofs.Placing.{writes-on}
 use Rattle.run.proofs.Delivering.{delivers_by}
@@ -51,7 +51,7 @@ put_refusal-end-requires c =
     omega (
       arith,
       large _ _ (sym c.has_room.ensures ∙ c.if-not-has_room.false),
-      refused-short (number_of c.in-Err.refusal.reason) c.in-Err.refusal.place,
+      refused-short c.number-number.result c.in-Err.refusal.place,
     )
 
 pub put_ended-next-requires : goal.put_ended-next-requires
@@ -82,12 +82,12 @@ returns-in-Err c = let before = buffers c.args.trace.now c.args.snapshot.now c.a
     let h = handed_for c.args.schedule c.args.monitored c.args.job.now (sizes_of before) in
     let d = delivers_by h.result before (buffers _ _ _) c.run-handed.result.answer c.run-handed.ensures.told c.run-handed.ensures.trace c.run-handed.ensures.snapshot c.run-handed.ensures.work in
     let same = refused-same c.args.schedule c.args.job.now h (refusal_of c.in-Err.refusal) (refused-result _ _ _ _ _ d c.in-Err.is) in
-    let puts = rw same at c.put_refusal-end.ensures in
+    let puts = rw (c.number-number.ensures, same) at c.put_refusal-end.ensures in
     let run = rw c.in-Err.is at d in
     let puts_all = put_as _ c.args.schedule c.args.job.now _ _ _ _ h before _ (Err c.in-Err.refusal)
     (sym c.has_room.ensures ∙ c.if-not-has_room.false) puts run in
     record {
-      end = omega (arith, c.put_refusal-end.ensures.place, refused-short (number_of c.in-Err.refusal.reason) c.in-Err.refusal.place);
+      end = omega (arith, c.put_refusal-end.ensures.place, refused-short c.number-number.result c.in-Err.refusal.place);
       answer = puts_all.0;
       text = puts_all.1.0;
       trace = puts_all.1.1.0;
