@@ -5,6 +5,7 @@ use mathlib.Core.Bool.{true}
 use mathlib.Core.List.{List, [], ◌∷◌}
 use native.Mathlib.Omega.{arith}
 use lib.ListN.{length, drop, length-append}
+use Rattle.std.proofs.Common.{Ok}
 use Rattle.model.specs.Command.{Command}
 use Rattle.model.specs.Program.{program_of}
 use Rattle.model.specs.Turn.{Entry}
@@ -97,6 +98,7 @@ module _ (schedule : Schedule) (job job' : List ℕ) (x at : ℕ) (S : Secret jo
                 (written_same _ _ _ before.snapshot a.snapshot);
             tally_tells =
                 rw (decoded_by schedule job b past e, decoded_by schedule job' b past' e') (ap (λ (n : ℕ). 0 ∷ 0 ∷ n ∷ []) a.nodes);
+            tally_answers = rw (decoded_by schedule job b past e, decoded_by schedule job' b past' e') (ap Ok a.nodes);
             tally_counts = λ counts.
                 rw (left.trace, left.snapshot, left'.trace, left'.snapshot)
                 ((tally_calls_hold schedule true job before past e).counts counts

@@ -13,7 +13,7 @@ use Rattle.job.specs.Scheduling.{decode_by}
 use Rattle.turns.specs.Runs.{run_of}
 use Rattle.run.specs.Answers.{told_in, handed_for, BuffersAfter}
 use Rattle.run.specs.Exported.{numbers_in, numbers_with}
-use Rattle.tally.specs.Tallies.{tally_told, tallies_after}
+use Rattle.tally.specs.Tallies.{nodes_told, tally_told, tallies_after}
 use Rattle.transparency.specs.Dispatched.{DispatchCall, Hands}
 
 -- what the runs r and r' of two accepted jobs, each of its program, left in these buffers is alike but for variable x
@@ -21,8 +21,9 @@ pub record RunsLeaveAlike (x : ℕ) (job job' : List ℕ) (P P' : Program) (r r'
   -- the snapshot buffers ("picture buffers") hold the same but for the four bytes of variable x, which stand at the same place of both
   pub place : variable_place P r.final x ≡ variable_place P' r'.final x
   pub snapshot : SameBut (variable_place P r.final x) after.snapshot after'.snapshot
-  -- a tally of what each left tells and counts the same
+  -- a tally of what each left tells and counts the same: the exported one by its numbers, tally::tally by its answer
   pub tally_tells : tally_told (decode_job job) ≡ tally_told (decode_job job')
+  pub tally_answers : nodes_told (decode_job job) ≡ nodes_told (decode_job job')
   pub tally_counts :
       (before : List ℕ)
       → tallies_after (decode_job job) (length r.steps) after.trace after.snapshot before
