@@ -39,10 +39,11 @@ fn numbers_in(answer: Result<Ending, Refusal>) -> [u64; 8]
 fn numbers_with(handed: Handed) -> [u64; 9]
     ensures { result ≡ numbers_with (told_by handed.answer) handed.examined }
 {
-    let mut numbers = [0; 9];
-    numbers[..8].copy_from_slice(&numbers_in(handed.answer));
-    numbers[8] = u64::from(handed.examined);
-    numbers
+    let [refusal, place, stop, turns, node, kind, number, value] = numbers_in(handed.answer);
+    let examined = u64::from(handed.examined);
+    [
+        refusal, place, stop, turns, node, kind, number, value, examined,
+    ]
 }
 
 // The monitored run (01's "watched").
