@@ -4,10 +4,14 @@ use mathlib.Core.Path.{◌≡◌, refl, sym, ap, ◌∙◌}
 use mathlib.Core.Bool.{Bool, true, false}
 use mathlib.Core.List.{List}
 use native.Mathlib.Omega.{arith}
+use lib.Count.{count_leading_zeros}
 use lib.Dec.{eqb}
 use lib.ListN.{length, get_or, set, length-set}
 use lib.Seq.{get_or-set_same, get_or-set_other}
 use borrow.Author.Tests.{eqb-true, eqb-false, ne_eqb}
+use Rattle.std.proofs.Math.Nat.{div-eq_of_lt}
+use Rattle.std.proofs.Math.Pow.{pow_mono}
+use Rattle.std.proofs.lemmas.Nat.{leading_length}
 use Rattle.model.specs.Table.{max_nodes}
 use Rattle.model.specs.Command.{number_at}
 use Rattle.model.specs.Turn.{Entry}
@@ -18,23 +22,25 @@ use Rattle.tables.specs.Tables.{wired_in}
 use Rattle.tables.specs.Programs.{Handlers, program_in}
 use Rattle.tables.specs.Bits.{bit_of}
 use Rattle.memory.specs.Queues.{counted}
-use Rattle.memory.proofs.Sending.{Ahead, ahead_none, counted-all}
+use Rattle.memory.proofs.Sending.{counted-all}
 use Rattle.memory.proofs.Readying.{length-counted, counted-at}
 use Rattle.output.specs.Finding.{entry_from}
 use Rattle.tally.specs.Counted.{Adds, Numbered}
 
--- behind all 32 bits nothing is ahead
-pub ahead_over : {all k ahead : ℕ} → Ahead all k ahead → 32 ≤ k → ahead ≡ 0
-ahead_over {k = k} {ahead = ahead} a h =
-    let e : 32 - k ≡ 0 = omega arith in
-    let none : ahead < 2 ^ 0 = rw e at a.small in
-    omega (arith, none)
+-- above its highest bit, where its leading zeros end, a number has no bit
+pub none_above : (all : ℕ) → all < 2 ^ 32 → (i : ℕ) → 32 - count_leading_zeros 32 all ≤ i → bit_of all i ≡ false
+unfolding bit_of
+none_above all small i h =
+    let l = leading_length 32 all small in
+    let long : l.0 ≤ i = omega (arith, h, l.1) in
+    let below : all < 2 ^ i = omega (arith, l.2, pow_mono long) in
+    rw (div-eq_of_lt below) refl
 
 -- all targets are counted
-pub adds_targets : (all k ahead : ℕ) (before after : List ℕ) → length before ≡ max_nodes → Ahead all k ahead → ahead ≡ 0
+pub adds_targets : (all k : ℕ) (before after : List ℕ) → length before ≡ max_nodes → k ≤ 32 → ((i : ℕ) → k ≤ i → bit_of all i ≡ false)
     → after ≡ counted (bit_of all) before k → Adds (bit_of all) before after
-adds_targets all k ahead before after size a none same =
-    let whole = same ∙ counted-all (bit_of all) before all k (λ i h. refl) a.inside (ahead_none a none) in
+adds_targets all k before after size inside none same =
+    let whole = same ∙ counted-all (bit_of all) before all k (λ i h. refl) inside none in
     record {
       size = ap length whole ∙ length-counted (bit_of all) before 32 ∙ size;
       each = λ n h. ap (λ (l : List ℕ). get_or l n 0) whole ∙ counted-at (bit_of all) before 32 n h (omega arith);

@@ -11,17 +11,15 @@ use command::numbers::NodeNum;
 use command::read::operand;
 use declared::targets_of;
 
-// Adds one for each target, of those that are the bits of a number. That no count is near its end stays a clause, here and below: the caller
-// has the array, and counts from 0.
+// Adds one for each target, of those that are the bits of a number, up to its highest. That no count is near its end stays a clause, here and
+// below: the caller has the array, and counts from 0.
 fn add_targets(counts: &mut [u64; 32], targets: u32)
     requires by_index { (n : ℕ) → n < max_nodes → get_or counts.old n 0 < 2 ^ 63 }
     ensures { Adds (bit_of targets) counts.old counts.new }
 {
+    let end = 32 - targets.leading_zeros();
     let mut ahead = targets;
-    for target in 0..32 {
-        if ahead == 0 {
-            break;
-        }
+    for target in 0..end as usize {
         counts[target] += u64::from(ahead % 2);
         ahead /= 2;
     }

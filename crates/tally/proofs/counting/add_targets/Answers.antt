@@ -12,7 +12,7 @@ use Rattle.tables.specs.Bits.{bit_of}
 use Rattle.memory.specs.Queues.{counted}
 use Rattle.memory.proofs.Sending.{Ahead, ahead-first, ahead-one, ahead-other, ahead-next, counted_target, counted-other}
 use Rattle.memory.proofs.Sending.{counted-later}
-use Rattle.tally.proofs.Adding.{ahead_over, adds_targets}
+use Rattle.tally.proofs.Adding.{none_above, adds_targets}
 use Rattle.tally.proofs.counting.add_targets.Goals as goal
 use Rattle.tally.proofs.counting.add_targets.Goals.{In-loop-target}
 
@@ -28,7 +28,7 @@ loop-target-init c = (ahead-first c.args.targets (search rules), refl)
 
 pub overflow_add-counts : goal.overflow_add-counts
 overflow_add-counts c = let same = count-before (goal.at.overflow_add-counts c).In-loop-target in
-    omega (arith, same, c.requires.by_index c.loop-target.target c.loop-target-test.true)
+    omega (arith, same, c.requires.by_index c.loop-target.target (omega (arith, c.loop-target-test.true)))
 
 -- what one step adds: one for a target, nothing for another node
 adds-bit :
@@ -48,17 +48,12 @@ adds-bit all ws counts k targets x a e same here = by_bit (eqb (targets % 2) 1) 
 
 pub loop-target-preserved : goal.loop-target-preserved
 loop-target-preserved c = (
-  ahead-next c.loop-target.invariant.0 c.loop-target-test.true,
+  ahead-next c.loop-target.invariant.0 (omega (arith, c.loop-target-test.true)),
   adds-bit c.args.targets c.args.counts.now c.loop-target.counts c.loop-target.target c.loop-target.ahead _ c.loop-target.invariant.0
       c.from.ensures c.loop-target.invariant.1 (count-before (goal.at.loop-target-preserved c).In-loop-target),
 )
 
-pub returns-after-loop-target : goal.returns-after-loop-target
-returns-after-loop-target c = let long : length c.args.counts.now ≡ 32 = search rules in
-    adds_targets c.args.targets c.loop-target.target c.loop-target.ahead c.args.counts.now c.loop-target.counts long c.loop-target.invariant.0
-    (ahead_over c.loop-target.invariant.0 (omega (arith, c.loop-target-test.false))) c.loop-target.invariant.1
-
-pub returns-then-ahead-eq0 : goal.returns-then-ahead-eq0
-returns-then-ahead-eq0 c = let long : length c.args.counts.now ≡ 32 = search rules in
-    adds_targets c.args.targets c.loop-target.target c.loop-target.ahead c.args.counts.now c.loop-target.counts long c.loop-target.invariant.0
-    c.if-ahead-eq0.true c.loop-target.invariant.1
+pub returns : goal.returns
+returns c = let long : length c.args.counts.now ≡ 32 = search rules in
+    adds_targets c.args.targets c.loop-target.target c.args.counts.now c.loop-target.counts long c.loop-target.invariant.0.inside
+    (λ i h. none_above c.args.targets (search rules) i (omega (arith, h, c.loop-target-test.false))) c.loop-target.invariant.1
