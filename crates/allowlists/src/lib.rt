@@ -2,7 +2,7 @@
 #![tactic(auto)]
 
 ghost use Rattle.std.specs.Prelude.{◌≡◌};
-ghost use Rattle.tables.specs.Tables.{read_in, write_in, any_in, listed_in, call_in};
+ghost use Rattle.tables.specs.Tables.{read_in, write_in, any_in, listed_in, in_range_in, call_in};
 
 use command::numbers::{FunNum, NodeNum, VarNum};
 use declared::last_range;
@@ -35,17 +35,21 @@ pub fn may_call_any(tables: &[u32], n: NodeNum, f: FunNum) -> bool
 pub fn is_listed(tables: &[u32], byte: u8, n: NodeNum, f: FunNum, low: u32, high: u32) -> bool
     ensures { result ≡ listed_in tables.now byte n.0 f.0 low high }
 {
-    let question = Question::Is(byte as u32, low, high);
+    let question = Question::Is(u32::from(byte), low, high);
     find(tables, last_range(tables, n, f) as usize, question).is_some()
+}
+
+// Whether a range of a node and a function holds an argument.
+fn is_in_range(tables: &[u32], n: NodeNum, f: FunNum, argument: u32) -> bool
+    ensures { result ≡ in_range_in tables.now n.0 f.0 argument }
+{
+    let last = last_range(tables, n, f) as usize;
+    find(tables, last, Question::Holds(argument)).is_some()
 }
 
 // Whether a node may call a function with this argument.
 pub fn may_call(tables: &[u32], n: NodeNum, f: FunNum, argument: u32) -> bool
     ensures { result ≡ call_in tables.now n.0 f.0 argument }
 {
-    if may_call_any(tables, n, f) {
-        return true;
-    }
-    let last = last_range(tables, n, f) as usize;
-    find(tables, last, Question::Holds(argument)).is_some()
+    may_call_any(tables, n, f) || is_in_range(tables, n, f, argument)
 }

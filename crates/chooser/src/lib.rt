@@ -1,4 +1,5 @@
-// The dispatcher's choice (S-2): the first ready node, going round by number.
+// The dispatcher's choice (S-2): the first ready node, going round by number. Positions, counts and ready count are lent one by one: they are
+// fields of the state, which lies above.
 #![tactic(auto)]
 
 ghost use Rattle.std.specs.Prelude.{◌≡◌, ◌≤◌};

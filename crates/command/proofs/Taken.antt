@@ -98,12 +98,6 @@ module _ (job : List ℕ) (place : ℕ) where
         → Some (record { byte = get_or job place 0; group = s.group; first = x; next = next }) ≡ head_in (read_command job place)
     read_first x p = rw (read_all x _ p refl, shape.group)
 
--- there is no head where a command is refused
-pub head_none : (place : ℕ) (r : ParsedAs) (q : RefusedFor) → refusal_at place r ≡ Some q → None ≡ head_in r
-head_none place unknown q e = refl
-head_none place cut_short q e = refl
-head_none place (whole c next) q e = let w : ◌≡◌ {A = ℕ} 0 1 = cc in absurd (omega arith)
-
 -- what a head says of the command that is read there
 pub record HeadAt (job : List ℕ) (place : ℕ) (head : Head) : Type 0 where
   pub command : Command

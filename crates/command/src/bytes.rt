@@ -53,7 +53,7 @@ pub const START: u8 = 0x50;
 
 pub const TURN: u8 = 0x60;
 
-// The group of the permissions.
+// The group of the permissions. Groups are numbers and no enum: test 4 asks which of two is lower.
 pub const PERMISSION_GROUP: u8 = 3;
 
 // The group of BODY and the handler commands; no later group has a command of a handler.
@@ -63,5 +63,5 @@ pub const HANDLER_GROUP: u8 = 4;
 pub fn is_handler(byte: u8) -> bool
     ensures { result ≡ is_handler_byte byte }
 {
-    (SET <= byte) & (byte <= SKIP)
+    (SET..=SKIP).contains(&byte)
 }

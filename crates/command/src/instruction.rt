@@ -45,10 +45,9 @@ pub fn instruction_of(byte: u8, x: u32) -> Instruction
 pub fn read_instruction(job: &[u8], at: usize) -> Instruction
     ensures { instruction_of result ≡ instruction_from job.now at }
 {
-    if job.len() <= at {
+    let Some(&byte) = job.get(at) else {
         return Instruction::Skip;
-    }
-    let byte = job[at];
+    };
     if !bytes::is_handler(byte) {
         return Instruction::Skip;
     }

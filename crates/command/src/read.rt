@@ -150,9 +150,7 @@ pub fn read_head(job: &[u8], at: usize) -> Option<Head>
     ensures { result ≡ head_in (read_command job.now at) }
 {
     let byte = job[at];
-    let Ok(extent) = extent_of(job, at, look_up(byte)) else {
-        return None;
-    };
+    let extent = extent_of(job, at, look_up(byte)).ok()?;
     let shape = unpack(extent.row);
     let first = operand(job, at + 1, shape.first_width);
     Some(Head {

@@ -6,6 +6,7 @@ ghost use Rattle.std.specs.Prelude.{◌≡◌, ℕ, ◌<◌, is_some, option_to_
 ghost use Rattle.model.specs.Table.{max_nodes};
 ghost use Rattle.model.specs.Declared.{is_seen};
 ghost use Rattle.tables.specs.Bits.{bit_of};
+ghost use Rattle.declared.specs.Scopes.{scope_of};
 ghost use Rattle.tables.specs.Tables.{count_in, group_in, open_in, flow_in, start_in, shared_in, sees_in, length_in, body_in, started_at};
 ghost use Rattle.tables.specs.Tables.{firsts_in, wired_in, last_range_in, last_reply_in, reply_in, answer_in};
 
@@ -14,11 +15,31 @@ use items::{Question, find};
 use tables::cells;
 use tables::cells::{entry, flagged, half, marked, marks_of};
 
+// Where a variable belongs, by the numbers of 01: to one node, to one flow, or to the whole job.
+#[derive(Clone, Copy)]
+pub enum Scope {
+    Node,
+    Flow,
+    Global,
+}
+
+impl From<u32> for Scope {
+    ghost from_gives = { λ number scope. scope ≡ scope_of number };
+
+    fn from(number: u32) -> Scope {
+        match number {
+            0 => Scope::Node,
+            1 => Scope::Flow,
+            _ => Scope::Global,
+        }
+    }
+}
+
 // How many commands have this byte.
 pub fn count_of(tables: &[u32], byte: u8) -> u32
     ensures { result ≡ count_in tables.now byte }
 {
-    entry(tables, cells::COUNTS, byte as usize)
+    entry(tables, cells::COUNTS, usize::from(byte))
 }
 
 // The highest group so far.
@@ -79,10 +100,7 @@ pub fn has_reply(tables: &[u32], f: FunNum, argument: u32) -> bool
 pub fn answer_of(tables: &[u32], f: FunNum, argument: u32) -> u32
     ensures { result ≡ answer_in tables.now f.0 argument }
 {
-    match reply_to(tables, f, argument) {
-        Some(answer) => answer,
-        None => entry(tables, cells::ANSWER, f.0 as usize),
-    }
+    reply_to(tables, f, argument).unwrap_or_else(|| entry(tables, cells::ANSWER, f.0 as usize))
 }
 
 // Whether a variable is shared.
@@ -90,17 +108,17 @@ pub fn is_shared(tables: &[u32], x: VarNum) -> bool
     ensures { result ≡ shared_in tables.now x.0 }
 {
     let scope = entry(tables, cells::SCOPE, x.0 as usize);
-    scope != 0
+    !matches!(Scope::from(scope), Scope::Node)
 }
 
 // Whether a variable of this scope and owner is seen by a node of this flow.
 fn is_seen(scope: u32, owner: u32, n: NodeNum, f: FlowNum) -> bool
     ensures { result ≡ is_seen scope owner n.0 f.0 }
 {
-    match scope {
-        0 => owner == n.0,
-        1 => owner == f.0,
-        _ => true,
+    match Scope::from(scope) {
+        Scope::Node => owner == n.0,
+        Scope::Flow => owner == f.0,
+        Scope::Global => true,
     }
 }
 
@@ -141,10 +159,7 @@ pub fn first_message(tables: &[u32], n: NodeNum) -> Option<u32>
     ensures { option_to_list result ≡ firsts_in tables.now n.0 }
 {
     let i = n.0 as usize;
-    if flagged(tables, cells::FIRST, i) {
-        return Some(entry(tables, cells::MESSAGE, i));
-    }
-    None
+    flagged(tables, cells::FIRST, i).then(|| entry(tables, cells::MESSAGE, i))
 }
 
 // Whether a port is wired to a target.
@@ -152,8 +167,7 @@ pub fn is_wired(tables: &[u32], n: NodeNum, port: u32, target: NodeNum) -> bool
     ensures { result ≡ wired_in tables.now n.0 port target.0 }
 {
     let row = (n.0 as usize) * 4 + (port as usize);
-    let wire = marked(tables, cells::WIRES, row, target.0 as usize);
-    (port < 4) & wire
+    port < 4 && marked(tables, cells::WIRES, row, target.0 as usize)
 }
 
 // The targets of a port, as the bits of a number: bit k is 1 if the port is wired to node k.

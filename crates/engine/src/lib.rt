@@ -22,8 +22,10 @@ use plans::plan_turn;
 
 // The state of a run: of each node the position in its handler, the accumulator (01's "hand"), the message being handled and how many
 // messages wait; the waiting messages of all nodes, 16 slots a node, oldest first, and their senders; the variables; how many nodes are
-// ready (S-4). Arrays of one size for every job: no heap, fixed memory. That no more messages wait at a node than it has slots stays a
-// clause (`BoundedCounts`): `ready_count` takes any state.
+// ready (S-4). Arrays of one size for every job: no heap, fixed memory. Positions lie apart from accumulators and messages, since
+// `chooser::choose` and `memory::ready` are lent the positions alone; values lie apart from senders, since both together take 8 bytes in an
+// array: the state would grow from 3,236 bytes to 4,772, and a turn copies it three times. That no more messages wait at a node than it has
+// slots stays a clause (`BoundedCounts`): `ready_count` takes any state.
 #[derive(Drop)]
 pub struct State {
     pub position: [u32; 32],

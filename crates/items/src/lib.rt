@@ -30,8 +30,8 @@ fn fits(q: Question, byte: u32, first: u32, second: u32) -> bool
     ensures { result ≡ asked q (item byte first second) }
 {
     match q {
-        Question::Holds(v) => (first <= v) & (v <= second),
-        Question::Is(b, l, h) => (byte == b) & ((first == l) & (second == h)),
+        Question::Holds(v) => (first..=second).contains(&v),
+        Question::Is(b, l, h) => byte == b && first == l && second == h,
         Question::To(v) => first == v,
     }
 }

@@ -1,5 +1,5 @@
 // The waiting messages of all nodes: their values in one flat array of 16 slots a node, their senders in a second one beside it, and how many
-// messages wait at each node.
+// messages wait at each node. The arrays are lent one by one: they are fields of the state, which lies above.
 ghost use Rattle.std.specs.Prelude.{◌≡◌, false, map, ◌<◌, length, get_or};
 ghost use Rattle.model.specs.Table.{max_nodes};
 ghost use Rattle.model.specs.State.{start_sender, message_from, tabulate};

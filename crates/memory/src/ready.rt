@@ -13,7 +13,7 @@ pub fn is_ready(position: &[u32; 32], waiting: &[u8; 32], n: u32) -> bool
     ensures { result ≡ ready_in position.now waiting.now n }
 {
     let i = n as usize;
-    (position[i] != IDLE) | (waiting[i] != 0)
+    position[i] != IDLE || waiting[i] != 0
 }
 
 // How many of so many nodes are ready.

@@ -1,5 +1,6 @@
 -- Getting and setting a bit of a number.
-use Prim.Native.Nat.{ℕ, zero, suc, ◌+◌, ◌*◌, ◌/◌, ◌%◌, ◌^◌, ◌<◌}
+use Prim.Native.Nat.{ℕ, zero, suc, ◌+◌, ◌*◌, ◌/◌, ◌%◌, ◌^◌, ◌<◌, max}
+use Rattle.std.specs.Int.Bits.{bit_or, or_step, or_zero_r}
 use mathlib.Core.Path.{◌≡◌, refl, ap, ◌∙◌}
 use mathlib.Core.Bool.{Bool, true, false, cond, ◌||◌}
 use native.Mathlib.Omega.{arith}
@@ -56,29 +57,24 @@ bit-set (suc i) zero x =
 bit-set (suc i) (suc j) x =
     rw (half_bit (with_bit x (suc i)) j, (half_set x i).0, half_bit x j, eqb-suc-suc i j) (bit-set i j (x / 2))
 
--- a number of k bits has k bits after one of them is set
-pub set_below : (k i x : ℕ) → i < k → x < 2 ^ k → with_bit x i < 2 ^ k
-set_below zero i x h l = absurd (omega arith)
-set_below (suc k) zero x h l = let e = pow-suc 2 k in let a = low-set x in omega (arith, a.0, a.1)
-set_below (suc k) (suc i) x h l =
-    let e = pow-suc 2 k in
+-- it is set by the bitwise or with the number whose only bit it is
+or_bit : (x i : ℕ) → bit_or x (2 ^ i) ≡ with_bit x i
+or_bit x zero =
+    let s : bit_or x 1 ≡ bit_or (x / 2) 0 * 2 + max (x % 2) 1 = or_step x 1 in
+    let z : bit_or (x / 2) 0 ≡ x / 2 = or_zero_r (x / 2) in
+    let a = low-set x in
+    omega (arith, s, z, a.0, a.1)
+or_bit x (suc i) =
+    let e = pow-suc 2 i in
+    let d : 2 ^ suc i / 2 ≡ 2 ^ i = omega (arith, e) in
+    let s : bit_or x (2 ^ suc i) ≡ bit_or (x / 2) (2 ^ i) * 2 + max (x % 2) (2 ^ suc i % 2) =
+    or_step x (2 ^ suc i) ∙ ap (λ (k : ℕ). bit_or (x / 2) k * 2 + max (x % 2) (2 ^ suc i % 2)) d in
+    let m = or_bit (x / 2) i in
     let a = half_set x i in
-    let m = set_below k i (x / 2) (omega arith) (omega arith) in
-    omega (arith, a.0, a.1)
+    omega (arith, s, e, m, a.0, a.1)
 
--- a bit that is 1 stays, and one that is 0 is added, as the code shifts it there
-module _ (x i : ℕ) (r : Bool) (asked : r ≡ bit_of x i) where
-  pub set_already : r ≡ true → x ≡ with_bit x i
-  unfolding with_bit
-  set_already e = rw (← asked, e)
-
-  module _ (h : i < 32) (e : r ≡ false) where
-    shifted : (1 * 2 ^ i) % 2 ^ 32 ≡ 2 ^ i
-    shifted = shl_exact 1 i 32 (omega arith) (omega arith) ∙ one-mul (2 ^ i)
-
-    pub set-adds : x + (1 * 2 ^ i) % 2 ^ 32 ≡ with_bit x i
-    unfolding with_bit
-    set-adds = rw (shifted, ← asked, e)
-
-    pub set-fits : x < 2 ^ 32 → x + (1 * 2 ^ i) % 2 ^ 32 < 2 ^ 32
-    set-fits l = rw set-adds (set_below 32 i x h l)
+-- as the code shifts that number there
+pub or-sets : (x i : ℕ) → i < 32 → bit_or x ((1 * 2 ^ i) % 2 ^ 32) ≡ with_bit x i
+or-sets x i h =
+    let shifted : (1 * 2 ^ i) % 2 ^ 32 ≡ 2 ^ i = shl_exact 1 i 32 (omega arith) (omega arith) ∙ one-mul (2 ^ i) in
+    rw shifted (or_bit x i)

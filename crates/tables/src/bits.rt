@@ -15,10 +15,7 @@ pub(crate) fn with_bit(x: u32, i: u32) -> u32
     requires { i < 32 }
     ensures { result ≡ with_bit x i }
 {
-    if is_set(x, i) {
-        return x;
-    }
-    x + (1 << i)
+    x | (1 << i)
 }
 
 // The half of a number for place i: the low one if i is even.

@@ -56,53 +56,49 @@ pub const WIRES: Section = Section(1952, 256);
 pub const LAST_RANGE: Section = Section(2208, 512);
 
 // Cell i of a section.
+#[tactic(auto, unfolding(crate::specs::Cells::entry_in))]
 pub fn entry(tables: &[u32], s: Section, i: usize) -> u32
     ensures { result ≡ entry_in tables.now s i }
 {
-    let base = s.0 as usize;
-    let size = s.1 as usize;
+    let base = usize::from(s.0);
+    let size = usize::from(s.1);
     if i < size {
-        let at = base + i;
-        if at < tables.len() {
-            return tables[at];
-        }
+        return tables.get(base + i).copied().unwrap_or(0);
     }
     0
 }
 
 // Sets cell i of a section.
+#[tactic(auto, unfolding(crate::specs::Cells::put_in))]
 pub fn put(tables: &mut [u32], s: Section, i: usize, x: u32)
     ensures { tables.new ≡ put_in tables.old s i x }
 {
-    let base = s.0 as usize;
-    let size = s.1 as usize;
-    if i < size {
-        let at = base + i;
-        if at < tables.len() {
-            tables[at] = x;
-        }
+    let base = usize::from(s.0);
+    let size = usize::from(s.1);
+    if i < size && base + i < tables.len() {
+        tables[base + i] = x;
     }
 }
 
 // Whether cell i of a section is not 0.
+#[tactic(auto, unfolding(crate::specs::Cells::flag_in))]
 pub fn flagged(tables: &[u32], s: Section, i: usize) -> bool
     ensures { result ≡ flag_in tables.now s i }
 {
-    let x = entry(tables, s, i);
-    x != 0
+    entry(tables, s, i) != 0
 }
 
 // Whether there is a mark at a row and a column of a section with 64 marks a row, 32 a cell.
+#[tactic(auto, unfolding(crate::specs::Cells::mark_in))]
 pub fn marked(tables: &[u32], s: Section, row: usize, column: usize) -> bool
     ensures { result ≡ mark_in tables.now s row column }
 {
-    if row < 128 {
-        if column < 64 {
-            let marks = entry(tables, s, row * 2 + column / 32);
-            return is_set(marks, (column % 32) as u32);
-        }
-    }
-    false
+    row < 128
+        && column < 64
+        && is_set(
+            entry(tables, s, row * 2 + column / 32),
+            (column % 32) as u32,
+        )
 }
 
 // The first 32 marks of a row of such a section, as the bits of a number.
@@ -116,15 +112,14 @@ pub fn marks_of(tables: &[u32], s: Section, row: usize) -> u32
 }
 
 // Makes a mark at a row and a column of such a section.
+#[tactic(auto, unfolding(crate::specs::Cells::mark_at))]
 pub fn mark(tables: &mut [u32], s: Section, row: usize, column: usize)
     ensures { tables.new ≡ mark_at tables.old s row column }
 {
-    if row < 128 {
-        if column < 64 {
-            let i = row * 2 + column / 32;
-            let marks = entry(tables, s, i);
-            put(tables, s, i, with_bit(marks, (column % 32) as u32));
-        }
+    if row < 128 && column < 64 {
+        let i = row * 2 + column / 32;
+        let marks = entry(tables, s, i);
+        put(tables, s, i, with_bit(marks, (column % 32) as u32));
     }
 }
 

@@ -38,7 +38,7 @@ pub fn note_use(uses: &mut [u32], n: NodeNum, byte: u8, x: u32)
 fn permits_call(byte: u8) -> bool
     ensures { result ≡ (eqb byte ANY || (eqb byte ARG || eqb byte SPAN)) }
 {
-    (byte == bytes::ANY) | ((byte == bytes::ARG) | (byte == bytes::SPAN))
+    matches!(byte, bytes::ANY | bytes::ARG | bytes::SPAN)
 }
 
 // Whether a permission with this byte, of a node and a variable or a function, is one that the node's handler has no command for.

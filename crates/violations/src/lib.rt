@@ -18,6 +18,7 @@ use command::numbers::{FunNum, NodeNum, VarNum};
 use command::read::Command;
 use command::refusal::Reason;
 use command::table::{OperandKind, kind_of, unpack};
+use declared::Scope;
 
 // How many flows, nodes, variables and functions are declared.
 #[derive(Clone, Copy)]
@@ -58,10 +59,10 @@ fn counted(tables: &[u32], byte: u8) -> u32
     ensures { result ≡ cond (is_range_byte byte) (item_count_in tables.now - count_in tables.now REPLY)
         (count_in tables.now byte) }
 {
-    if (byte == bytes::ARG) | (byte == bytes::SPAN) {
-        return range_count(tables);
+    match byte {
+        bytes::ARG | bytes::SPAN => range_count(tables),
+        _ => declared::count_of(tables, byte),
     }
-    declared::count_of(tables, byte)
 }
 
 // 5: a largest count would be passed.
@@ -82,10 +83,10 @@ fn exceeds_count(tables: &[u32], c: Command) -> bool
 fn has_no_owner(d: Counts, scope: u32, x: u32) -> bool
     ensures { result ≡ no_owner (counts_as d) scope x }
 {
-    match scope {
-        0 => d.nodes <= x,
-        1 => d.flows <= x,
-        _ => x != 0,
+    match Scope::from(scope) {
+        Scope::Node => d.nodes <= x,
+        Scope::Flow => d.flows <= x,
+        Scope::Global => x != 0,
     }
 }
 
@@ -138,14 +139,14 @@ fn is_undeclared(tables: &[u32], c: Command) -> bool
 fn uses_variable(b: u8) -> bool
     ensures { result ≡ ((eqb b GET || eqb b PUT) || eqb b PLUS) }
 {
-    ((b == bytes::GET) | (b == bytes::PUT)) | (b == bytes::PLUS)
+    matches!(b, bytes::GET | bytes::PUT | bytes::PLUS)
 }
 
 // The permissions that name a variable.
 fn is_access(b: u8) -> bool
     ensures { result ≡ (eqb b READ || eqb b WRITE) }
 {
-    (b == bytes::READ) | (b == bytes::WRITE)
+    matches!(b, bytes::READ | bytes::WRITE)
 }
 
 // 7: a wire into another flow, a handler command with a variable that its node does not see, READ or WRITE of a variable unseen or
@@ -203,7 +204,7 @@ fn late_violation(tables: &[u32], c: Command) -> Option<Reason>
         return Some(Reason::OutOfReach);
     }
     let repeated = is_repeated(tables, c);
-    let empty = (c.byte == bytes::SPAN) & (c.fourth < c.third);
+    let empty = c.byte == bytes::SPAN && c.fourth < c.third;
     if repeated {
         return Some(Reason::Repeated);
     }

@@ -1,8 +1,10 @@
-use Rattle.command.proofs.Taken.{head_none, read_first}
+use borrow.Author.Rules.{rules}
+use Rattle.command.specs.Reading.{Reaches}
+use Rattle.command.proofs.Taken.{read_first}
 use Rattle.command.proofs.read.read_head.Goals as goal
 
-pub returns-in_default : goal.returns-in_default
-returns-in_default c = head_none _ _ _ c.in_default.ensures
-
 pub returns : goal.returns
-returns c = read_first _ _ _ _ c.in-Ok.ensures _ c.unpack-shape.ensures _ c.operand-first.ensures
+returns c =
+    let extent = c.in_ok-extent.extent in
+    let reaches : Reaches c.args.job.now c.args.at extent.row extent.next = search rules in
+    read_first _ _ _ _ reaches _ c.unpack-shape.ensures _ c.operand-first.ensures
