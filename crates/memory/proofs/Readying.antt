@@ -1,26 +1,29 @@
 -- How a turn changes the ready count, by the arrays that say which nodes are ready.
-use Prim.Native.Nat.{ℕ, zero, suc, ◌+◌, ◌-◌, ◌/◌, ◌%◌, ◌^◌, ◌≤◌, ◌<◌}
+use Prim.Native.Nat.{ℕ, zero, suc, ◌+◌, ◌-◌, ◌≤◌, ◌<◌}
 use mathlib.Core.Path.{◌≡◌, refl, sym, ap, ◌∙◌}
 use mathlib.Core.Bool.{Bool, true, false, cond, not, ◌&&◌}
-use mathlib.Core.List.{List}
+use mathlib.Core.List.{List, [], ◌∷◌, ◌++◌}
 use native.Mathlib.Omega.{arith}
 use lib.Dec.{eqb}
 use lib.ListN.{length, get_or, set, length-set}
 use lib.Seq.{get_or-set_same, get_or-set_other}
 use borrow.Author.Tests.{eqb-true, eqb-false, eq-eqb, ne_eqb}
+use Rattle.std.specs.List.{filter, range_with_len}
+use Rattle.std.proofs.lemmas.List.{length-append}
+use Rattle.std.proofs.lemmas.List.Elements.{filter-append}
 use Rattle.model.specs.Table.{NODE}
 use Rattle.model.specs.State.{State, idle, position_at, waiting_at}
 use Rattle.model.specs.Dispatch.{ready as is_ready, count_below, ready_count}
-use Rattle.model.proofs.Counting.{bit, count-agree, count_nothing, count-passes, count-fails, count-one, count-more, count-beyond, count_most}
-use Rattle.tables.specs.Bits.{bit_of}
+use Rattle.model.proofs.Counting.{bit, count-agree, count-suc, count_nothing, count-one, count-more, count-beyond, count_most}
+use Rattle.tables.specs.Bits.{bit_of, places}
 use Rattle.tables.specs.Tables.{count_in, wired_in}
+use Rattle.tables.proofs.Places.{places-agree}
 use Rattle.memory.specs.declared.Change.{Change}
 use Rattle.memory.specs.declared.Change.TheVariants as c'
 use Rattle.memory.specs.Queues.{counted}
 use Rattle.memory.specs.Changes.{counts_after}
 use Rattle.memory.specs.Ready.{ready_in, ready_count_in, woken_in, woken_by, Among, ReadyCounted}
-use Rattle.memory.proofs.Sending.{Ahead, ahead-first, ahead-here, ahead-next, ahead_none}
-use Rattle.memory.proofs.Sending.{counted-later}
+use Rattle.memory.proofs.Sending.{range-more, counted-later}
 
 -- which nodes are ready in a state, and how many, by arrays that show its positions and how many messages wait
 module _ (position waiting : List ℕ) (s : State) (p : (n : ℕ) → position_at s n ≡ get_or position n 0)
@@ -35,48 +38,33 @@ module _ (position waiting : List ℕ) (s : State) (p : (n : ℕ) → position_a
 pub among_below : {t : List ℕ} {n : ℕ} → Among t n → n < 32
 among_below a = omega (arith, a.inside, a.few)
 
--- a message wakes node k: it is a target, and not ready; the targets are the bits of a number
-abbrev wakes : ℕ → List ℕ → List ℕ → ℕ → Bool
-wakes all position waiting k = bit_of all k && not (ready_in position waiting k)
+-- of the numbers below k that pass a test, those that pass another: as many as pass both
+picked-one : (p test : ℕ → Bool) (k : ℕ) (ks : List ℕ) → length (filter test (filter p (ks ++ k ∷ []))) ≡ length (filter test (filter p ks)) + bit (p k && test k)
+picked-one p test k ks =
+    rw (filter-append p ks (k ∷ [])) (by_first (p k))
+  where
+    by_second : (b : Bool) → length (filter test (filter p ks) ++ cond b (k ∷ []) []) ≡ length (filter test (filter p ks)) + bit b
+    by_second true = length-append (filter test (filter p ks)) (k ∷ [])
+    by_second false = length-append (filter test (filter p ks)) []
 
--- the loop over the targets of a send, at node k: how many of the targets below are not ready
-pub record Waking (all : ℕ) (position waiting : List ℕ) (k targets count : ℕ) : Type 0 where
-  pub ahead : Ahead all k targets
-  pub same : count ≡ count_below (wakes all position waiting) k
-  pub few : count ≤ k
+    by_first : (b : Bool) → length (filter test (filter p ks ++ cond b (k ∷ []) [])) ≡ length (filter test (filter p ks)) + bit (b && test k)
+    by_first true = rw (filter-append test (filter p ks) (k ∷ [])) (by_second (test k))
+    by_first false = rw (filter-append test (filter p ks) []) (by_second false)
 
-pub waking_none : (all : ℕ) (position waiting : List ℕ) → all < 2 ^ 32 → Waking all position waiting 0 all 0
-waking_none all position waiting small =
-    record { ahead = ahead-first all small; same = sym (count_nothing (wakes all position waiting)); few = omega arith }
+picked-count : (p test : ℕ → Bool) (k : ℕ) → length (filter test (filter p (range_with_len 0 k))) ≡ count_below (λ j. p j && test j) k
+picked-count p test zero = sym (count_nothing (λ j. p j && test j))
+picked-count p test (suc k) =
+    let e : 0 + k ≡ k = omega arith in
+    ap (λ (ks : List ℕ). length (filter test (filter p ks))) (sym (range-more 0 k))
+    ∙ picked-one p test (0 + k) (range_with_len 0 k)
+    ∙ rw e (omega (arith, picked-count p test k, count-suc (λ j. p j && test j) k))
 
-module _ {all : ℕ} {position waiting : List ℕ} {k targets count : ℕ} (s : Waking all position waiting k targets count) where
-  -- bit k is the lowest
-  lowest : wakes all position waiting k ≡ (eqb (targets % 2) 1 && not (ready_in position waiting k))
-  lowest = ap (λ (b : Bool). b && not (ready_in position waiting k)) (ahead-here s.ahead)
-
-  -- node k is woken, or it is not
-  pub waking_one : k < 32 → (eqb (targets % 2) 1 && not (ready_in position waiting k)) ≡ true
-      → Waking all position waiting (k + 1) (targets / 2) (count + 1)
-  waking_one more e = record {
-    ahead = ahead-next s.ahead more;
-    same = count-passes (wakes all position waiting) k count s.same (lowest ∙ e);
-    few = omega (arith, s.few);
-  }
-
-  pub waking_other : k < 32 → (eqb (targets % 2) 1 && not (ready_in position waiting k)) ≡ false
-      → Waking all position waiting (k + 1) (targets / 2) count
-  waking_other more e = record {
-    ahead = ahead-next s.ahead more;
-    same = count-fails (wakes all position waiting) k count s.same (lowest ∙ e);
-    few = omega (arith, s.few);
-  }
-
-  -- no target is ahead
-  pub waking_all : (target : ℕ → Bool) → ((i : ℕ) → i < 32 → bit_of all i ≡ target i) → targets ≡ 0 → count ≡ woken_in target position waiting
-  waking_all target agree z =
-      s.same
-      ∙ sym (count-beyond (wakes all position waiting) k 32 s.ahead.inside (λ j low high. rw (ahead_none s.ahead z j low)))
-      ∙ count-agree (wakes all position waiting) (λ j. target j && not (ready_in position waiting j)) 32 (λ j high. rw (agree j high))
+-- the targets of a send, those that the bits of a number tell, are woken where they are not ready
+pub woken-places : (all : ℕ) (target : ℕ → Bool) (position waiting : List ℕ) → ((i : ℕ) → i < 32 → bit_of all i ≡ target i)
+    → length (filter (λ k. not (ready_in position waiting k)) (places all)) ≡ woken_in target position waiting
+woken-places all target position waiting agree =
+    ap (λ (ks : List ℕ). length (filter (λ k. not (ready_in position waiting k)) ks)) (places-agree all target agree)
+    ∙ picked-count target (λ k. not (ready_in position waiting k)) 32
 
 -- a node that is not idle, or at which a message waits, is ready; one that is idle is exactly if a message waits at it
 ready-busy : (position waiting : List ℕ) (n : ℕ) → ¬ (get_or position n 0 ≡ idle) → ready_in position waiting n ≡ true

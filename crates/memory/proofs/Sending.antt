@@ -1,23 +1,22 @@
 -- A send: its targets one by one, and what it leaves in counts and slots is what the model delivers.
-use Prim.Native.Nat.{ℕ, zero, suc, ◌+◌, ◌-◌, ◌*◌, ◌/◌, ◌%◌, ◌^◌, ◌≤◌, ◌<◌}
-use mathlib.Core.Path.{◌≡◌, refl, sym, ap, ◌∙◌}
+use Prim.Native.Nat.{ℕ, zero, suc, ◌+◌, ◌*◌, ◌≤◌, ◌<◌}
+use mathlib.Core.Path.{◌≡◌, refl, sym, ap, subst, ◌∙◌}
 use mathlib.Core.Bool.{Bool, true, false, cond, ◌&&◌, or-false}
 use mathlib.Core.List.{List, [], ◌∷◌, ◌++◌}
 use native.Mathlib.Omega.{arith}
-use native.Mathlib.Nat.{pow-suc}
 use native.Mathlib.Numerals.{add-one}
-use lib.Dec.{leb, eqb}
+use lib.Dec.{leb}
 use lib.ListN.{length, get_or, set, length-set}
 use lib.Seq.{get_or-set_other}
-use borrow.Author.Tests.{leb-false, eq-eqb, ne_eqb}
-use Rattle.std.specs.List.{list_any, range_with_len}
+use borrow.Author.Tests.{leb-false}
+use Rattle.std.specs.List.{list_any, filter, range_with_len}
 use Rattle.std.proofs.lemmas.List.Folds.{list_any-append}
 use Rattle.model.specs.Table.{max_waiting}
 use Rattle.model.specs.State.{Message, message_from}
 use Rattle.model.specs.Turn.{some_below, delivered}
 use Rattle.model.proofs.Turns.{some-none, delivered_target, delivered-other}
-use Rattle.tables.specs.Bits.{bit_of}
-use Rattle.tables.proofs.Setting.{half_bit, low_bit, bit_zero}
+use Rattle.tables.specs.Bits.{bit_of, places}
+use Rattle.tables.proofs.Places.{places-agree}
 use Rattle.memory.specs.Queues.{paired, queues, count_at, BoundedCounts, Holds, BringsOnly, full, stored, counted}
 use Rattle.memory.proofs.Pairing.{paired-set, length-paired}
 use Rattle.memory.proofs.Waiting.{bounded-set, queues_pushed, brings-set}
@@ -27,7 +26,7 @@ abbrev pub held : (ℕ → Bool) → List ℕ → ℕ → Bool
 held target ws k = target k && leb max_waiting (get_or ws k 0)
 
 -- one number more at the end
-range-more : (a n : ℕ) → range_with_len a n ++ ((a + n) ∷ []) ≡ range_with_len a (suc n)
+pub range-more : (a n : ℕ) → range_with_len a n ++ ((a + n) ∷ []) ≡ range_with_len a (suc n)
 range-more a zero = let e : a + 0 ≡ a = omega arith in rw e
 range-more a (suc n) = let e : a + suc n ≡ a + 1 + n = omega arith in rw e (ap (λ (l : List ℕ). a ∷ l) (range-more (a + 1) n))
 
@@ -42,47 +41,6 @@ any-below test (suc n) =
 -- where no target is full, each has room
 full-none : (target : ℕ → Bool) (ws : List ℕ) (k : ℕ) → full target (count_at ws) ≡ false → k < 32 → target k ≡ true → get_or ws k 0 < 16
 full-none target ws k f h e = leb-false 16 (get_or ws k 0) (rw e at (some-none (held target ws) 32 f k h))
-
--- of the bits of a number, those from bit k on, the lowest first: what is ahead of a loop over the targets of a port
-pub record Ahead (all k targets : ℕ) : Type 0 where
-  pub inside : k ≤ 32
-  pub small : targets < 2 ^ (32 - k)
-  pub bits : (j : ℕ) → bit_of targets j ≡ bit_of all (k + j)
-
-pub ahead-first : (all : ℕ) → all < 2 ^ 32 → Ahead all 0 all
-ahead-first all small = record { inside = omega arith; small = small; bits = λ j. let e : 0 + j ≡ j = omega arith in rw e }
-
-module _ {all k targets : ℕ} (a : Ahead all k targets) where
-  -- at the end none of them is 1
-  pub ahead-over : k ≡ 32 → targets ≡ 0
-  ahead-over e = let l : targets < 2 ^ 0 = rw e at a.small in omega (arith, l)
-
-  -- bit k is the lowest
-  pub ahead-here : bit_of all k ≡ eqb (targets % 2) 1
-  ahead-here = let e : k + 0 ≡ k = omega arith in sym (rw e at (a.bits 0)) ∙ low_bit targets
-
-  pub ahead-one : targets % 2 ≡ 1 → bit_of all k ≡ true
-  ahead-one e = ahead-here ∙ eq-eqb (targets % 2) 1 e
-
-  pub ahead-other : ¬ (targets % 2 ≡ 1) → bit_of all k ≡ false
-  ahead-other e = ahead-here ∙ ne_eqb (targets % 2) 1 e
-
-  pub ahead-next : k < 32 → Ahead all (k + 1) (targets / 2)
-  ahead-next h =
-      let e : 32 - k ≡ suc (32 - (k + 1)) = omega arith in
-      let two = pow-suc 2 (32 - (k + 1)) in
-      let below : targets < 2 ^ suc (32 - (k + 1)) = rw (← e) a.small in
-      record {
-        inside = omega arith;
-        small = omega (arith, below, two);
-        bits = λ j. let f : k + 1 + j ≡ k + suc j = omega arith in sym (half_bit targets j) ∙ rw f (a.bits (suc j));
-      }
-
-  -- when none is 1, no later bit is
-  pub ahead_none : targets ≡ 0 → (i : ℕ) → k ≤ i → bit_of all i ≡ false
-  ahead_none z i h =
-      let e : k + (i - k) ≡ i = omega arith in
-      sym (rw e at (a.bits (i - k))) ∙ rw z (bit_zero (i - k))
 
 -- one node more, a target or not
 module _ (target : ℕ → Bool) (ws : List ℕ) where
@@ -114,106 +72,43 @@ module _ (target : ℕ → Bool) (ws : List ℕ) where
       by_target true ih = get_or-set_other (counted target ws k) k i (get_or ws k 0 + 1) 0 (λ q. omega arith) ∙ ih
       by_target false ih = ih
 
--- all targets are served: those of a port are the bits of a number, and none of them is 1 from k on
-module _ (target : ℕ → Bool) (ws : List ℕ) (all k : ℕ) (agree : (i : ℕ) → i < 32 → bit_of all i ≡ target i) (inside : k ≤ 32)
-    (none : (i : ℕ) → k ≤ i → bit_of all i ≡ false) where
-  counted_same : (i : ℕ) → i ≤ 32 → counted (bit_of all) ws i ≡ counted target ws i
-  unfolding counted
-  counted_same zero h = refl
-  counted_same (suc i) h = rw (counted_same i (omega arith), agree i (omega arith))
+-- a send: what it leaves in counts, values and senders
+module _ (value from : ℕ) (ws' values' senders' : List ℕ) where
+  -- a message more for each of these places, each of which has room, leads from counts, values and senders there
+  abbrev pub Sends : List ℕ → List ℕ → List ℕ → List ℕ → Type 0
+  Sends [] ws values senders = (ws ≡ ws') × (values ≡ values') × (senders ≡ senders')
+  Sends (k ∷ ks) ws values senders =
+      (k < 32) × (get_or ws k 0 < 16)
+      × Sends ks (set ws k (get_or ws k 0 + 1)) (set values (k * 16 + get_or ws k 0) value) (set senders (k * 16 + get_or ws k 0) from)
 
-  stored_same : (x : ℕ) (slots : List ℕ) (i : ℕ) → i ≤ 32 → stored (bit_of all) ws x slots i ≡ stored target ws x slots i
-  unfolding stored
-  stored_same x slots zero h = refl
-  stored_same x slots (suc i) h = rw (stored_same x slots i (omega arith), agree i (omega arith))
+-- the targets from node a on lead from what stands after those below a to what stands after all
+module _ (target : ℕ → Bool) (value from : ℕ) (ws values senders : List ℕ) (free : full target (count_at ws) ≡ false) where
+  abbrev pub SendsAll : List ℕ → List ℕ → List ℕ → List ℕ → Type 0
+  SendsAll = Sends value from (counted target ws 32) (stored target ws value values 32) (stored target ws from senders 32)
 
-  counted-rest : (d : ℕ) → counted (bit_of all) ws (d + k) ≡ counted (bit_of all) ws k
-  unfolding counted
-  counted-rest zero = let e : 0 + k ≡ k = omega arith in rw e
-  counted-rest (suc d) = let e : suc d + k ≡ suc (d + k) = omega arith in rw (e, none (d + k) (omega arith)) (counted-rest d)
+  sends-later : (n a : ℕ) → a + n ≡ 32
+      → SendsAll (filter target (range_with_len a n)) (counted target ws a) (stored target ws value values a) (stored target ws from senders a)
+  sends-later zero a e = let whole : a ≡ 32 = omega arith in rw whole (refl, refl, refl)
+  sends-later (suc n) a e = by_target (target a) refl (sends-later n (a + 1) (omega arith))
+    where
+      by_target :
+          (b : Bool) → target a ≡ b
+          → SendsAll (filter target (range_with_len (a + 1) n)) (counted target ws (a + 1)) (stored target ws value values (a + 1))
+          (stored target ws from senders (a + 1))
+          → SendsAll (cond b (a ∷ filter target (range_with_len (a + 1) n)) (filter target (range_with_len (a + 1) n))) (counted target ws a)
+          (stored target ws value values a) (stored target ws from senders a)
+      by_target true here ih =
+          rw (counted-later target ws a a (omega arith)) (
+            omega arith,
+            full-none target ws a free (omega arith) here,
+            rw (counted_target target ws a here, stored_target target ws value values a here, stored_target target ws from senders a here) ih,
+          )
+      by_target false here ih =
+          rw (counted-other target ws a here, stored_other target ws value values a here, stored_other target ws from senders a here) ih
 
-  stored-rest : (x : ℕ) (slots : List ℕ) (d : ℕ) → stored (bit_of all) ws x slots (d + k) ≡ stored (bit_of all) ws x slots k
-  unfolding stored
-  stored-rest x slots zero = let e : 0 + k ≡ k = omega arith in rw e
-  stored-rest x slots (suc d) = let e : suc d + k ≡ suc (d + k) = omega arith in rw (e, none (d + k) (omega arith)) (stored-rest x slots d)
-
-  pub counted-all : counted (bit_of all) ws k ≡ counted target ws 32
-  counted-all =
-      let e : 32 - k + k ≡ 32 = omega arith in
-      sym (counted-rest (32 - k)) ∙ rw e (counted_same 32 (omega arith))
-
-  stored-all : (x : ℕ) (slots : List ℕ) → stored (bit_of all) ws x slots k ≡ stored target ws x slots 32
-  stored-all x slots =
-      let e : 32 - k + k ≡ 32 = omega arith in
-      sym (stored-rest x slots (32 - k)) ∙ rw e (stored_same x slots 32 (omega arith))
-
--- the loop of a send at node k: the targets below have their message, the others have room
-pub record Sent (all value from : ℕ) (ws₀ values₀ senders₀ : List ℕ) (k targets : ℕ) (ws vs ns : List ℕ) : Type 0 where
-  pub ahead : Ahead all k targets
-  pub room : (i : ℕ) → i < 32 → bit_of all i ≡ true → get_or ws₀ i 0 < 16
-  pub counts : ws ≡ counted (bit_of all) ws₀ k
-  pub values : vs ≡ stored (bit_of all) ws₀ value values₀ k
-  pub senders : ns ≡ stored (bit_of all) ws₀ from senders₀ k
-
-module _ (target : ℕ → Bool) (all : ℕ) (agree : (i : ℕ) → i < 32 → bit_of all i ≡ target i) {ws₀ : List ℕ} where
-  pub sent_none : (value from : ℕ) (values₀ senders₀ : List ℕ) → all < 2 ^ 32 → full target (count_at ws₀) ≡ false
-      → Sent all value from ws₀ values₀ senders₀ 0 all ws₀ values₀ senders₀
-  unfolding stored counted
-  sent_none value from values₀ senders₀ small free =
-      record {
-        ahead = ahead-first all small;
-        room = λ i h e. full-none target ws₀ i free h (sym (agree i h) ∙ e);
-        counts = refl;
-        values = refl;
-        senders = refl;
-      }
-
-  module _ {value from : ℕ} {values₀ senders₀ : List ℕ} {k targets : ℕ} {ws values senders : List ℕ}
-      (s : Sent all value from ws₀ values₀ senders₀ k targets ws values senders) (z : targets ≡ 0) where
-    none : (i : ℕ) → k ≤ i → bit_of all i ≡ false
-    none = ahead_none s.ahead z
-
-    pub sent_values : values ≡ stored target ws₀ value values₀ 32
-    sent_values = s.values ∙ stored-all target ws₀ all k agree s.ahead.inside none value values₀
-
-    pub sent_senders : senders ≡ stored target ws₀ from senders₀ 32
-    sent_senders = s.senders ∙ stored-all target ws₀ all k agree s.ahead.inside none from senders₀
-
-    pub sent_counts : ws ≡ counted target ws₀ 32
-    sent_counts = s.counts ∙ counted-all target ws₀ all k agree s.ahead.inside none
-
-module _ {all value from : ℕ} {ws₀ values₀ senders₀ : List ℕ} {k targets : ℕ} {ws values senders : List ℕ}
-    (s : Sent all value from ws₀ values₀ senders₀ k targets ws values senders) (more : k < 32) where
-  -- the counts from k on are those before
-  waiting-here : get_or ws k 0 ≡ get_or ws₀ k 0
-  waiting-here = rw s.counts (counted-later (bit_of all) ws₀ k k (omega arith))
-
-  pub sent-room : targets % 2 ≡ 1 → get_or ws k 0 < 16
-  sent-room e = rw waiting-here (s.room k more (ahead-one s.ahead e))
-
-  pub sent_target : targets % 2 ≡ 1
-      → Sent all value from ws₀ values₀ senders₀ (k + 1) (targets / 2) (set ws k (get_or ws k 0 + 1))
-      (set values (k * 16 + get_or ws k 0) value) (set senders (k * 16 + get_or ws k 0) from)
-  sent_target e =
-      let here = ahead-one s.ahead e in
-      rw waiting-here (record {
-        ahead = ahead-next s.ahead more;
-        room = s.room;
-        counts = rw s.counts (counted_target (bit_of all) ws₀ k here);
-        values = rw s.values (stored_target (bit_of all) ws₀ value values₀ k here);
-        senders = rw s.senders (stored_target (bit_of all) ws₀ from senders₀ k here);
-      })
-
-  pub sent_other : ¬ (targets % 2 ≡ 1) → Sent all value from ws₀ values₀ senders₀ (k + 1) (targets / 2) ws values senders
-  sent_other e =
-      let here = ahead-other s.ahead e in
-      record {
-        ahead = ahead-next s.ahead more;
-        room = s.room;
-        counts = s.counts ∙ counted-other (bit_of all) ws₀ k here;
-        values = s.values ∙ stored_other (bit_of all) ws₀ value values₀ k here;
-        senders = s.senders ∙ stored_other (bit_of all) ws₀ from senders₀ k here;
-      }
+  pub sends-all : (all : ℕ) → ((i : ℕ) → i < 32 → bit_of all i ≡ target i) → SendsAll (places all) ws values senders
+  unfolding counted stored
+  sends-all all agree = subst (λ (ks : List ℕ). SendsAll ks ws values senders) (sym (places-agree all target agree)) (sends-later 32 0 refl)
 
 -- after the nodes below k: the queues are those that the model delivers, the others have room, and nothing but the message was brought in
 pub record Served (target : ℕ → Bool) (m : Message) (ws₀ : List ℕ) (slots₀ : List Message) (k : ℕ) (ws : List ℕ) (slots : List Message) :

@@ -10,6 +10,7 @@ ghost use Rattle.memory.specs.Changes.{Possible, slots_after, counts_after};
 use crate::Change;
 use command::numbers::NodeNum;
 use declared::{first_message, is_wired, targets_of};
+use tables::bits::Places;
 
 // The queues hold the START values.
 pub fn fill_queues(queue: &mut [u32; 512], waiting: &mut [u8; 32], tables: &[u32])
@@ -55,18 +56,12 @@ fn deliver(
     ensures counts { waiting.new ≡ counted (wired_in tables.now n.0 port) waiting.old max_nodes }
 {
     let from = n.0 as u8;
-    let mut targets = targets_of(tables, n, port);
-    for target in 0..32 {
-        if targets == 0 {
-            break;
-        }
-        if targets % 2 == 1 {
-            let at = target * 16 + usize::from(waiting[target]);
-            queue[at] = value;
-            sender[at] = from;
-            waiting[target] += 1;
-        }
-        targets /= 2;
+    let targets = targets_of(tables, n, port);
+    for target in Places(targets) {
+        let at = target * 16 + usize::from(waiting[target]);
+        queue[at] = value;
+        sender[at] = from;
+        waiting[target] += 1;
     }
 }
 

@@ -6,6 +6,7 @@ ghost use Rattle.memory.specs.Ready.{ready_in, ready_count_in, woken_in, woken_b
 use crate::{Change, IDLE};
 use command::numbers::NodeNum;
 use declared::targets_of;
+use tables::bits::Places;
 
 // Whether a node is ready: it is, unless it is idle with an empty queue.
 pub fn is_ready(position: &[u32; 32], waiting: &[u8; 32], n: u32) -> bool
@@ -34,18 +35,9 @@ pub fn count_ready(position: &[u32; 32], waiting: &[u8; 32], nodes: u32) -> u32
 fn woken(tables: &[u32], n: NodeNum, port: u32, position: &[u32; 32], waiting: &[u8; 32]) -> u32
     ensures { result ≡ woken_in (wired_in tables.now n.0 port) position.now waiting.now }
 {
-    let mut targets = targets_of(tables, n, port);
-    let mut count = 0;
-    for target in 0..32 {
-        if targets == 0 {
-            break;
-        }
-        if targets % 2 == 1 && !is_ready(position, waiting, target) {
-            count += 1;
-        }
-        targets /= 2;
-    }
-    count
+    Places(targets_of(tables, n, port))
+        .filter(|k| !is_ready(position, waiting, *k as u32))
+        .count() as u32
 }
 
 // The ready count with the nodes that a change of a node wakes.

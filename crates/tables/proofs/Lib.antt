@@ -1,4 +1,5 @@
 pub mod Setting
+pub mod Places
 pub mod Writing
 pub mod Blank
 pub mod Chains

@@ -1,5 +1,6 @@
 -- Bits of a number, counted from 0, the lowest first; and its halves, two numbers below 65,536.
-use Rattle.std.specs.Prelude.{ℕ, ◌+◌, ◌*◌, ◌/◌, ◌%◌, ◌^◌, Bool, cond, eqb}
+use Rattle.std.specs.Prelude.{ℕ, ◌+◌, ◌*◌, ◌/◌, ◌%◌, ◌^◌, Bool, cond, List, eqb}
+use Rattle.std.specs.List.{filter, range_with_len}
 
 -- bit i of a number is 1
 unfoldable pub bit_of : ℕ → ℕ → Bool
@@ -8,6 +9,10 @@ bit_of x i = eqb (x / 2 ^ i % 2) 1
 -- the number with bit i made 1: 2 ^ i is added where the bit is 0
 unfoldable pub with_bit : ℕ → ℕ → ℕ
 with_bit x i = cond (bit_of x i) x (x + 2 ^ i)
+
+-- the places, of 32, of the bits of a number that are 1, lowest first
+unfoldable pub places : ℕ → List ℕ
+places x = filter (bit_of x) (range_with_len 0 32)
 
 -- the half of a number for place i: the low one if i is even
 unfoldable pub half_of : ℕ → ℕ → ℕ

@@ -1,6 +1,29 @@
 // A number as 32 marks: bit i is 1 where mark i is made; and as two halves, each a number below 65,536.
 ghost use Rattle.std.specs.Prelude.{◌≡◌, ◌<◌};
-ghost use Rattle.tables.specs.Bits.{bit_of, with_bit, half_of, with_half};
+ghost use Rattle.tables.specs.Bits.{bit_of, with_bit, places, half_of, with_half};
+
+// The places of the bits of a number that are 1, lowest first; the number has those that are left.
+#[derive(Drop)]
+pub struct Places(pub u32);
+
+impl Iterator for Places {
+    ghost use Rattle.std.specs.Iterator.{YieldsFirst, item_count};
+
+    type Item = usize;
+
+    ghost next_gives = { YieldsFirst (λ s. places s.0) };
+
+    ghost remaining = { item_count (λ s. places s.0) };
+
+    fn next(&mut self) -> Option<usize> {
+        let left = self.0;
+        if left == 0 {
+            return None;
+        }
+        self.0 = left & (left - 1);
+        Some(left.trailing_zeros() as usize)
+    }
+}
 
 // Whether bit i of a number is 1.
 pub(crate) fn is_set(x: u32, i: u32) -> bool

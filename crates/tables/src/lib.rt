@@ -1,5 +1,5 @@
 // What the commands of a job declare, as tables: the cells that hold it. The definitions say what each cell stands for.
 #![tactic(auto)]
 
-mod bits;
+pub mod bits;
 pub mod cells;

@@ -1,14 +1,15 @@
 -- Laws of counting in an array of 32 numbers.
-use Prim.Native.Nat.{ℕ, ◌+◌, ◌-◌, ◌*◌, ◌^◌, ◌≤◌, ◌<◌}
+use Prim.Native.Nat.{ℕ, zero, suc, ◌+◌, ◌-◌, ◌*◌, ◌/◌, ◌%◌, ◌^◌, ◌≤◌, ◌<◌}
 use mathlib.Core.Path.{◌≡◌, refl, sym, ap, ◌∙◌}
 use mathlib.Core.Bool.{Bool, true, false}
 use mathlib.Core.List.{List}
 use native.Mathlib.Omega.{arith}
+use native.Mathlib.Nat.{pow-suc}
 use lib.Count.{count_leading_zeros}
 use lib.Dec.{eqb}
 use lib.ListN.{length, get_or, set, length-set}
 use lib.Seq.{get_or-set_same, get_or-set_other}
-use borrow.Author.Tests.{eqb-true, eqb-false, ne_eqb}
+use borrow.Author.Tests.{eqb-true, eqb-false, eq-eqb, ne_eqb}
 use Rattle.std.proofs.Math.Nat.{div-eq_of_lt}
 use Rattle.std.proofs.Math.Pow.{pow_mono}
 use Rattle.std.proofs.lemmas.Nat.{leading_length}
@@ -21,11 +22,52 @@ use Rattle.model.proofs.Reading.{number-one}
 use Rattle.tables.specs.Tables.{wired_in}
 use Rattle.tables.specs.Programs.{Handlers, program_in}
 use Rattle.tables.specs.Bits.{bit_of}
+use Rattle.tables.proofs.Setting.{half_bit, low_bit}
 use Rattle.memory.specs.Queues.{counted}
-use Rattle.memory.proofs.Sending.{counted-all}
 use Rattle.memory.proofs.Readying.{length-counted, counted-at}
 use Rattle.output.specs.Finding.{entry_from}
 use Rattle.tally.specs.Counted.{Adds, Numbered}
+
+-- of the bits of a number, those from bit k on, the lowest first: what is ahead of a loop over them
+pub record Ahead (all k targets : ℕ) : Type 0 where
+  pub inside : k ≤ 32
+  pub small : targets < 2 ^ (32 - k)
+  pub bits : (j : ℕ) → bit_of targets j ≡ bit_of all (k + j)
+
+pub ahead-first : (all : ℕ) → all < 2 ^ 32 → Ahead all 0 all
+ahead-first all small = record { inside = omega arith; small = small; bits = λ j. let e : 0 + j ≡ j = omega arith in rw e }
+
+module _ {all k targets : ℕ} (a : Ahead all k targets) where
+  -- bit k is the lowest
+  ahead-here : bit_of all k ≡ eqb (targets % 2) 1
+  ahead-here = let e : k + 0 ≡ k = omega arith in sym (rw e at (a.bits 0)) ∙ low_bit targets
+
+  pub ahead-one : targets % 2 ≡ 1 → bit_of all k ≡ true
+  ahead-one e = ahead-here ∙ eq-eqb (targets % 2) 1 e
+
+  pub ahead-other : ¬ (targets % 2 ≡ 1) → bit_of all k ≡ false
+  ahead-other e = ahead-here ∙ ne_eqb (targets % 2) 1 e
+
+  pub ahead-next : k < 32 → Ahead all (k + 1) (targets / 2)
+  ahead-next h =
+      let e : 32 - k ≡ suc (32 - (k + 1)) = omega arith in
+      let two = pow-suc 2 (32 - (k + 1)) in
+      let below : targets < 2 ^ suc (32 - (k + 1)) = rw (← e) a.small in
+      record {
+        inside = omega arith;
+        small = omega (arith, below, two);
+        bits = λ j. let f : k + 1 + j ≡ k + suc j = omega arith in sym (half_bit targets j) ∙ rw f (a.bits (suc j));
+      }
+
+-- none of the bits of a number is 1 from k on: all targets are counted
+module _ (ws : List ℕ) (all k : ℕ) (none : (i : ℕ) → k ≤ i → bit_of all i ≡ false) where
+  counted-rest : (d : ℕ) → counted (bit_of all) ws (d + k) ≡ counted (bit_of all) ws k
+  unfolding counted
+  counted-rest zero = let e : 0 + k ≡ k = omega arith in rw e
+  counted-rest (suc d) = let e : suc d + k ≡ suc (d + k) = omega arith in rw (e, none (d + k) (omega arith)) (counted-rest d)
+
+  counted-all : k ≤ 32 → counted (bit_of all) ws k ≡ counted (bit_of all) ws 32
+  counted-all inside = let e : 32 - k + k ≡ 32 = omega arith in rw e at (sym (counted-rest (32 - k)))
 
 -- above its highest bit, where its leading zeros end, a number has no bit
 pub none_above : (all : ℕ) → all < 2 ^ 32 → (i : ℕ) → 32 - count_leading_zeros 32 all ≤ i → bit_of all i ≡ false
@@ -40,7 +82,7 @@ none_above all small i h =
 pub adds_targets : (all k : ℕ) (before after : List ℕ) → length before ≡ max_nodes → k ≤ 32 → ((i : ℕ) → k ≤ i → bit_of all i ≡ false)
     → after ≡ counted (bit_of all) before k → Adds (bit_of all) before after
 adds_targets all k before after size inside none same =
-    let whole = same ∙ counted-all (bit_of all) before all k (λ i h. refl) inside none in
+    let whole = same ∙ counted-all before all k none inside in
     record {
       size = ap length whole ∙ length-counted (bit_of all) before 32 ∙ size;
       each = λ n h. ap (λ (l : List ℕ). get_or l n 0) whole ∙ counted-at (bit_of all) before 32 n h (omega arith);

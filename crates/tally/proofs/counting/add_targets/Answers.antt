@@ -10,9 +10,8 @@ use borrow.Author.Tests.{eqb-true, eqb-false}
 use borrow.Author.Rules.{rules}
 use Rattle.tables.specs.Bits.{bit_of}
 use Rattle.memory.specs.Queues.{counted}
-use Rattle.memory.proofs.Sending.{Ahead, ahead-first, ahead-one, ahead-other, ahead-next, counted_target, counted-other}
-use Rattle.memory.proofs.Sending.{counted-later}
-use Rattle.tally.proofs.Adding.{none_above, adds_targets}
+use Rattle.memory.proofs.Sending.{counted_target, counted-other, counted-later}
+use Rattle.tally.proofs.Adding.{Ahead, ahead-first, ahead-one, ahead-other, ahead-next, none_above, adds_targets}
 use Rattle.tally.proofs.counting.add_targets.Goals as goal
 use Rattle.tally.proofs.counting.add_targets.Goals.{In-loop-target}
 

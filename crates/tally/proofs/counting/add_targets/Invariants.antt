@@ -1,7 +1,7 @@
 use mathlib.Core.Path.{◌≡◌}
 use Rattle.tables.specs.Bits.{bit_of}
 use Rattle.memory.specs.Queues.{counted}
-use Rattle.memory.proofs.Sending.{Ahead}
+use Rattle.tally.proofs.Adding.{Ahead}
 use Rattle.tally.proofs.counting.add_targets.Given as goal
 
 abbrev pub invariant-loop-target : goal.invariant-loop-target
