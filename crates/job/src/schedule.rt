@@ -1,5 +1,5 @@
 // How the turns of a run are given; the turns of an accepted job are its last commands, 2 bytes each.
-ghost use Rattle.std.specs.Prelude.{◌≡◌, None};
+ghost use Rattle.std.specs.Prelude.{◌≡◌, None, true, false};
 ghost use Rattle.job.specs.Prepared.{turn_in};
 ghost use Rattle.job.specs.Scheduling.{budget_refusal, turns_by};
 
@@ -14,6 +14,37 @@ use declared::count_of;
 pub enum Schedule {
     Written,
     Dispatched(u64),
+}
+
+// What a run is asked to be: how its turns are given, and monitored (01's "watched") or unmonitored ("bare").
+#[derive(Clone, Copy)]
+pub struct Order {
+    pub schedule: Schedule,
+    pub monitored: bool,
+}
+
+impl Schedule {
+    // A monitored run, its turns given in this way.
+    pub fn monitored(self) -> Order
+        ensures schedule { result.schedule ≡ self }
+        ensures monitored { result.monitored ≡ true }
+    {
+        Order {
+            schedule: self,
+            monitored: true,
+        }
+    }
+
+    // An unmonitored run, its turns given in this way.
+    pub fn unmonitored(self) -> Order
+        ensures schedule { result.schedule ≡ self }
+        ensures monitored { result.monitored ≡ false }
+    {
+        Order {
+            schedule: self,
+            monitored: false,
+        }
+    }
 }
 
 // The node of turn k, counted from 0, of the job that the tables stand for; node 0 after the last turn.
