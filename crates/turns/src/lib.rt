@@ -24,7 +24,7 @@ use declared::count_of;
 use ending::{CountedEnding, Ending, Halt};
 use engine::{State, start};
 use handlers::fetch::fetch;
-use job::schedule::{Schedule, turn_at, turns_in};
+use job::schedule::{Order, Schedule, turn_at, turns_in};
 use output::numbers::Numbers;
 use output::snapshot::put_snapshot;
 use output::trace::put_entry;
@@ -69,22 +69,21 @@ fn put_state(snapshot: &mut [u8], state: &State, tables: &[u32]) -> usize
     put_snapshot(snapshot, state, nodes, variables)
 }
 
-// The run of an accepted job from the start to its last turn or a stop, its turns given in either way: how it ended and what was examined,
+// The run of an accepted job from the start to its last turn or a stop, as an order asks for it: how it ended and what was examined,
 // its entries in the trace, and the snapshot of its last state.
 pub fn run_turns(
     job: &[u8],
     tables: &[u32],
     work: &[u8],
-    schedule: Schedule,
+    order: Order,
     trace: &mut [u8],
     snapshot: &mut [u8],
-    monitored: bool,
 ) -> CountedEnding
     requires loaded { Loaded job.now tables.now work.now }
-    requires schedule_value { budget_refusal schedule ≡ None }
-    requires tables_in_bounds { (7 * turns_by schedule tables.now ≤ length trace.old) × (snapshot_size ≤ length snapshot.old) }
+    requires schedule_value { budget_refusal order.schedule ≡ None }
+    requires tables_in_bounds { (7 * turns_by order.schedule tables.now ≤ length trace.old) × (snapshot_size ≤ length snapshot.old) }
     ensures { (past : List Command) → decode_job job.now ≡ accepted past
-        → RunsAs (program_of past) (run_of schedule monitored past) trace.old snapshot.old
+        → RunsAs (program_of past) (run_of order.schedule order.monitored past) trace.old snapshot.old
         trace.new snapshot.new result }
 {
     let mut state = start(tables);
@@ -93,9 +92,9 @@ pub fn run_turns(
     let mut examined: u32 = 0;
     let mut from: u32 = 0;
     let mut at: usize = 0;
-    let last = turns_in(schedule, tables);
+    let last = turns_in(order.schedule, tables);
     for k in 0..last {
-        let choice = choice_of(job, tables, schedule, k, from, &state);
+        let choice = choice_of(job, tables, order.schedule, k, from, &state);
         examined += choice.examined;
         let Some(n) = choice.node else {
             halt = Halt::NobodyReady;
@@ -103,7 +102,7 @@ pub fn run_turns(
         };
         from = n.0 + 1;
         let fetched = fetch(job, tables, work, n, state.position[n.0 as usize]);
-        let turned = state.turn(tables, fetched, n, monitored);
+        let turned = state.turn(tables, fetched, n, order.monitored);
         state = turned.state;
         match turned.outcome {
             Ok(entry) => {
