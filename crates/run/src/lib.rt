@@ -15,7 +15,7 @@ use answer::Handed;
 use command::refusal::Refusal;
 use handlers::load::load;
 use job::buffers::{Lengths, WORK, judge};
-use job::schedule::Schedule;
+use job::schedule::{Order, Schedule};
 use tables::cells::CELLS;
 use turns::ending::{CountedEnding, Ending};
 use turns::run_turns;
@@ -25,46 +25,44 @@ use writing::put_zeros;
 // buffers, zeros at that of the work buffer.
 fn run_accepted(
     job: &[u8],
-    schedule: Schedule,
+    order: Order,
     tables: &[u32; CELLS],
     trace: &mut [u8],
     snapshot: &mut [u8],
     work: &mut [u8],
-    monitored: bool,
 ) -> CountedEnding
-    requires { AcceptedWith schedule job.now tables.now (sizes_of (buffers trace.old snapshot.old work.old)) }
-    ensures { DeliversRun schedule monitored job.now
+    requires { AcceptedWith order.schedule job.now tables.now (sizes_of (buffers trace.old snapshot.old work.old)) }
+    ensures { DeliversRun order.schedule order.monitored job.now
         (buffers trace.old snapshot.old work.old)
         (buffers trace.new snapshot.new work.new) result }
 {
     load(job, work);
-    let made = run_turns(job, tables, work, schedule, trace, snapshot, monitored);
+    let made = run_turns(job, tables, work, order, trace, snapshot);
     put_zeros(work, WORK);
     made
 }
 
-// The run of any job with any buffers, monitored or not, its turns given in either way. A bool says by which rule, and no closure: the
-// definitions choose by it too (`rule_of`). Trace, snapshot and work buffer go one by one, as C hands them over.
+// The run of any job with any buffers, as an order asks for it. A bool of it says by which rule, and no closure: the definitions choose by
+// it too (`rule_of`). Trace, snapshot and work buffer go one by one, as C hands them over.
 pub fn run(
     job: &[u8],
-    schedule: Schedule,
+    order: Order,
     trace: &mut [u8],
     snapshot: &mut [u8],
     work: &mut [u8],
-    monitored: bool,
 ) -> Handed
     ensures told { told_by result.answer ≡ told_in
-        (handed_with schedule monitored job.now trace.old snapshot.old work.old).result }
+        (handed_with order.schedule order.monitored job.now trace.old snapshot.old work.old).result }
     ensures examined { result.examined ≡
-        (handed_with schedule monitored job.now trace.old snapshot.old work.old).examined }
+        (handed_with order.schedule order.monitored job.now trace.old snapshot.old work.old).examined }
     ensures trace { trace.new ≡ trace_after
-        (handed_with schedule monitored job.now trace.old snapshot.old work.old).result
+        (handed_with order.schedule order.monitored job.now trace.old snapshot.old work.old).result
         trace.old }
     ensures snapshot { snapshot.new ≡ snapshot_after
-        (handed_with schedule monitored job.now trace.old snapshot.old work.old).result
+        (handed_with order.schedule order.monitored job.now trace.old snapshot.old work.old).result
         snapshot.old }
     ensures work { work.new ≡ work_after
-        (handed_with schedule monitored job.now trace.old snapshot.old work.old).result
+        (handed_with order.schedule order.monitored job.now trace.old snapshot.old work.old).result
         work.old }
 {
     let lengths = Lengths {
@@ -73,13 +71,13 @@ pub fn run(
         work: work.len(),
     };
     let mut tables = [0u32; CELLS];
-    if let Err(refusal) = judge(job, schedule, &mut tables, lengths) {
+    if let Err(refusal) = judge(job, order.schedule, &mut tables, lengths) {
         return Handed {
             answer: Err(refusal),
             examined: 0,
         };
     }
-    let made = run_accepted(job, schedule, &tables, trace, snapshot, work, monitored);
+    let made = run_accepted(job, order, &tables, trace, snapshot, work);
     Handed {
         answer: Ok(made.ending),
         examined: made.examined,
@@ -102,7 +100,7 @@ pub fn run_monitored(
     ensures work { work.new ≡ work_after
         (monitored_with job.now trace.old snapshot.old work.old) work.old }
 {
-    run(job, Schedule::Written, trace, snapshot, work, true).answer
+    run(job, Schedule::Written.monitored(), trace, snapshot, work).answer
 }
 
 // The unmonitored run (01's "bare").
@@ -121,7 +119,7 @@ pub fn run_unmonitored(
     ensures work { work.new ≡ work_after
         (unmonitored_with job.now trace.old snapshot.old work.old) work.old }
 {
-    run(job, Schedule::Written, trace, snapshot, work, false).answer
+    run(job, Schedule::Written.unmonitored(), trace, snapshot, work).answer
 }
 
 // The monitored run (01's "watched") of a job without TURN commands, its turns dispatched with a budget.
@@ -147,7 +145,7 @@ pub fn dispatch_monitored(
         work.old }
 {
     let schedule = Schedule::Dispatched(budget);
-    run(job, schedule, trace, snapshot, work, true)
+    run(job, schedule.monitored(), trace, snapshot, work)
 }
 
 // The unmonitored run (01's "bare") of a job without TURN commands, its turns dispatched with a budget.
@@ -173,5 +171,5 @@ pub fn dispatch_unmonitored(
         work.old }
 {
     let schedule = Schedule::Dispatched(budget);
-    run(job, schedule, trace, snapshot, work, false)
+    run(job, schedule.unmonitored(), trace, snapshot, work)
 }

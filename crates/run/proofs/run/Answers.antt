@@ -8,7 +8,7 @@ run_accepted-made-requires c = let a = is-accepted _ _ _ c.in_default.ensures.ju
     record { past = a.past; decoded = a.decoded; stands = a.stands }
 
 pub returns-in-Err : goal.returns-in-Err
-returns-in-Err c = let d = reports_refused c.args.schedule c.args.monitored c.args.job.now (buffers c.args.trace.now c.args.snapshot.now c.args.work.now) _
+returns-in-Err c = let d = reports_refused c.args.order.schedule c.args.order.monitored c.args.job.now (buffers c.args.trace.now c.args.snapshot.now c.args.work.now) _
     (is-refused _ _ _ c.in-Err.ensures.judged) in
     let l = d.delivers.left in
     record {
@@ -21,7 +21,7 @@ returns-in-Err c = let d = reports_refused c.args.schedule c.args.monitored c.ar
 
 pub returns : goal.returns
 returns c = let a = is-accepted _ _ _ c.in_default.ensures.judged in
-    let d = reports_ran c.args.schedule c.args.monitored c.args.job.now (buffers c.args.trace.now c.args.snapshot.now c.args.work.now)
+    let d = reports_ran c.args.order.schedule c.args.order.monitored c.args.job.now (buffers c.args.trace.now c.args.snapshot.now c.args.work.now)
     (buffers _ _ _) _
     a.past a.decoded c.run_accepted-made.ensures in
     let l = d.delivers.left in

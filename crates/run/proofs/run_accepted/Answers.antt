@@ -18,5 +18,5 @@ put_zeros-requires c = omega (arith, work-fits _ _ _ _ c.requires)
 
 pub returns : goal.returns
 returns c = let b = buffers c.args.trace.now c.args.snapshot.now c.args.work.now in
-    hands-over c.args.schedule c.args.job.now c.args.tables.now b c.requires c.args.monitored _ _ _ c.run_turns-made.ensures _ _
+    hands-over c.args.order.schedule c.args.job.now c.args.tables.now b c.requires c.args.order.monitored _ _ _ c.run_turns-made.ensures _ _
     (rw c.load.ensures at c.put_zeros.ensures)
