@@ -17,7 +17,7 @@ use command::bytes;
 use command::refusal::Refusal;
 use declared::count_of;
 use job::decode;
-use job::schedule::Schedule;
+use job::schedule::{Order, Schedule};
 use lines::answer::AnswerNumbers;
 use lines::tallies::put_tally_lines;
 use lines::{put_examined, put_refusal, put_run};
@@ -103,43 +103,42 @@ fn has_room(text: &[u8], at: usize) -> bool
     at <= text.len() && TEXT <= text.len() - at
 }
 
-// Runs a job and puts the lines of its run into the text. If the text has no room for what a run may print, it answers None, and nothing is
+// Runs a job as an order asks for it, and puts the lines of its run into the text. If the text has no room for what a run may print, it answers None, and nothing is
 // run or changed. Trace, snapshot and work buffer are lent one by one, as `run` takes them.
 pub fn run_to_text(
     text: &mut [u8],
     at: usize,
     job: &[u8],
-    schedule: Schedule,
+    order: Order,
     trace: &mut [u8],
     snapshot: &mut [u8],
     work: &mut [u8],
-    monitored: bool,
 ) -> Option<Printed>
     ensures end { place_after at result ≤ at + text_size }
     ensures answer { said_by result ≡ cond (has_room text.old at)
-        (Some (said_of at schedule job.now
-        (handed_with schedule monitored job.now trace.old snapshot.old work.old))) None }
+        (Some (said_of at order.schedule job.now
+        (handed_with order.schedule order.monitored job.now trace.old snapshot.old work.old))) None }
     ensures text { text.new ≡ cond (has_room text.old at)
-        (placed text.old at (lines_by schedule job.now
-        (handed_with schedule monitored job.now trace.old snapshot.old work.old)))
+        (placed text.old at (lines_by order.schedule job.now
+        (handed_with order.schedule order.monitored job.now trace.old snapshot.old work.old)))
         text.old }
     ensures trace { trace.new ≡ cond (has_room text.old at)
         (trace_after
-        (handed_with schedule monitored job.now trace.old snapshot.old work.old).result
+        (handed_with order.schedule order.monitored job.now trace.old snapshot.old work.old).result
         trace.old) trace.old }
     ensures snapshot { snapshot.new ≡ cond (has_room text.old at)
         (snapshot_after
-        (handed_with schedule monitored job.now trace.old snapshot.old work.old).result
+        (handed_with order.schedule order.monitored job.now trace.old snapshot.old work.old).result
         snapshot.old) snapshot.old }
     ensures work { work.new ≡ cond (has_room text.old at)
         (work_after
-        (handed_with schedule monitored job.now trace.old snapshot.old work.old).result
+        (handed_with order.schedule order.monitored job.now trace.old snapshot.old work.old).result
         work.old) work.old }
 {
     if !has_room(text, at) {
         return None;
     }
-    let handed = run(job, schedule, trace, snapshot, work, monitored);
+    let handed = run(job, order, trace, snapshot, work);
     let answer = handed.answer;
     match answer {
         Err(refusal) => {
@@ -149,7 +148,7 @@ pub fn run_to_text(
         }
         Ok(ending) => {
             let next = put_ended(text, at, ending, job, trace, snapshot);
-            let end = put_total(text, next, schedule, handed.examined);
+            let end = put_total(text, next, order.schedule, handed.examined);
             Some(Printed { end, answer })
         }
     }

@@ -33,15 +33,15 @@ module _ (c : In-Ok) where
   left = buffers c.run-handed.new.trace c.run-handed.new.snapshot c.run-handed.new.work
 
   abbrev given : Handed
-  given = handed_for c.args.schedule c.args.monitored c.args.job.now (sizes_of before)
+  given = handed_for c.args.order.schedule c.args.order.monitored c.args.job.now (sizes_of before)
 
   delivered : Delivers given.result before left c.run-handed.result.answer
   delivered =
       delivers_by given.result before left c.run-handed.result.answer c.run-handed.ensures.told c.run-handed.ensures.trace
       c.run-handed.ensures.snapshot c.run-handed.ensures.work
 
-  ended : EndedAs c.args.schedule c.args.monitored c.args.job.now before left c.in-Ok.ending
-  ended = ended_as c.args.schedule c.args.monitored c.args.job.now before left _ _ delivered c.in-Ok.is
+  ended : EndedAs c.args.order.schedule c.args.order.monitored c.args.job.now before left c.in-Ok.ending
+  ended = ended_as c.args.order.schedule c.args.order.monitored c.args.job.now before left _ _ delivered c.in-Ok.is
 
   short : length (ended_lines c.args.job.now (answer_of c.in-Ok.ending) left.trace left.snapshot) + 30 ≤ text_size
   short = lines-short _ _ _ _ _ _ ended (λ i. omega (arith, c.slice_known-5-1.given i)) (λ i. omega (arith, c.slice_known-6-1.given i))
@@ -74,17 +74,17 @@ put_total-end-requires c =
       short i,
       c.put_ended-next.ensures.place,
       kept-length _ _ _ _ _ c.put_ended-next.ensures (omega (arith, wide, short i)),
-      total-short c.args.schedule c.run-handed.result.examined,
+      total-short c.args.order.schedule c.run-handed.result.examined,
     )
 
 pub returns-in-Err : goal.returns-in-Err
 returns-in-Err c = let before = buffers c.args.trace.now c.args.snapshot.now c.args.work.now in
-    let h = handed_for c.args.schedule c.args.monitored c.args.job.now (sizes_of before) in
+    let h = handed_for c.args.order.schedule c.args.order.monitored c.args.job.now (sizes_of before) in
     let d = delivers_by h.result before (buffers _ _ _) c.run-handed.result.answer c.run-handed.ensures.told c.run-handed.ensures.trace c.run-handed.ensures.snapshot c.run-handed.ensures.work in
-    let same = refused-same c.args.schedule c.args.job.now h (refusal_of c.in-Err.refusal) (refused-result _ _ _ _ _ d c.in-Err.is) in
+    let same = refused-same c.args.order.schedule c.args.job.now h (refusal_of c.in-Err.refusal) (refused-result _ _ _ _ _ d c.in-Err.is) in
     let puts = rw (c.number-number.ensures, same) at c.put_refusal-end.ensures in
     let run = rw c.in-Err.is at d in
-    let puts_all = put_as _ c.args.schedule c.args.job.now _ _ _ _ h before _ (Err c.in-Err.refusal)
+    let puts_all = put_as _ c.args.order.schedule c.args.job.now _ _ _ _ h before _ (Err c.in-Err.refusal)
     (sym c.has_room.ensures ∙ c.if-not-has_room.false) puts run in
     record {
       end = omega (arith, c.put_refusal-end.ensures.place, refused-short c.number-number.result c.in-Err.refusal.place);
@@ -100,11 +100,11 @@ returns-in-Ok c =
     let i = (goal.at.returns-in-Ok c).In-Ok in
     let room = sym c.has_room.ensures ∙ c.if-not-has_room.false in
     let wide = large _ _ room in
-    let more = total-short c.args.schedule c.run-handed.result.examined in
+    let more = total-short c.args.order.schedule c.run-handed.result.examined in
     let both = writes-on _ _ _ _ _ _ _ _ (omega (arith, wide, short i, more)) c.put_ended-next.ensures c.put_total-end.ensures in
     let puts = rw (lines_same _ _ _ _ _ _ (ended i) c.run-handed.result.examined c.run-handed.ensures.examined) at both in
     let run = rw c.in-Ok.is at (delivered i) in
-    let puts_all = put_as _ c.args.schedule c.args.job.now _ _ _ _ (given i) (before i) _ (Ok c.in-Ok.ending) room puts run in
+    let puts_all = put_as _ c.args.order.schedule c.args.job.now _ _ _ _ (given i) (before i) _ (Ok c.in-Ok.ending) room puts run in
     record {
       end = omega (arith, c.put_ended-next.ensures.place, c.put_total-end.ensures.place, short i, more);
       answer = puts_all.0;
