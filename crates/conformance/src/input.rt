@@ -3,15 +3,13 @@ ghost use Rattle.std.specs.Prelude.{◌≤◌, IfSome, IsTrue, length};
 ghost use Rattle.conformance.specs.Input.{HeadFits};
 
 use crate::buffers::ChangedByte;
-use job::schedule::Schedule;
+use job::schedule::{Order, Schedule};
 use std::io::Read;
 
-// What a run is asked to be: how its turns are given, monitored or not, which byte is changed after it, what its buffers hold before it,
-// and the lengths of its job and of its buffers.
+// What a run is asked to be, which byte is changed after it, what its buffers hold before it, and the lengths of its job and its buffers.
 #[derive(Clone, Copy)]
 pub struct Head {
-    pub schedule: Schedule,
-    pub monitored: bool,
+    pub order: Order,
     pub change: ChangedByte,
     pub seed: u8,
     pub job: usize,
@@ -34,12 +32,16 @@ fn pair(low: u8, high: u8) -> u16 {
     u16::from_le_bytes([low, high])
 }
 
-// How the turns are given, by the first byte of a head: dispatched with this budget from 16 on.
-fn schedule_of(flags: u8, budget: u16) -> Schedule {
-    if flags < 16 {
+// What the first byte of a head asks a run to be: dispatched with this budget from 16 on, monitored if it is even.
+fn order_of(flags: u8, budget: u16) -> Order {
+    let schedule = if flags < 16 {
         Schedule::Written
     } else {
         Schedule::Dispatched(u64::from(budget))
+    };
+    Order {
+        schedule,
+        monitored: flags % 2 == 0,
     }
 }
 
@@ -62,8 +64,7 @@ fn read_head(reader: &mut impl Read) -> Option<Head> {
     let mut head = [0u8; 12];
     read_full(reader, &mut head)?;
     Some(Head {
-        schedule: schedule_of(head[0], pair(head[10], head[11])),
-        monitored: head[0] % 2 == 0,
+        order: order_of(head[0], pair(head[10], head[11])),
         change: ChangedByte::from(head[0] / 2 % 8),
         seed: head[1],
         job: usize::from(pair(head[2], head[3])),

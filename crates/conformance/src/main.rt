@@ -49,16 +49,7 @@ fn conform(
     ensures { result ≤ at + 131080 }
 {
     fill_all(trace, snapshot, work, head.seed);
-    let printed = run_to_text(
-        text,
-        at,
-        job,
-        head.schedule,
-        trace,
-        snapshot,
-        work,
-        head.monitored,
-    );
+    let printed = run_to_text(text, at, job, head.order, trace, snapshot, work);
     match printed {
         Some(Printed { end, answer }) => {
             change_one(trace, snapshot, work, head.change);

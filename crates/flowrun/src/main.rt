@@ -10,7 +10,7 @@ ghost use Rattle.flowrun.specs.Numbers.{number_as};
 ghost use Rattle.printing.specs.Printing.{lines_by, text_size};
 
 use job::buffers::{SNAPSHOT, WORK};
-use job::schedule::Schedule;
+use job::schedule::{Order, Schedule};
 use printing::{TEXT, run_to_text};
 use std::env::{Env, FillError};
 use std::io;
@@ -21,13 +21,6 @@ const JOB: usize = 16385;
 
 // The bytes of the trace buffer: 7 for each of 4,096 turns.
 const TRACE: usize = 28672;
-
-// What the program is started for: a run, its turns given in this way, monitored or not.
-#[derive(Clone, Copy)]
-struct Order {
-    schedule: Schedule,
-    monitored: bool,
-}
 
 // The words that the arguments may be, besides a budget.
 const BARE: &[u8] = b"bare";
@@ -132,17 +125,8 @@ fn put_lines(text: &mut [u8], job: &[u8], order: Order) -> usize
     let mut trace = [0u8; TRACE];
     let mut snapshot = [0u8; SNAPSHOT];
     let mut work = [0u8; WORK];
-    run_to_text(
-        text,
-        0,
-        job,
-        order.schedule,
-        &mut trace,
-        &mut snapshot,
-        &mut work,
-        order.monitored,
-    )
-    .map_or(0, |printed| printed.end)
+    let printed = run_to_text(text, 0, job, order, &mut trace, &mut snapshot, &mut work);
+    printed.map_or(0, |run| run.end)
 }
 
 // Says on standard error why there are no lines. Where even that cannot be written, nothing is left to say.

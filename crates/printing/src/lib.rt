@@ -103,8 +103,8 @@ fn has_room(text: &[u8], at: usize) -> bool
     at <= text.len() && TEXT <= text.len() - at
 }
 
-// Runs a job as an order asks for it, and puts the lines of its run into the text. If the text has no room for what a run may print, it answers None, and nothing is
-// run or changed. Trace, snapshot and work buffer are lent one by one, as `run` takes them.
+// Runs a job as an order asks for it, and puts the lines of its run into the text. If the text has no room for what a run may print, it
+// answers None, and nothing is run or changed. Trace, snapshot and work buffer are lent one by one, as `run` takes them.
 pub fn run_to_text(
     text: &mut [u8],
     at: usize,
