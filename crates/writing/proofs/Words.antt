@@ -3,8 +3,7 @@ use Prim.Native.Nat.{ℕ, ◌+◌, ◌*◌, ◌≤◌}
 use mathlib.Core.Path.{◌≡◌, refl, ap, ◌∙◌}
 use mathlib.Core.List.{List, [], ◌∷◌, ◌++◌}
 use native.Mathlib.Omega.{arith}
-use lib.ListN.{length, get_or, take}
-use lib.Seq.{length-take-le}
+use lib.ListN.{length, get_or}
 use Rattle.model.specs.Output.{bytes4}
 use Rattle.writing.specs.Writing.{numbers_bytes, joined}
 use Rattle.writing.proofs.Putting.{first_shift}
@@ -22,11 +21,10 @@ unfolding numbers_bytes
 length-numbers [] = refl
 length-numbers (v ∷ vs) = omega (arith, length-numbers vs)
 
--- room for the first numbers
-pub numbers-room : (vs before : List ℕ) (at count : ℕ) → count ≤ length vs → at + 4 * count ≤ length before
-    → at + length (joined (λ i. bytes4 (get_or (take count vs) i 0)) (length (take count vs))) ≤ length before
-numbers-room vs before at count inside fits =
-    rw numbers-each (omega (arith, length-numbers (take count vs), length-take-le count vs inside, fits))
+-- room for them
+pub numbers-room : (vs before : List ℕ) (at : ℕ) → at + 4 * length vs ≤ length before
+    → at + length (joined (λ i. bytes4 (get_or vs i 0)) (length vs)) ≤ length before
+numbers-room vs before at fits = rw numbers-each (omega (arith, length-numbers vs, fits))
 
 -- one number more at the end
 pub numbers_snoc : (vs : List ℕ) (v : ℕ) → numbers_bytes (vs ++ (v ∷ [])) ≡ numbers_bytes vs ++ bytes4 v

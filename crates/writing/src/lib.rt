@@ -2,7 +2,7 @@
 // clauses speak of the buffer before and after, and a struct that lends it would hide that.
 #![tactic(auto)]
 
-ghost use Rattle.std.specs.Prelude.{[], ◌∷◌, ◌+◌, ◌*◌, ◌≤◌, ◌<◌, length, take, replicate};
+ghost use Rattle.std.specs.Prelude.{[], ◌∷◌, ◌+◌, ◌*◌, ◌≤◌, ◌<◌, length, replicate};
 ghost use Rattle.model.specs.Output.{bytes4};
 ghost use Rattle.writing.specs.Writing.{numbers_bytes, Writes};
 
@@ -33,13 +33,13 @@ pub fn put_word(buffer: &mut [u8], at: usize, value: u32) -> usize
     put_all(buffer, at, &value.to_le_bytes())
 }
 
-// Writes the first values as 4 bytes each. Their number stands beside them, as in the clause.
-pub fn put_words(buffer: &mut [u8], at: usize, values: &[u32], count: usize) -> usize
-    requires { (at + 4 * count ≤ length buffer.old) × (count ≤ length values.now) }
-    ensures { Writes (numbers_bytes (take count values.now)) buffer.old at buffer.new result }
+// Writes values as 4 bytes each.
+pub fn put_words(buffer: &mut [u8], at: usize, values: &[u32]) -> usize
+    requires { at + 4 * length values.now ≤ length buffer.old }
+    ensures { Writes (numbers_bytes values.now) buffer.old at buffer.new result }
 {
     let mut next = at;
-    for &value in &values[..count] {
+    for &value in values {
         next = put_word(buffer, next, value);
     }
     next
