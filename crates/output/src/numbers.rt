@@ -2,11 +2,32 @@
 ghost use Rattle.std.specs.Prelude.{◌≡◌};
 ghost use Rattle.model.specs.Turn.{entry};
 ghost use Rattle.entries.specs.Entries.{numbers_of};
-ghost use Rattle.output.specs.Written.{entry_with};
+ghost use Rattle.output.specs.Written.{entry_with, kind_number};
 
 use entries::{Entry, Event};
 
-// Node, kind, number and value, as trace and lines show them: the kind is 01's number.
+// The kinds of entries; the numbers are 01's.
+#[derive(Clone, Copy)]
+pub enum Kind {
+    Other = 0,
+    Begin = 1,
+    Finish = 2,
+    Read = 3,
+    Write = 4,
+    Call = 5,
+    Send = 6,
+}
+
+impl Kind {
+    // The number of the kind.
+    pub fn number(self) -> u8
+        ensures { result ≡ kind_number self }
+    {
+        self as u8
+    }
+}
+
+// Node, kind, number and value, as trace and lines show them: the kind is 01's number, or any other that a file keeps.
 #[derive(Clone, Copy)]
 pub struct Numbers {
     pub node: u32,
@@ -16,12 +37,12 @@ pub struct Numbers {
 }
 
 // These numbers together.
-fn numbered(node: u32, kind: u32, number: u32, value: u32) -> Numbers
-    ensures { entry_with result ≡ entry node kind number value }
+fn numbered(node: u32, kind: Kind, number: u32, value: u32) -> Numbers
+    ensures { entry_with result ≡ entry node (kind_number kind) number value }
 {
     Numbers {
         node,
-        kind,
+        kind: u32::from(kind.number()),
         number,
         value,
     }
@@ -34,13 +55,18 @@ impl From<Entry> for Numbers {
     fn from(entry: Entry) -> Numbers {
         let node = entry.node.0;
         match entry.event {
-            Event::Other => numbered(node, 0, 0, 0),
-            Event::Begin(sender, message) => numbered(node, 1, u32::from(sender), message),
-            Event::Finish => numbered(node, 2, 0, 0),
-            Event::Read(x, value) => numbered(node, 3, x.0, value),
-            Event::Write(x, value) => numbered(node, 4, x.0, value),
-            Event::Call(f, argument) => numbered(node, 5, f.0, argument),
-            Event::Send(port, value) => numbered(node, 6, port, value),
+            Event::Other => numbered(node, Kind::Other, 0, 0),
+            Event::Begin(sender, message) => numbered(
+                node,
+                Kind::Begin,
+                u32::from(sender),
+                message,
+            ),
+            Event::Finish => numbered(node, Kind::Finish, 0, 0),
+            Event::Read(x, value) => numbered(node, Kind::Read, x.0, value),
+            Event::Write(x, value) => numbered(node, Kind::Write, x.0, value),
+            Event::Call(f, argument) => numbered(node, Kind::Call, f.0, argument),
+            Event::Send(port, value) => numbered(node, Kind::Send, port, value),
         }
     }
 }

@@ -11,7 +11,8 @@ pub fn waiting_in(snapshot: &[u8], place: usize) -> u8
 }
 
 // Where the part behind that of node n begins, by the place of that one. A part has at most 10 + 5 * 255 bytes, by the byte that tells how
-// many messages wait; no snapshot has 2^63 bytes.
+// many messages wait; no snapshot has 2^63 bytes. That the place is the one of node n stays a clause: both come from anyone, and a struct of
+// them would have to hold the snapshot too.
 pub fn next_part(snapshot: &[u8], place: usize, n: usize) -> usize
     requires place_value { place ≡ part_at snapshot.now n }
     requires place_bound { place < 2 ^ 63 }

@@ -63,7 +63,7 @@ fn put_variables(
         snapshot.new result }
     ensures place { result ≡ length (shown_bytes (view state.now) nodes variables) }
 {
-    put_words(snapshot, at, &state.variable, variables)
+    put_words(snapshot, at, &state.variable[..variables])
 }
 
 // Writes the snapshot of a state: its first nodes and its first variables, as many as are asked for. That the buffer has room for every
