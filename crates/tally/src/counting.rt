@@ -10,6 +10,7 @@ ghost use Rattle.tally.specs.Counted.{Adds, Numbered};
 use command::numbers::NodeNum;
 use command::read::operand;
 use declared::targets_of;
+use output::numbers::Kind;
 
 // Adds one for each target, of those that are the bits of a number, up to its highest. That no count is near its end stays a clause, here and
 // below: the caller has the array, and counts from 0. A loop of its own: by `Places` 4,096 sends to 31 nodes take 134 µs in place of 83, and
@@ -35,7 +36,7 @@ fn add_sent(counts: &mut [u64; 32], tables: &[u32], trace: &[u8], k: usize)
         counts.old counts.new }
 {
     let place = 7 * k;
-    if trace[place + 1] == 6 {
+    if trace[place + 1] == Kind::Send.number() {
         let node = NodeNum(operand(trace, place, 1));
         let port = operand(trace, place + 2, 1);
         add_targets(counts, targets_of(tables, node, port));
@@ -50,14 +51,13 @@ fn add_taken(counts: &mut [u64; 32], trace: &[u8], k: usize)
 {
     let place = 7 * k;
     let node = operand(trace, place, 1) as usize;
-    if trace[place + 1] == 1 {
-        if node < 32 {
-            counts[node] += 1;
-        }
+    if trace[place + 1] == Kind::Begin.number() && node < 32 {
+        counts[node] += 1;
     }
 }
 
-// Counts the first entries: what each node received, and what it took.
+// Counts the first entries: what each node received, and what it took. That the trace has so many stays a clause: the caller has just
+// divided its length.
 pub fn count_entries(
     arrivals: &mut [u64; 32],
     takings: &mut [u64; 32],

@@ -15,10 +15,7 @@ use writing::put_all;
 fn count_started(tables: &[u32], n: NodeNum) -> u64
     ensures { (hs : Handlers) → result ≡ started (program_in tables.now hs) n.0 }
 {
-    match first_message(tables, n) {
-        Some(_) => 1,
-        None => 0,
-    }
+    u64::from(first_message(tables, n).is_some())
 }
 
 // Writes the counts of the first nodes, four a node: started, received, taken, waiting. The place of each node's part of the snapshot (01's

@@ -1,12 +1,16 @@
-use mathlib.Core.Path.{ap}
+use Prim.Native.Nat.{ℕ}
+use mathlib.Core.Path.{◌≡◌, refl, ap, ◌∙◌}
+use mir.Val.{bool_byte}
 use lib.ListN.{length}
+use Rattle.std.proofs.Common.{Option, None, Some, is_some, option_to_list}
 use Rattle.tables.specs.Programs.{program_in}
 use Rattle.tally.proofs.nodes.count_started.Goals as goal
 
-pub returns-in-Some : goal.returns-in-Some
-unfolding program_in
-returns-in-Some c hs = ap length (rw c.in-Some.is at c.first_message.ensures)
+-- a message is one, and none is none
+one-or-none : (o : Option ℕ) → bool_byte (is_some o) ≡ length (option_to_list o)
+one-or-none None = refl
+one-or-none (Some x) = refl
 
-pub returns-in-None : goal.returns-in-None
+pub returns : goal.returns
 unfolding program_in
-returns-in-None c hs = ap length (rw c.in-None.is at c.first_message.ensures)
+returns c hs = c.from.ensures ∙ ap bool_byte c.is_some.ensures ∙ one-or-none c.first_message.result ∙ ap length c.first_message.ensures
