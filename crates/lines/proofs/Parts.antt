@@ -5,7 +5,7 @@ use mathlib.Core.List.{List, ◌++◌}
 use native.Mathlib.Omega.{arith}
 use lib.ListN.{length}
 use Rattle.writing.specs.Writing.{joined, Writes}
-use Rattle.writing.proofs.Putting.{Put, all-put, front-room, back-room, two_put, room-first, room-second, room-third, three_put}
+use Rattle.writing.proofs.Putting.{front-room, back-room, two_put, room-first, room-second, room-third, three_put}
 use Rattle.model.specs.Output.{Answer}
 use Rattle.output.specs.Finding.{next_part, part_at}
 use Rattle.output.proofs.Finding.{part_next}
@@ -30,37 +30,38 @@ part-inside snapshot nodes variables n place fits inside e =
           (omega arith),
     )
 
-module _ (snapshot : List ℕ) (nodes variables : ℕ) (before : List ℕ) (at : ℕ)
-    (fits : at + length (snapshot_lines snapshot nodes variables) ≤ length before) where
+-- room for the lines of the nodes, in a text that has room for those of the snapshot
+pub nodes-room :
+    (snapshot : List ℕ) (nodes variables : ℕ) (before : List ℕ) (at : ℕ) → at + length (snapshot_lines snapshot nodes variables) ≤ length before
+    → at + length (joined (part_line snapshot) nodes) ≤ length before
+unfolding snapshot_lines
+nodes-room snapshot nodes variables before at fits =
+    front-room (node_lines snapshot nodes) (joined (variable_line snapshot (part_at snapshot nodes)) variables) before at fits
+
+-- behind the lines of the nodes, at the place of the variables: room for theirs, and with them the snapshot
+pub record Behind (snapshot : List ℕ) (nodes variables : ℕ) (before : List ℕ) (at place : ℕ) (buffer : List ℕ) (next : ℕ) : Type 0 where
+  pub fits : at + length (snapshot_lines snapshot nodes variables) ≤ length before
+  pub here : place ≡ part_at snapshot nodes
+  pub shown : Writes (node_lines snapshot nodes) before at buffer next
+
+module _ {snapshot : List ℕ} {nodes variables : ℕ} {before : List ℕ} {at place : ℕ} {buffer : List ℕ} {next : ℕ}
+    (b : Behind snapshot nodes variables before at place buffer next) where
   abbrev lines : List ℕ
   lines = joined (variable_line snapshot (part_at snapshot nodes)) variables
 
   parts : at + length (node_lines snapshot nodes ++ lines) ≤ length before
   unfolding snapshot_lines
-  parts = fits
+  parts = b.fits
 
-  pub nodes-room : at + length (joined (part_line snapshot) nodes) ≤ length before
-  nodes-room = front-room (node_lines snapshot nodes) lines before at parts
+  pub variables-room : next + length (joined (variable_line snapshot place) variables) ≤ length buffer
+  variables-room = rw b.here (back-room (node_lines snapshot nodes) lines before at parts buffer next b.shown)
 
-  module _ (n place : ℕ) (low : n ≤ nodes) (high : nodes ≤ n) (e : place ≡ part_at snapshot n) (buffer : List ℕ) (next : ℕ)
-      (w : Put (part_line snapshot) before at n buffer next) where
-    nodes-put : Writes (node_lines snapshot nodes) before at buffer next
-    nodes-put = all-put (part_line snapshot) before at nodes n buffer next low high w
-
-    pub here : place ≡ part_at snapshot nodes
-    here = let same : n ≡ nodes = omega arith in rw same at e
-
-    pub variables-inside : part_at snapshot nodes + 4 * variables ≤ length snapshot → place + 4 * variables ≤ length snapshot
-    variables-inside h = omega (arith, here)
-
-    pub variables-room : next + length (joined (variable_line snapshot place) variables) ≤ length buffer
-    variables-room = rw here (back-room (node_lines snapshot nodes) lines before at parts buffer next nodes-put)
-
-    pub snapshot-put :
-        (after : List ℕ) (last : ℕ) → Writes (joined (variable_line snapshot place) variables) buffer next after last
-        → Writes (snapshot_lines snapshot nodes variables) before at after last
-    unfolding snapshot_lines
-    snapshot-put after last p = two_put (node_lines snapshot nodes) lines before at parts buffer next nodes-put after last (rw here at p)
+  pub snapshot-put :
+      {after : List ℕ} {last : ℕ} → Writes (joined (variable_line snapshot place) variables) buffer next after last
+      → Writes (snapshot_lines snapshot nodes variables) before at after last
+  unfolding snapshot_lines
+  snapshot-put {after} {last} p =
+      two_put (node_lines snapshot nodes) lines before at parts buffer next b.shown after last (rw b.here at p)
 
 -- a run: entries, answer, snapshot
 module _ (x : Answer) (trace snapshot : List ℕ) (nodes variables : ℕ) (before : List ℕ) (at : ℕ)

@@ -30,56 +30,61 @@ pub messages-each : (snapshot : List ℕ) (place count : ℕ) → joined (messag
 unfolding messages_at
 messages-each snapshot place count = sym (fields-joined (message_in snapshot place) count)
 
--- a node: its word, five numbers, the messages with the line feed
-module _
-    (snapshot : List ℕ) (place n : ℕ) (here : place ≡ part_at snapshot n) (position accumulator message waiting : ℕ)
-    (e₁ : position ≡ number_at snapshot place 1) (e₂ : accumulator ≡ number_at snapshot (place + 1) 4)
-    (e₃ : message ≡ number_at snapshot (place + 5) 4) (e₄ : waiting ≡ waiting_in snapshot place)
-    (before : List ℕ) (at : ℕ) (room : at + length (part_line snapshot n) ≤ length before)
-  where
-    abbrev five : List ℕ
-    five = n ∷ position ∷ accumulator ∷ message ∷ waiting ∷ []
+-- what the code has of the part of node n: its place, four numbers read there, and room for its line
+pub record Node (snapshot : List ℕ) (place n position accumulator message waiting : ℕ) (before : List ℕ) (at : ℕ) : Type 0 where
+  pub here : place ≡ part_at snapshot n
+  pub position_read : position ≡ number_at snapshot place 1
+  pub accumulator_read : accumulator ≡ number_at snapshot (place + 1) 4
+  pub message_read : message ≡ number_at snapshot (place + 5) 4
+  pub waiting_read : waiting ≡ waiting_in snapshot place
+  pub room : at + length (part_line snapshot n) ≤ length before
 
-    abbrev messages : List ℕ
-    messages = messages_at snapshot (place + 10) waiting
+-- its line: the word, five numbers, the messages with the line feed
+module _ {snapshot : List ℕ} {place n position accumulator message waiting : ℕ} {before : List ℕ} {at : ℕ}
+    (node : Node snapshot place n position accumulator message waiting before at) where
+  abbrev five : List ℕ
+  five = n ∷ position ∷ accumulator ∷ message ∷ waiting ∷ []
 
-    abbrev back : List ℕ
-    back = fields messages ++ (10 ∷ [])
+  abbrev messages : List ℕ
+  messages = messages_at snapshot (place + 10) waiting
 
-    same : part_line snapshot n ≡ node_word ++ (fields five ++ back)
-    unfolding node_line
-    same =
-        rw (← here, ← e₁, ← e₂, ← e₃, ← e₄)
-        (ap (λ (l : List ℕ). node_word ++ (l ++ (10 ∷ []))) (fields-append five messages)
-        ∙ ap (λ (l : List ℕ). node_word ++ l) (append_assoc (fields five) (fields messages) (10 ∷ [])))
+  abbrev back : List ℕ
+  back = fields messages ++ (10 ∷ [])
 
-    fits : at + length (node_word ++ (fields five ++ back)) ≤ length before
-    fits = rw same at room
+  same : part_line snapshot n ≡ node_word ++ (fields five ++ back)
+  unfolding node_line
+  same =
+      rw (← node.here, ← node.position_read, ← node.accumulator_read, ← node.message_read, ← node.waiting_read)
+      (ap (λ (l : List ℕ). node_word ++ (l ++ (10 ∷ []))) (fields-append five messages)
+      ∙ ap (λ (l : List ℕ). node_word ++ l) (append_assoc (fields five) (fields messages) (10 ∷ [])))
 
-    pub word_room : at + 4 ≤ length before
-    word_room = room-first node_word (fields five) back before at fits
+  fits : at + length (node_word ++ (fields five ++ back)) ≤ length before
+  fits = rw same at node.room
 
-    module _ (second : List ℕ) (two : ℕ) (p : Writes node_word before at second two) where
-      pub five-room : two + length (fields five) ≤ length second
-      five-room = room-second node_word (fields five) back before at fits second two p
+  pub word_room : at + 4 ≤ length before
+  word_room = room-first node_word (fields five) back before at fits
 
-      module _ (third : List ℕ) (three : ℕ) (q : Writes (fields five) second two third three) where
-        rest : three + length back ≤ length third
-        rest = room-third node_word (fields five) back before at fits second two p third three q
+  module _ {second : List ℕ} {two : ℕ} (p : Writes node_word before at second two) where
+    pub five-room : two + length (fields five) ≤ length second
+    five-room = room-second node_word (fields five) back before at fits second two p
 
-        pub messages-room : three + length (fields messages) ≤ length third
-        messages-room = front-room (fields messages) (10 ∷ []) third three rest
+    module _ {third : List ℕ} {three : ℕ} (q : Writes (fields five) second two third three) where
+      rest : three + length back ≤ length third
+      rest = room-third node_word (fields five) back before at fits second two p third three q
 
-        module _ (fourth : List ℕ) (four : ℕ) (r : Writes (fields messages) third three fourth four) where
-          pub end_room : four < length fourth
-          end_room = omega (arith, back-room (fields messages) (10 ∷ []) third three rest fourth four r)
+      pub messages-room : three + length (fields messages) ≤ length third
+      messages-room = front-room (fields messages) (10 ∷ []) third three rest
 
-          pub node_put : (after : List ℕ) (last : ℕ) → Writes (10 ∷ []) fourth four after last
-              → Writes (part_line snapshot n) before at after last
-          node_put after last w =
-              rw same
-              (three_put node_word (fields five) back before at fits second two p third three q after last
-              (two_put (fields messages) (10 ∷ []) third three rest fourth four r after last w))
+      module _ {fourth : List ℕ} {four : ℕ} (r : Writes (fields messages) third three fourth four) where
+        pub end_room : four < length fourth
+        end_room = omega (arith, back-room (fields messages) (10 ∷ []) third three rest fourth four r)
+
+        pub node_put : {after : List ℕ} {last : ℕ} → Writes (10 ∷ []) fourth four after last
+            → Writes (part_line snapshot n) before at after last
+        node_put {after} {last} w =
+            rw same
+            (three_put node_word (fields five) back before at fits second two p third three q after last
+            (two_put (fields messages) (10 ∷ []) third three rest fourth four r after last w))
 
 -- a variable
 pub variable-same :

@@ -52,7 +52,8 @@ pub fn put_examined(text: &mut [u8], at: usize, examined: u32) -> usize
 }
 
 // Puts the lines of a run that left this trace and this snapshot (01's "picture"): entries, answer, nodes, variables. How many of these there
-// are is handed over beside the snapshot: the job alone tells it.
+// are is handed over beside the snapshot: the job alone tells it. That the snapshot has the variables behind the parts stays a clause, for
+// it may be any snapshot.
 pub fn put_run(
     text: &mut [u8],
     at: usize,

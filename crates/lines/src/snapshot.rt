@@ -26,7 +26,7 @@ fn put_messages(text: &mut [u8], at: usize, snapshot: &[u8], place: usize, count
     next
 }
 
-// Puts the line of node n. The place of its part is handed over.
+// Puts the line of node n. The place of its part is handed over. That it is this place stays a clause, here and below, as in `next_part`.
 fn put_node_line(text: &mut [u8], at: usize, snapshot: &[u8], place: usize, n: usize) -> usize
     requires place_value { place ≡ part_at snapshot.now n }
     requires place_in_bounds { next_part snapshot.now place ≤ length snapshot.now }

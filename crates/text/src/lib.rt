@@ -1,4 +1,5 @@
-// Numbers and lines, put into a text from one place to the next: each function answers the place after what it put.
+// Numbers and lines, put into a text from one place to the next: each function answers the place after what it put. That the text has room
+// for it stays a clause of each: it asks for the length of its own words and numbers.
 #![tactic(auto)]
 
 ghost use Rattle.std.specs.Prelude.{◌+◌, ◌≤◌, length};
