@@ -1,14 +1,15 @@
 -- What is fetched, by the code's tests; and that it is the command of the handler, for an accepted job.
-use Prim.Native.Nat.{ℕ, ◌+◌, ◌*◌, ◌≤◌, ◌<◌}
+use Prim.Native.Nat.{ℕ, ◌+◌, ◌-◌, ◌*◌, ◌≤◌, ◌<◌}
 use mathlib.Core.Path.{◌≡◌, refl, sym, ap, ◌∙◌}
 use mathlib.Core.Bool.{Bool, true, false}
 use mathlib.Core.List.{List, ◌++◌, map, map-append}
 use Rattle.std.proofs.Common.{None, Some}
 use native.Mathlib.Omega.{arith}
 use lib.Dec.{ltb}
-use lib.ListN.{length, get_or, get_or-map}
-use borrow.Author.Tests.{ltb-true, ltb-false, le-leb, lt-leb}
-use Rattle.model.specs.Table.{SKIP}
+use lib.ListN.{length, get_or, get_or-map, drop}
+use Rattle.std.specs.List.{slice_range}
+use Rattle.std.proofs.lemmas.List.{get_or-take, get_or-drop}
+use borrow.Author.Tests.{ltb-true, ltb-false, le-leb}
 use Rattle.model.specs.Command.{Command, whole, read_command}
 use Rattle.model.specs.Declared.{Instruction, instruction, is_handler, belongs, handler_of, only}
 use Rattle.model.specs.Conclusion.{Reads, begin, further}
@@ -26,19 +27,19 @@ use Rattle.tables.specs.Tables.{length_in}
 use Rattle.handlers.specs.Loading.{slot_of, loaded, places_of, place_in, slot_in, handlers_in}
 use Rattle.handlers.proofs.Slots.{length-loaded, length-places, number_two, place-loaded}
 
--- without a slot, and from one
+-- from a slot
 module _ (job w : List ℕ) (n i : ℕ) where
-  pub no_slot : length w < slot_of n i + 2 → instruction SKIP 0 ≡ slot_in job w n i
-  no_slot h = rw (lt-leb (slot_of n i + 2) (length w) h)
-
   from_slot : slot_of n i + 2 ≤ length w → slot_in job w n i ≡ instruction_from job (place_in w n i)
   from_slot h = rw (le-leb (slot_of n i + 2) (length w) h)
 
-  pub from_bytes :
-      (at low high : ℕ) (r : Instruction) → at ≡ slot_of n i → at + 2 ≤ length w → low ≡ get_or w at 0 → high ≡ get_or w (at + 1) 0
-      → r ≡ instruction_from job (low + high * 256) → r ≡ slot_in job w n i
-  from_bytes at low high r a h e f q =
-      q ∙ rw (e, f, ← number_two w at, a) (sym (from_slot (omega arith)))
+  pub from_part :
+      (at : ℕ) (part : List ℕ) (r : Instruction) → at ≡ slot_of n i → at + 2 ≤ length w → part ≡ slice_range w at (at + 2)
+      → r ≡ instruction_from job (get_or part 0 0 + get_or part 1 0 * 256) → r ≡ slot_in job w n i
+  from_part at part r a h e q =
+      q ∙ rw (byte 0 at (omega arith) (omega arith), byte 1 (at + 1) (omega arith) refl, ← number_two w at, a) (sym (from_slot (omega arith)))
+    where
+      byte : (k i : ℕ) → k < 2 → i ≡ at + k → get_or part k 0 ≡ get_or w i 0
+      byte k i z f = rw (e, f) (get_or-take (at + 2 - at) (drop at w) k 0 (omega arith) ∙ get_or-drop at w k 0)
 
 -- the commands at the places of a handler are the commands of the handler
 pub places-read :

@@ -1,5 +1,5 @@
 -- A place that is stored in a slot is read back, and the other slots keep theirs.
-use Prim.Native.Nat.{ℕ, ◌+◌, ◌*◌, ◌/◌, ◌%◌, ◌≤◌, ◌<◌}
+use Prim.Native.Nat.{ℕ, ◌+◌, ◌*◌, ◌≤◌, ◌<◌}
 use mathlib.Core.Path.{◌≡◌, refl, sym, ap, ◌∙◌}
 use mathlib.Core.Bool.{Bool, true, false, cond}
 use mathlib.Core.List.{List, [], ◌∷◌}
@@ -19,7 +19,7 @@ use Rattle.model.proofs.Naming.{open_inside}
 use Rattle.model.proofs.Reading.{read_at}
 use Rattle.model.proofs.Valid.{limits, reads-valid}
 use Rattle.writing.specs.Writing.{placed, Writes}
-use Rattle.writing.proofs.Placing.{writes-on, length-placed, placed-inside, placed_outside}
+use Rattle.writing.proofs.Placing.{length-placed, placed-inside, placed_outside}
 use Rattle.handlers.specs.Loading.{slot_of, bytes2, stored, loaded, places_of, place_in}
 
 -- the length stays
@@ -30,15 +30,11 @@ length-stored w at place = by_room (leb (at + 2) (length w)) refl
     by_room true e = length-placed w at (bytes2 place) (leb-true (at + 2) (length w) e)
     by_room false e = refl
 
--- a place is stored by two writes, or not at all
+-- a place is stored by writing its two bytes, or not at all
 module _ (w : List ℕ) (n i place at : ℕ) (slot : at ≡ slot_of n i) where
   pub store_writes :
-      (between : List ℕ) (high : ℕ) (after : List ℕ) (last : ℕ) → at + 2 ≤ length w
-      → Writes (place % 256 ∷ []) w at between high → Writes (place / 256 % 256 ∷ []) between high after last
-      → after ≡ stored w (slot_of n i) place
-  store_writes between high after last h p q =
-      rw (← slot, le-leb (at + 2) (length w) h)
-      (writes-on (place % 256 ∷ []) (place / 256 % 256 ∷ []) w at between high after last (omega arith) p q).buffer
+      (after : List ℕ) (next : ℕ) → at + 2 ≤ length w → Writes (bytes2 place) w at after next → after ≡ stored w (slot_of n i) place
+  store_writes after next h p = rw (← slot, le-leb (at + 2) (length w) h) p.buffer
 
 pub length-loaded : (w : List ℕ) (past : List Command) → length (loaded w past) ≡ length w
 unfolding loaded

@@ -13,11 +13,11 @@ fn read_slot(job: &[u8], work: &[u8], n: NodeNum, position: u32) -> Instruction
     ensures { instruction_of result ≡ slot_in job.now work.now n.0 position }
 {
     let at = slot_of(n, position);
-    if work.len() < at + 2 {
+    let Some([low, high]) = work.get(at..at + 2) else {
         return Instruction::Skip;
-    }
-    let place = u16::from_le_bytes([work[at], work[at + 1]]);
-    read_instruction(job, place as usize)
+    };
+    let place = u16::from_le_bytes([*low, *high]);
+    read_instruction(job, usize::from(place))
 }
 
 // What stands at a position of a node's handler. Where a command stands, the next position can be counted.

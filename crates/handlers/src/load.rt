@@ -10,7 +10,7 @@ use crate::slot_of;
 use command::bytes;
 use command::numbers::NodeNum;
 use command::read::{Head, open_after, read_head};
-use writing::put_one;
+use writing::put_all;
 
 // Stores a place in the slot of a node's command, if it fits: two bytes, lowest byte first; what is above them is lost.
 fn store(work: &mut [u8], n: NodeNum, i: u32, place: usize)
@@ -18,8 +18,7 @@ fn store(work: &mut [u8], n: NodeNum, i: u32, place: usize)
 {
     let at = slot_of(n, i);
     if at + 2 <= work.len() {
-        let second = put_one(work, at, (place % 256) as u8);
-        put_one(work, second, (place / 256 % 256) as u8);
+        put_all(work, at, &place.to_le_bytes()[..2]);
     }
 }
 
