@@ -1,13 +1,13 @@
 -- The code's tests of one command are the model's, if the tables stand for the commands before it.
 use Prim.Native.Nat.{ℕ, zero, suc, ◌-◌}
-use mathlib.Core.Path.{◌≡◌, refl, sym, ◌∙◌}
-use mathlib.Core.Bool.{Bool, true, false, cond, not, ◌&&◌, ◌||◌, or-false}
+use mathlib.Core.Path.{◌≡◌, refl, sym, ap, ◌∙◌}
+use mathlib.Core.Bool.{Bool, true, false, cond, not, ◌&&◌, ◌||◌, or-false, or_assoc}
 use mathlib.Core.List.{List, [], ◌∷◌}
 use Rattle.std.proofs.Common.{None, is_some}
 use native.Mathlib.Omega.{arith}
 use lib.Dec.{ltb, leb, eqb}
 use lib.ListN.{get_or}
-use borrow.Author.Tests.{eqb-true, ne_eqb}
+use borrow.Author.Tests.{eqb-true, eq-eqb, ne_eqb}
 use Rattle.model.specs.Table.{FLOW, NODE, VAR, FUN, REPLY, WIRE, ANY, ARG, READ, WRITE, SPAN, BODY, GET, PUT, PLUS, START, operands_in}
 use Rattle.model.specs.Table.{operands_of, is_range_byte, kind_at, absent, group_of}
 use Rattle.model.specs.Command.{Command, Operands, quaternary, ternary, binary}
@@ -15,7 +15,7 @@ use Rattle.model.specs.Declared.{count_among, occurs, open_body, flow_of, sees, 
 use Rattle.model.specs.Refusal.{any_of, is_reached, exceeds_count, Counts, names_nothing, undeclared, out_of_reach, must_differ, repeated}
 use Rattle.model.specs.Refusal.{empty_span, violation}
 use Rattle.model.specs.Valid.{Plain}
-use Rattle.model.proofs.Logic.{true_false, or_first, or_second, any_next, any_last}
+use Rattle.model.proofs.Logic.{true_false, or_first, any_next, any_last}
 use Rattle.command.specs.declared.table.Row.{Row as Shape}
 use Rattle.command.specs.declared.read.Command.{Command as Code}
 use Rattle.command.specs.Rows.{unpacked, kind_of, kind_meant, sharing, limit_of, Says, is_handler_byte}
@@ -45,13 +45,6 @@ reached : (b k have : ℕ) (past : List Command) → have ≡ count_among (shari
     → (not (eqb k 0) && leb k have) ≡ is_reached (limit_of b k) past
 reached b zero have past e = refl
 reached b (suc k) have past e = rw (ne_eqb (suc k) 0 (λ z. omega arith), e)
-
--- one of the tests is true
-any_found : (i : ℕ) (tests : List Bool) → get_or tests i false ≡ true → any_of tests ≡ true
-unfolding any_of
-any_found i [] e = e
-any_found zero (b ∷ tests) e = or_first b (any_of tests) e
-any_found (suc i) (b ∷ tests) e = or_second b (any_of tests) (any_found i tests e)
 
 module _ (t : List ℕ) (c : Code) (past : List Command) (s : Stands t past) where
   -- how many count to the largest count of the command
@@ -116,29 +109,49 @@ module _ (t : List ℕ) (c : Code) (past : List Command) (s : Stands t past) whe
           s.counts BODY (omega arith),
         )
 
-    -- one of them is true
-    pub undeclared-found : (i : ℕ) → get_or tests i false ≡ true → true ≡ undeclared past (command_of c)
-    undeclared-found i e = sym (undeclared_as ∙ any_found i tests e)
+    -- those up to the first operand, and those of the operands after it
+    undeclared_as_two :
+        undeclared past (command_of c)
+        ≡ ((get_or tests 0 false || get_or tests 1 false || get_or tests 2 false)
+        || (get_or tests 3 false || get_or tests 4 false || get_or tests 5 false))
+    undeclared_as_two =
+        let a = get_or tests 0 false in
+        let b = get_or tests 1 false in
+        let d₁ = get_or tests 2 false in
+        let e = get_or tests 3 false in
+        let f = get_or tests 4 false in
+        let g = get_or tests 5 false in
+        undeclared_as ∙ rw (any_next, any_next, any_next, any_next, any_next, any_last)
+        (sym (or_assoc (a || b) d₁ (e || f || g) ∙ or_assoc a b (d₁ || (e || f || g)) ∙ ap (λ (r : Bool). a || (b || (d₁ || r))) (or_assoc e f g)))
 
-    -- there is no operand after the first
-    pub undeclared-single : get_or tests 0 false ≡ false → get_or tests 1 false ≡ false → get_or tests 2 false ≡ false
-        → row.length ≡ row.first_width → false ≡ undeclared past (command_of c)
-    undeclared-single e f g l =
-        let says : Says c.byte row = rw is k.row in
-        let second : kind_meant (kind_of row.second_kind) ≡ absent = says.kind₂
-        ∙ width_zero _ (omega (arith, says.length, says.width₁, says.width₂)) in
-        let third : kind_meant (kind_of row.third_kind) ≡ absent = says.kind₃
-        ∙ width_zero _ (omega (arith, says.length, says.width₁, says.width₃)) in
-        let fourth : kind_meant (kind_of row.fourth_kind) ≡ absent = says.kind₄
-        ∙ width_zero _ (omega (arith, says.length, says.width₁, says.width₄)) in
-        sym (undeclared_as ∙ rw (any_next, any_next, any_next, any_next, any_next, any_last, e, f, g, second, third, fourth))
+    -- by what the code joins of them
+    module _ (early front : Bool) (p : early ≡ (get_or tests 0 false || get_or tests 1 false)) (q : front ≡ (early || get_or tests 2 false)) where
+      front_as : front ≡ (get_or tests 0 false || get_or tests 1 false || get_or tests 2 false)
+      front_as = rw p at q
 
-    -- all but the last are false
-    pub undeclared-last :
-        get_or tests 0 false ≡ false → get_or tests 1 false ≡ false → get_or tests 2 false ≡ false → get_or tests 3 false ≡ false
-        → get_or tests 4 false ≡ false → (r : Bool) → r ≡ get_or tests 5 false → r ≡ undeclared past (command_of c)
-    undeclared-last e f g h i r q =
-        q ∙ sym (undeclared_as ∙ rw (any_next, any_next, any_next, any_next, any_next, any_last, e, f, g, h, i))
+      pub undeclared-front : front ≡ true → front ≡ undeclared past (command_of c)
+      undeclared-front h = h ∙ sym (undeclared_as_two ∙ or_first _ _ (sym front_as ∙ h))
+
+      module _ (h : front ≡ false) where
+        back_only : undeclared past (command_of c) ≡ (get_or tests 3 false || get_or tests 4 false || get_or tests 5 false)
+        back_only = undeclared_as_two ∙ rw (sym front_as ∙ h) refl
+
+        -- there is no operand after the first
+        pub undeclared-single : row.length ≡ row.first_width → not (eqb row.length row.first_width) ≡ undeclared past (command_of c)
+        undeclared-single l =
+            let says : Says c.byte row = rw is k.row in
+            let second : kind_meant (kind_of row.second_kind) ≡ absent = says.kind₂
+            ∙ width_zero _ (omega (arith, says.length, says.width₁, says.width₂)) in
+            let third : kind_meant (kind_of row.third_kind) ≡ absent = says.kind₃
+            ∙ width_zero _ (omega (arith, says.length, says.width₁, says.width₃)) in
+            let fourth : kind_meant (kind_of row.fourth_kind) ≡ absent = says.kind₄
+            ∙ width_zero _ (omega (arith, says.length, says.width₁, says.width₄)) in
+            rw (eq-eqb row.length row.first_width l) (sym (back_only ∙ rw (second, third, fourth) refl))
+
+        -- the operands after the first decide
+        pub undeclared-back : (both r : Bool) → both ≡ (get_or tests 3 false || get_or tests 4 false) → r ≡ (both || get_or tests 5 false)
+            → r ≡ undeclared past (command_of c)
+        undeclared-back both r e f = rw e at f ∙ sym back_only
 
   sees-same : (n x : ℕ) → sees_in t n x ≡ sees past n x
   sees-same n x = rw (s.scope x, s.owner x, s.flow n)

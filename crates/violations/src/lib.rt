@@ -114,25 +114,13 @@ fn is_undeclared(tables: &[u32], c: Command) -> bool
     let shape = unpack(c.row);
     let d = counts_of(tables);
     let bodies = declared::count_of(tables, bytes::BODY);
-    if (c.byte == bytes::NODE) & (d.flows == 0) {
-        return true;
-    }
-    if bytes::is_handler(c.byte) & (bodies == 0) {
-        return true;
-    }
-    if names_nothing(d, c.first, shape.first_kind, c.first) {
-        return true;
-    }
-    if shape.length == shape.first_width {
-        return false;
-    }
-    if names_nothing(d, c.first, shape.second_kind, c.second) {
-        return true;
-    }
-    if names_nothing(d, c.first, shape.third_kind, c.third) {
-        return true;
-    }
-    names_nothing(d, c.first, shape.fourth_kind, c.fourth)
+    ((c.byte == bytes::NODE) & (d.flows == 0))
+        || (bytes::is_handler(c.byte) & (bodies == 0))
+        || names_nothing(d, c.first, shape.first_kind, c.first)
+        || (shape.length != shape.first_width
+            && (names_nothing(d, c.first, shape.second_kind, c.second)
+                || names_nothing(d, c.first, shape.third_kind, c.third)
+                || names_nothing(d, c.first, shape.fourth_kind, c.fourth)))
 }
 
 // The handler commands that name a variable.
