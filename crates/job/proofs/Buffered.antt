@@ -3,7 +3,7 @@ use Prim.Native.Nat.{ℕ, ◌*◌, ◌-◌, ◌≤◌, ◌<◌}
 use mathlib.Core.Path.{◌≡◌, refl, ◌∙◌}
 use mathlib.Core.Bool.{Bool, true, false, cond}
 use mathlib.Core.List.{List}
-use Rattle.std.proofs.Common.{Option, None, Some, Ok, Err}
+use Rattle.std.proofs.Common.{Option, None, Some, Result, Ok, Err}
 use native.Mathlib.Omega.{arith}
 use lib.Dec.{eqb, ltb}
 use lib.ListN.{length}
@@ -19,13 +19,12 @@ use Rattle.model.proofs.Valid.{job-accepted}
 use Rattle.model.proofs.DispatchDecoding.{no_turn_none}
 use Rattle.command.specs.declared.refusal.Refusal.{Refusal as Refused}
 use Rattle.command.specs.Refusals.{refusal_of}
-use Rattle.tables.specs.Cells.{blank}
 use Rattle.tables.specs.Stands.{Stands}
 use Rattle.job.specs.declared.schedule.Schedule.{Schedule}
 use Rattle.job.specs.declared.schedule.Schedule.TheVariants as s
-use Rattle.job.specs.Decoding.{Decides}
+use Rattle.job.specs.Decoding.{verdict_of, Verdicts}
 use Rattle.job.specs.Scheduling.{decode_by, budget_refusal, schedule_refusal}
-use Rattle.job.proofs.Judged.{decides_accepted, decides_refused}
+use Rattle.job.proofs.Judged.{accepts, refuses}
 use Rattle.job.proofs.LastTurns.{first-turn}
 
 -- a refusal by 13, and what is left of the tests without one
@@ -64,25 +63,22 @@ decode_by_lem (s.Dispatched budget) job b e = by_budget (bad_budget budget) e �
 
 module _ (schedule : Schedule) (job : List ℕ) (b : Sizes) (t : List ℕ) where
   -- refused by 13
-  pub refused-first : (q : Refused) → Some (refusal_of q) ≡ budget_refusal schedule → t ≡ blank → Decides (decode_by schedule job b) t
-      (Err q)
-  refused-first q e = decides_refused (decode_by schedule job b) t q (decode_bad schedule job b (refusal_of q) e)
+  pub refused-first : (q : Refused) → Some (refusal_of q) ≡ budget_refusal schedule → Verdicts (decode_by schedule job b) t (Err q)
+  refused-first q e = refuses (decode_by schedule job b) t q (decode_bad schedule job b (refusal_of q) e)
 
   module _ (good : budget_refusal schedule ≡ None) where
     -- refused by the tests of every job
-    pub refused-before : (q : Refused) → decode_job job ≡ rejected (refusal_of q) → t ≡ blank → Decides (decode_by schedule job b) t
-        (Err q)
-    refused-before q e = decides_refused (decode_by schedule job b) t q (decode_by_lem schedule job b good ∙ rw e)
+    pub refused-before : (q : Refused) → decode_job job ≡ rejected (refusal_of q) → Verdicts (decode_by schedule job b) t (Err q)
+    refused-before q e = refuses (decode_by schedule job b) t q (decode_by_lem schedule job b good ∙ rw e)
 
     -- the tests 14 and 10 to 12 decide
-    module _ (past : List Command) (decoded : decode_job job ≡ accepted past) where
-      pub refused-behind : (q : Refused) → Some (refusal_of q) ≡ schedule_refusal schedule job b past → t ≡ blank
-          → Decides (decode_by schedule job b) t (Err q)
-      refused-behind q e = decides_refused (decode_by schedule job b) t q (decode_by_lem schedule job b good ∙ rw (decoded, ← e))
-
-      pub accepted-behind : None ≡ schedule_refusal schedule job b past → Stands t past → Decides (decode_by schedule job b) t (Ok tt)
-      accepted-behind e stands = decides_accepted (decode_by schedule job b) t
-          (record { past = past; decoded = decode_by_lem schedule job b good ∙ rw (decoded, ← e); stands = stands })
+    pub judged-behind :
+        (past : List Command) → decode_job job ≡ accepted past → Stands t past → (r : Result (Unit {0}) Refused)
+        → verdict_of r ≡ schedule_refusal schedule job b past → Verdicts (decode_by schedule job b) t r
+    judged-behind past decoded stands (Ok x) e =
+        accepts (decode_by schedule job b) t past (decode_by_lem schedule job b good ∙ rw (decoded, ← e)) stands
+    judged-behind past decoded stands (Err q) e =
+        refuses (decode_by schedule job b) t q (decode_by_lem schedule job b good ∙ rw (decoded, ← e))
 
 -- the tests of a schedule that is one of the two
 module _ (schedule : Schedule) (budget : ℕ) (is : schedule ≡ s.Dispatched budget) where

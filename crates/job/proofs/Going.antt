@@ -1,13 +1,17 @@
 -- The walk over the commands: what each step gives, and what the loop keeps.
 use Prim.Native.Nat.{ℕ, suc, ◌+◌, ◌≤◌, ◌<◌}
 use mathlib.Core.Path.{◌≡◌, refl, sym, ◌∙◌}
+use mathlib.Core.Bool.{true, false, ◌||◌}
 use mathlib.Core.List.{List, [], ◌∷◌}
 use Rattle.std.proofs.Common.{Some, Ok, Err}
 use native.Mathlib.Omega.{arith}
+use lib.Dec.{eqb, ltb}
 use lib.ListN.{length}
+use borrow.Author.Tests.{eqb-false, ltb-false}
 use Rattle.model.specs.Command.{Command, Parsed as ParsedAs, whole, unknown, cut_short, read_command}
 use Rattle.model.specs.Refusal.{violation, Refusal as RefusedFor, refuse, rejected, decode_from, decode}
 use Rattle.model.specs.Valid.{Valid, Plain}
+use Rattle.model.proofs.Logic.{or_left, or_right}
 use Rattle.model.proofs.Reading.{read_at}
 use Rattle.model.proofs.Decoding.{decode_end, decode-unknown, decode-short, decode-refused, decode-on, decoding_start, fuel-left}
 use Rattle.command.specs.declared.read.Command.{Command as Code}
@@ -79,6 +83,17 @@ module _ (job : List ℕ) (place : ℕ) (inside : place < length job) (past : Li
           inside = r.inside;
           same = λ fuel. decode-on fuel job place past inside (command_of c) next read valid.2;
         }
+
+-- 1, and a job that passes it
+pub decode_size : (job : List ℕ) → (eqb (length job) 0 || ltb 16384 (length job)) ≡ true → decode job ≡ rejected (refuse 1 0)
+unfolding decode
+decode_size job e = rw e
+
+pub sized : (job : List ℕ) → (eqb (length job) 0 || ltb 16384 (length job)) ≡ false → ¬ (length job ≡ 0) × (length job ≤ 16384)
+sized job e = (
+  eqb-false (length job) 0 (or_left (eqb (length job) 0) (ltb 16384 (length job)) e),
+  ltb-false 16384 (length job) (or_right (eqb (length job) 0) (ltb 16384 (length job)) e),
+)
 
 -- what the loop keeps
 pub record Going (job t u : List ℕ) (place : ℕ) : Type 0 where

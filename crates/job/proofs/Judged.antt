@@ -1,12 +1,13 @@
 -- Verdicts: how each is reached, and what follows of it.
 use Prim.Native.Nat.{ℕ}
 use mathlib.Core.Path.{◌≡◌, refl, sym, ap, ◌∙◌}
+use mathlib.Core.Bool.{cond}
 use mathlib.Core.List.{List}
 use Rattle.model.specs.Command.{Command}
 use Rattle.model.specs.Refusal.{Decoded, accepted, rejected, decode, accept_unless, first_of, far_jump, unused_permission, decode_job}
 use Rattle.model.proofs.Results.{decode-job-rejected, decode-job-later}
 use Rattle.command.specs.declared.refusal.Refusal.{Refusal as Refused}
-use Rattle.std.proofs.Common.{Result, Ok, Err}
+use Rattle.std.proofs.Common.{Result, Ok, Err, is_ok}
 use Rattle.command.specs.Refusals.{refusal_of}
 use Rattle.tables.specs.Cells.{blank}
 use Rattle.tables.specs.Stands.{Stands}
@@ -73,6 +74,13 @@ decides_accepted d t a =
 
 pub decides_refused : (d : Decoded) (t : List ℕ) (q : Refused) → d ≡ rejected (refusal_of q) → t ≡ blank → Decides d t (Err q)
 decides_refused d t q e b = record { judged = refuses d t q e; cleared = λ p f. b }
+
+-- a verdict that is handed on, and the tables blank where it is a refusal
+pub settled :
+    (d : Decoded) (t : List ℕ) (given : Result (Unit {0}) Refused) → Verdicts d t given → (after : List ℕ) (r : Result (Unit {0}) Refused)
+    → r ≡ given → after ≡ cond (is_ok given) t blank → Decides d after r
+settled d t (Ok x) v after r same e = rw (same, e) (decides_accepted d t (is-accepted d t x v))
+settled d t (Err q) v after r same e = rw (same, e) (decides_refused d blank q (is-refused d t q v) refl)
 
 -- a job with the verdict that it is accepted may be loaded
 pub may_load : (d : Decoded) (t : List ℕ) (x : Unit {0}) → Decides d t (Ok x) → IsAccepted d

@@ -3,11 +3,11 @@ use Prim.Native.Nat.{ℕ, ◌+◌, ◌≤◌, ◌<◌}
 use mathlib.Core.Path.{◌≡◌, refl, sym, ◌∙◌}
 use mathlib.Core.Bool.{Bool, true, false, cond, not, ◌&&◌, ◌||◌}
 use mathlib.Core.List.{List, [], ◌∷◌}
-use Rattle.std.proofs.Common.{Option, None, Some}
+use Rattle.std.proofs.Common.{Option, None, Some, is_some}
 use native.Mathlib.Omega.{arith}
 use lib.Dec.{ltb, eqb}
 use lib.ListN.{length, get_or}
-use borrow.Author.Tests.{lt-ltb, le-ltb, eqb-true, eqb-false, ne_eqb}
+use borrow.Author.Tests.{eqb-true, eqb-false, ne_eqb}
 use Rattle.model.specs.Table.{ANY, ARG, READ, WRITE, SPAN, BODY, JUMPZ, JUMP, OperandKind, node, function, value, low, high, variable}
 use Rattle.model.specs.Table.{width, operand_at, operands_in, operands_of, group_of}
 use Rattle.model.specs.Command.{Command, is, whole, read_command}
@@ -29,14 +29,14 @@ use Rattle.uses.specs.Uses.{read_uses, write_uses, call_uses, unused_in, Uses}
 use Rattle.job.specs.Decoding.{unused_at}
 
 -- the commands before a place: the node of their open handler, that no jump of them is far, and the place of their first unused permission
-pub record Looking (job : List ℕ) (all : List Command) (place opened unused : ℕ) : Type 0 where
+pub record Looking (job : List ℕ) (all : List Command) (place opened : ℕ) (unused : Option ℕ) : Type 0 where
   pub past : List Command
   pub scanning : Scanning job all place past
   pub open_node : opened ≡ open_body past
   pub near : refuse_first 9 (is_far_jump all) past ≡ None
-  pub first : unused_at (length job) unused ≡ refuse_first 19 (is_unused all) past
+  pub first : unused_at unused ≡ refuse_first 19 (is_unused all) past
 
-pub looking_start : (job : List ℕ) (all : List Command) → decode job ≡ accepted all → Looking job all 0 0 (length job)
+pub looking_start : (job : List ℕ) (all : List Command) → decode job ≡ accepted all → Looking job all 0 0 None
 unfolding open_body refuse_first
 looking_start job all e =
     record {
@@ -44,7 +44,7 @@ looking_start job all e =
       scanning = scanning-start job all e;
       open_node = refl;
       near = refl;
-      first = rw (le-ltb (length job) (length job) (omega arith));
+      first = refl;
     }
 
 -- a command of a group above 4 is no jump, and one of another group than 3 no permission
@@ -103,29 +103,29 @@ module _ (job : List ℕ) (place : ℕ) (c : Command) (next : ℕ) (read : read_
         )
 
 -- the first unused permission, with one more command: `on` if that is no permission
-module _ (size before place : ℕ) (h : place < size) (o : Option Refusal) (so_far : unused_at size before ≡ o) where
+module _ (before : Option ℕ) (place : ℕ) (o : Option Refusal) (so_far : unused_at before ≡ o) where
   unused_next : (on t : Bool) → (on ≡ true → t ≡ false)
-      → unused_at size (cond (on || ltb before size) before (cond t place before)) ≡ first_of o (cond t (Some (refuse 19 place)) None)
+      → unused_at (cond (on || is_some before) before (cond t (Some place) before)) ≡ first_of o (cond t (Some (refuse 19 place)) None)
   unused_next true t p = so_far ∙ rw (p refl) (sym (first_of_none o))
-  unused_next false t p = by_before (ltb before size) refl so_far t
+  unused_next false t p = by_before before so_far t
     where
       by_before :
-          (b : Bool) → ltb before size ≡ b → cond b (Some (refuse 19 before)) None ≡ o → (t : Bool)
-          → unused_at size (cond b before (cond t place before)) ≡ first_of o (cond t (Some (refuse 19 place)) None)
-      by_before true e q t = rw (e, ← q)
-      by_before false e q true = rw (lt-ltb place size h, ← q)
-      by_before false e q false = rw (e, ← q)
+          (b : Option ℕ) → unused_at b ≡ o → (t : Bool)
+          → unused_at (cond (is_some b) b (cond t (Some place) b)) ≡ first_of o (cond t (Some (refuse 19 place)) None)
+      by_before (Some first) q t = rw (← q)
+      by_before None q true = rw (← q)
+      by_before None q false = rw (← q)
 
-module _ {job : List ℕ} {all : List Command} {place opened unused : ℕ} (l : Looking job all place opened unused) where
+module _ {job : List ℕ} {all : List Command} {place opened : ℕ} {unused : Option ℕ} (l : Looking job all place opened unused) where
   -- what the tests find
   abbrev found : Option Refusal
   found = first_of (far_jump all) (unused_permission all)
 
-  pub looking_end : length job ≤ place → found ≡ unused_at (length job) unused
+  pub looking_end : length job ≤ place → found ≡ unused_at unused
   looking_end h =
       let e = scanning_end l.scanning h in
       let near : far_jump all ≡ None = rw e at l.near in
-      let first : unused_at (length job) unused ≡ unused_permission all = rw e at l.first in
+      let first : unused_at unused ≡ unused_permission all = rw e at l.first in
       rw (near, first)
 
   module _ (h : place < length job) where
@@ -135,11 +135,11 @@ module _ {job : List ℕ} {all : List Command} {place opened unused : ℕ} (l : 
 
     module _ (c : Command) (next : ℕ) (read : read_command job place ≡ whole c next) where
       -- neither a jump nor a permission stands behind a command of a group above 4
-      pub looking_behind : 4 < group_of c.byte → found ≡ unused_at (length job) unused
+      pub looking_behind : 4 < group_of c.byte → found ≡ unused_at unused
       looking_behind above =
           let near : far_jump all ≡ None = scanning-behind l.scanning h c next read (refuse_first 9 (is_far_jump all)) 4
           (λ past d a. refuse-on 9 (is_far_jump all) past d (near-above all past d a)) above ∙ l.near in
-          let first : unused_permission all ≡ unused_at (length job) unused =
+          let first : unused_permission all ≡ unused_at unused =
           scanning-behind l.scanning h c next read (refuse_first 19 (is_unused all)) 4
           (λ past d a. refuse-on 19 (is_unused all) past d (used_other all past d (λ e. omega arith))) above ∙ sym l.first in
           rw (near, first)
@@ -155,9 +155,9 @@ module _ {job : List ℕ} {all : List Command} {place opened unused : ℕ} (l : 
         looking_found e = rw (scanning-found l.scanning h c next read 9 (is_far_jump all) l.near (sym is_far ∙ e))
 
         pub looking_on :
-            far ≡ false → (u : List ℕ) → Uses u all → (i o : ℕ)
-            → i ≡ cond (not (eqb group 3) || ltb unused (length job)) unused
-            (cond (unused_in u byte first (get_or job (place + 2) 0)) place unused)
+            far ≡ false → (u : List ℕ) → Uses u all → (i : Option ℕ) (o : ℕ)
+            → i ≡ cond (not (eqb group 3) || is_some unused) unused
+            (cond (unused_in u byte first (get_or job (place + 2) 0)) (Some place) unused)
             → o ≡ cond (eqb byte BODY) first opened → Looking job all next o i
         unfolding refuse_first
         looking_on e u uses i o p q =
@@ -168,7 +168,7 @@ module _ {job : List ℕ} {all : List Command} {place opened unused : ℕ} (l : 
               near = refuse-on 9 (is_far_jump all) l.past c (sym is_far ∙ e) ∙ l.near;
               first =
                   rw (p, b, g, a, unused_is job place c next read all l.past u uses, (read_at job place c next read).here)
-                  (unused_next (length job) unused place h (refuse_first 19 (is_unused all) l.past) l.first
+                  (unused_next unused place (refuse_first 19 (is_unused all) l.past) l.first
                   (not (eqb (group_of c.byte) 3))
                   (is_unused all l.past c)
                   (λ z. used_other all l.past c (eqb-false (group_of c.byte) 3 (not_turned (eqb (group_of c.byte) 3) true z))));

@@ -1,5 +1,5 @@
 -- What the code's steps and verdicts say, in the model's words.
-use Rattle.std.specs.Prelude.{ℕ, suc, ◌≤◌, ◌<◌, ◌≡◌, cond, List, ◌∷◌, ltb, length, Option, None, Some, Result, Ok, Err}
+use Rattle.std.specs.Prelude.{ℕ, suc, ◌≤◌, ◌<◌, ◌≡◌, List, ◌∷◌, length, Option, None, Some, Result, Ok, Err}
 use Rattle.model.specs.Command.{Command}
 use Rattle.model.specs.Refusal.{Refusal, refuse, Decoded, accepted, rejected, decode_from}
 use Rattle.model.specs.Valid.{Valid}
@@ -14,9 +14,10 @@ abbrev pub verdict_of : Result (Unit {0}) Refused → Option Refusal
 verdict_of (Ok x) = None
 verdict_of (Err r) = Some (refusal_of r)
 
--- the refusal of a job of this length whose first unused permission stands at this place; none if that is its length
-abbrev pub unused_at : ℕ → ℕ → Option Refusal
-unused_at size place = cond (ltb place size) (Some (refuse 19 place)) None
+-- the refusal of a job whose first unused permission stands at this place; none if there is none
+abbrev pub unused_at : Option ℕ → Option Refusal
+unused_at None = None
+unused_at (Some place) = Some (refuse 19 place)
 
 -- the refusal of a job; none if it is accepted
 abbrev pub refusal_in : Decoded → Option Refusal

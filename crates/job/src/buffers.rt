@@ -4,15 +4,15 @@ ghost use Rattle.model.specs.Command.{Command};
 ghost use Rattle.model.specs.Declared.{count_of};
 ghost use Rattle.model.specs.Table.{TURN};
 ghost use Rattle.model.specs.Refusal.{accepted, decode_job, short_buffer_for};
-ghost use Rattle.job.specs.Decoding.{verdict_of, Decides};
+ghost use Rattle.job.specs.Decoding.{verdict_of, Verdicts, Decides};
 ghost use Rattle.job.specs.Scheduling.{sizes_as, budget_refusal, schedule_refusal, decode_by};
 
-use crate::decode;
 use crate::schedule::Schedule;
+use crate::{judge_commands, settle};
 use command::bytes;
 use command::refusal::{Reason, Refusal};
 use declared::count_of;
-use tables::cells::{CELLS, clear};
+use tables::cells::CELLS;
 
 // The lengths that the snapshot buffer (01's "picture buffer") and the work buffer must have.
 pub const SNAPSHOT: usize = 3136;
@@ -66,16 +66,11 @@ fn check_budget(schedule: Schedule) -> Result<(), Refusal>
     ensures { verdict_of result ≡ budget_refusal schedule }
 {
     match schedule {
-        Schedule::Written => Ok(()),
-        Schedule::Dispatched(budget) => {
-            if (budget == 0) | (BUDGET < budget) {
-                return Err(Refusal {
-                    reason: Reason::BadBudget,
-                    place: 0,
-                });
-            }
-            Ok(())
-        }
+        Schedule::Written | Schedule::Dispatched(1..=BUDGET) => Ok(()),
+        Schedule::Dispatched(_) => Err(Refusal {
+            reason: Reason::BadBudget,
+            place: 0,
+        }),
     }
 }
 
@@ -104,23 +99,19 @@ fn check_schedule(
     }
 }
 
-// All tests after 13, whatever the tables held before: an accepted job leaves its tables, a refused one blank ones.
-fn judge_under(
+// All tests, one after the other: the verdict, and the tables of an accepted job.
+fn judge_all(
     job: &[u8],
     schedule: Schedule,
     tables: &mut [u32; CELLS],
     lengths: Lengths,
 ) -> Result<(), Refusal>
-    requires { budget_refusal schedule ≡ None }
-    ensures { Decides (decode_by schedule job.now (sizes_as lengths)) tables.new result }
+    ensures { Verdicts (decode_by schedule job.now (sizes_as lengths)) tables.new result }
 {
-    decode(job, tables)?;
+    check_budget(schedule)?;
+    judge_commands(job, tables)?;
     let turns = count_of(tables, bytes::TURN);
-    if let Err(refusal) = check_schedule(schedule, job.len(), turns, lengths) {
-        clear(tables);
-        return Err(refusal);
-    }
-    Ok(())
+    check_schedule(schedule, job.len(), turns, lengths)
 }
 
 // The verdict on a job of any length, its turns given in either way, with buffers of any lengths, whatever the tables held before: an
@@ -133,9 +124,6 @@ pub fn judge(
 ) -> Result<(), Refusal>
     ensures { Decides (decode_by schedule job.now (sizes_as lengths)) tables.new result }
 {
-    if let Err(refusal) = check_budget(schedule) {
-        clear(tables);
-        return Err(refusal);
-    }
-    judge_under(job, schedule, tables, lengths)
+    let verdict = judge_all(job, schedule, tables, lengths);
+    settle(verdict, tables)
 }

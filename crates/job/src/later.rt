@@ -1,5 +1,5 @@
 // The tests 9 and 19, by a second look at the commands of a job that passed the tests 1 to 8 and 15.
-ghost use Rattle.std.specs.Prelude.{◌≡◌, cond, not, ◌&&◌, ◌||◌, List, ◌+◌, ◌<◌, eqb, ltb, length, get_or};
+ghost use Rattle.std.specs.Prelude.{◌≡◌, cond, not, ◌&&◌, ◌||◌, List, ◌+◌, ◌<◌, eqb, ltb, length, get_or, Some, is_some};
 ghost use Rattle.model.specs.Table.{JUMPZ, JUMP};
 ghost use Rattle.model.specs.Command.{Command as Past};
 ghost use Rattle.model.specs.Refusal.{accepted, decode, first_of, far_jump, unused_permission};
@@ -26,39 +26,41 @@ fn second_of(job: &[u8], at: usize) -> u32
     requires { at < length job.now }
     ensures { result ≡ get_or job.now (at + 2) 0 }
 {
-    if 2 < job.len() - at {
-        return u32::from(job[at + 2]);
-    }
-    0
+    u32::from(job.get(at + 2).copied().unwrap_or(0))
 }
 
-// The place of the first unused permission, the job's length if there is none: that of the commands before, or else the place of this
-// command, if it is one.
-fn first_unused(job: &[u8], uses: &[u32], at: usize, c: Head, before: usize) -> usize
+// The place of the first unused permission, if there is one: that of the commands before, or else the place of this command, if it is one.
+fn first_unused(
+    job: &[u8],
+    uses: &[u32],
+    at: usize,
+    c: Head,
+    before: Option<usize>,
+) -> Option<usize>
     requires { at < length job.now }
-    ensures { result ≡ cond (not (eqb c.group 3) || ltb before (length job.now)) before
-        (cond (unused_in uses.now c.byte c.first (get_or job.now (at + 2) 0)) at before) }
+    ensures { result ≡ cond (not (eqb c.group 3) || is_some before) before
+        (cond (unused_in uses.now c.byte c.first (get_or job.now (at + 2) 0)) (Some at) before) }
 {
-    if (c.group != bytes::PERMISSION_GROUP) | (before < job.len()) {
+    if (c.group != bytes::PERMISSION_GROUP) | before.is_some() {
         return before;
     }
     if is_unused(uses, c.byte, NodeNum(c.first), second_of(job, at)) {
-        return at;
+        return Some(at);
     }
     before
 }
 
-// 19 at the place of the first unused permission of a job of this length, if there is one.
-fn refuse_unused(size: usize, place: usize) -> Result<(), Refusal>
-    ensures { verdict_of result ≡ unused_at size place }
+// 19 at the place of the first unused permission, if there is one.
+fn refuse_unused(unused: Option<usize>) -> Result<(), Refusal>
+    ensures { verdict_of result ≡ unused_at unused }
 {
-    if place < size {
-        return Err(Refusal {
+    match unused {
+        Some(place) => Err(Refusal {
             reason: Reason::UnusedPermission,
             place,
-        });
+        }),
+        None => Ok(()),
     }
-    Ok(())
 }
 
 // 9: refused at the first jump whose target exceeds its handler's command count. 19: if there is none, refused at the first permission that
@@ -70,13 +72,13 @@ pub(crate) fn check_later(job: &[u8], tables: &[u32], uses: &[u32]) -> Result<()
 {
     let mut at = 0;
     let mut opened = NodeNum(0);
-    let mut unused = job.len();
+    let mut unused = None;
     while at < job.len() {
         let Some(c) = read_head(job, at) else {
             return Ok(());
         };
         if bytes::HANDLER_GROUP < c.group {
-            return refuse_unused(job.len(), unused);
+            return refuse_unused(unused);
         }
         let len = length_of(tables, opened);
         if is_far(c, len) {
@@ -89,5 +91,5 @@ pub(crate) fn check_later(job: &[u8], tables: &[u32], uses: &[u32]) -> Result<()
         opened = open_after(c, opened);
         at = c.next;
     }
-    refuse_unused(job.len(), unused)
+    refuse_unused(unused)
 }

@@ -6,7 +6,9 @@ mod later;
 pub mod schedule;
 mod walk;
 
+ghost use Rattle.std.specs.Prelude.{◌≡◌, cond, is_ok};
 ghost use Rattle.model.specs.Refusal.{decode_job};
+ghost use Rattle.tables.specs.Cells.{blank};
 ghost use Rattle.job.specs.Decoding.{Verdicts, Decides};
 
 use command::refusal::Refusal;
@@ -23,13 +25,21 @@ fn judge_commands(job: &[u8], tables: &mut [u32; CELLS]) -> Result<(), Refusal>
     check_later(job, tables, &uses)
 }
 
+// Hands a verdict on, and leaves blank tables where it is a refusal.
+fn settle(verdict: Result<(), Refusal>, tables: &mut [u32; CELLS]) -> Result<(), Refusal>
+    ensures same { result ≡ verdict }
+    ensures cleared { tables.new ≡ cond (is_ok verdict) tables.old blank }
+{
+    if verdict.is_err() {
+        clear(tables);
+    }
+    verdict
+}
+
 // The verdict on a job of any length, whatever the tables held before: an accepted job leaves its tables, a refused one blank ones.
 pub fn decode(job: &[u8], tables: &mut [u32; CELLS]) -> Result<(), Refusal>
     ensures { Decides (decode_job job.now) tables.new result }
 {
-    if let Err(refusal) = judge_commands(job, tables) {
-        clear(tables);
-        return Err(refusal);
-    }
-    Ok(())
+    let verdict = judge_commands(job, tables);
+    settle(verdict, tables)
 }

@@ -53,13 +53,8 @@ pub fn turn_at(job: &[u8], tables: &[u32], k: u32) -> NodeNum
 {
     let count = count_of(tables, bytes::TURN) as usize;
     let first = job.len().saturating_sub(2 * count);
-    let offset = 2 * (k as usize) + 1;
-    let left = job.len().saturating_sub(first);
-    if offset < left {
-        let at = first + offset;
-        return NodeNum(u32::from(job[at]));
-    }
-    NodeNum(0)
+    let at = first + 2 * (k as usize) + 1;
+    NodeNum(u32::from(job.get(at).copied().unwrap_or(0)))
 }
 
 // How many turns a run may make: those of the job that the tables stand for, or the budget.

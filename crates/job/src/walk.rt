@@ -8,7 +8,7 @@ ghost use Rattle.tables.specs.Stands.{Stands};
 ghost use Rattle.uses.specs.Uses.{Uses};
 ghost use Rattle.job.specs.Decoding.{Continues, Walks};
 
-use command::read::{Command, read_command};
+use command::read::{Parsed, read_command};
 use command::refusal::{Reason, Refusal};
 use declared::open_node;
 use notes::note;
@@ -21,23 +21,23 @@ use violations::violation_of;
 fn admit(
     job: &[u8],
     at: usize,
-    c: Command,
-    next: usize,
+    read: Parsed,
     tables: &mut [u32],
     uses: &mut [u32],
 ) -> Result<usize, Refusal>
     requires at_in_bounds { (at < length job.now) × (length job.now ≤ 16384) }
-    requires at_value { (read_command job.now at ≡ whole (command_of c) next) × Known c }
+    requires at_value { (read_command job.now at ≡ whole (command_of read.command) read.next) × Known read.command }
     ensures { (past : List Past) → Stands tables.old past → Uses uses.old past → Valid past
         → length past ≤ at → Continues job.now at past tables.new uses.new result }
 {
+    let c = read.command;
     if let Some(reason) = violation_of(tables, c) {
         return Err(Refusal { reason, place: at });
     }
     let opened = open_node(tables);
     note(tables, c);
     note_use(uses, opened, c.byte, c.first);
-    Ok(next)
+    Ok(read.next)
 }
 
 // One step: the command at a place. It answers the place of the next one, or the refusal of the job.
@@ -47,7 +47,7 @@ fn advance(job: &[u8], at: usize, tables: &mut [u32], uses: &mut [u32]) -> Resul
         → length past ≤ at → Continues job.now at past tables.new uses.new result }
 {
     let read = read_command(job, at)?;
-    admit(job, at, read.command, read.next, tables, uses)
+    admit(job, at, read, tables, uses)
 }
 
 // The tests 1 to 8 and 15: the verdict, the tables of an accepted job, and what its handlers use. The place goes on by the length of each
@@ -57,13 +57,7 @@ pub(crate) fn walk(job: &[u8], tables: &mut [u32; CELLS], uses: &mut [u32]) -> R
     ensures { Walks (decode job.now) tables.new uses.new result }
 {
     clear(tables);
-    if job.len() == 0 {
-        return Err(Refusal {
-            reason: Reason::Length,
-            place: 0,
-        });
-    }
-    if 16384 < job.len() {
+    if job.is_empty() | (16384 < job.len()) {
         return Err(Refusal {
             reason: Reason::Length,
             place: 0,

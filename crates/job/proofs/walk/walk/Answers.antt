@@ -1,17 +1,13 @@
 use Rattle.std.proofs.lemmas.Result.{err_from_is_err_and}
-use Rattle.model.proofs.Decoding.{decode-empty, decode-long}
 use Rattle.job.proofs.Judged.{walk_refuses}
-use Rattle.job.proofs.Going.{going_start, going_end, going-stop, going_on}
+use Rattle.job.proofs.Going.{decode_size, sized, going_start, going_end, going-stop, going_on}
 use Rattle.job.proofs.walk.walk.Goals as goal
 
-pub returns-then-job-eq0 : goal.returns-then-job-eq0
-returns-then-job-eq0 c = walk_refuses _ _ _ _ (decode-empty _ c.if-job-eq0.true)
-
-pub returns-then-job-gt16384 : goal.returns-then-job-gt16384
-returns-then-job-gt16384 c = walk_refuses _ _ _ _ (decode-long _ c.if-job-eq0.false c.if-job-gt16384.true)
+pub returns-then-is_empty-job : goal.returns-then-is_empty-job
+returns-then-is_empty-job c = walk_refuses _ _ _ _ (decode_size _ (rw c.is_empty.ensures at c.if-is_empty-job.true))
 
 pub loop-at-init : goal.loop-at-init
-loop-at-init c = (c.if-job-gt16384.false, going_start _ _ _ c.if-job-eq0.false c.if-job-gt16384.false c.clear.ensures c.requires)
+loop-at-init c = let n = sized _ (rw c.is_empty.ensures at c.if-is_empty-job.false) in (n.1, going_start _ _ _ n.0 n.1 c.clear.ensures c.requires)
 
 pub returns-in_err-at : goal.returns-in_err-at
 returns-in_err-at c = let g = c.loop-at.invariant.1 in
