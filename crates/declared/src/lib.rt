@@ -16,7 +16,7 @@ use tables::cells;
 use tables::cells::{entry, flagged, half, marked, marks_of};
 
 // Where a variable belongs, by the numbers of 01: to one node, to one flow, or to the whole job.
-#[derive(Clone, Copy)]
+#[derive(Clone, Copy, PartialEq, Eq)]
 pub enum Scope {
     Node,
     Flow,
@@ -108,7 +108,7 @@ pub fn is_shared(tables: &[u32], x: VarNum) -> bool
     ensures { result ≡ shared_in tables.now x.0 }
 {
     let scope = entry(tables, cells::SCOPE, x.0 as usize);
-    !matches!(Scope::from(scope), Scope::Node)
+    Scope::from(scope) != Scope::Node
 }
 
 // Whether a variable of this scope and owner is seen by a node of this flow.
