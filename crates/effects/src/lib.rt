@@ -28,7 +28,8 @@ fn continue_at(own: Registers, position: u32, accumulator: u32, change: Change) 
     Effect { registers, change }
 }
 
-// The effect of a handler command. ADD and PLUS add by the supplied wrapping add, as 01 asks.
+// The effect of a handler command. ADD and PLUS add by the supplied wrapping add, as 01 asks. That the next position can be counted stays a
+// clause: a type of registers could not tell it, for a jump leads to any number.
 pub fn effect_of(
     tables: &[u32],
     instruction: Instruction,
