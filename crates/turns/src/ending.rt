@@ -49,9 +49,8 @@ impl Ending {
     {
         let event = Event::Other;
         match self.halt {
-            Halt::Stopped(Stop::Forbidden(entry)) => Numbers::from(entry),
+            Halt::Stopped(Stop::Forbidden(entry) | Stop::Full(entry)) => Numbers::from(entry),
             Halt::Stopped(Stop::Unready(node)) => Numbers::from(Entry { node, event }),
-            Halt::Stopped(Stop::Full(entry)) => Numbers::from(entry),
             _ => Numbers::from(Entry {
                 node: NodeNum(0),
                 event,
