@@ -36,7 +36,7 @@ pub struct Printed {
     pub answer: Result<Ending, Refusal>,
 }
 
-// Puts the lines of the tallies of the first nodes (S-12).
+// Puts the lines of the tallies of the first nodes (S-12). That there are at most 32 stays a clause: any number may be asked for.
 fn put_tallies(
     text: &mut [u8],
     at: usize,
@@ -100,7 +100,7 @@ fn put_total(text: &mut [u8], at: usize, schedule: Schedule, examined: u32) -> u
 fn has_room(text: &[u8], at: usize) -> bool
     ensures { result ≡ has_room text.now at }
 {
-    at <= text.len() && TEXT <= text.len() - at
+    TEXT <= text.len().saturating_sub(at)
 }
 
 // Runs a job as an order asks for it, and puts the lines of its run into the text. If the text has no room for what a run may print, it
