@@ -1,4 +1,5 @@
-// What the tables say of permissions, each under its own kind of number; what the questions share is `marked`.
+// What the tables say of permissions, each under its own kind of number; what the questions share is `marked`. Tables and numbers
+// are handed over one by one: each question has its own numbers.
 #![tactic(auto)]
 
 ghost use Rattle.std.specs.Prelude.{◌≡◌};

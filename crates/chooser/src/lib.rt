@@ -1,5 +1,5 @@
-// The dispatcher's choice (S-2): the first ready node, going round by number. Positions, counts and ready count are lent one by one: they are
-// fields of the state, which lies above.
+// The dispatcher's choice (S-2): the first ready node, going round by number. Positions, counts and ready count are lent one by one: they
+// are fields of the state, which lies above.
 #![tactic(auto)]
 
 ghost use Rattle.std.specs.Prelude.{◌≡◌, ◌≤◌};
@@ -27,7 +27,8 @@ fn wrapped(n: u32, nodes: u32) -> u32
 }
 
 // The first ready node of so many, going round from a number on. If the ready count is 0 it is nobody, and no node is examined (S-4); else
-// each is examined in turn until one is ready: a loop that yields the node by break, as 01 asks.
+// each is examined in turn until one is ready: a loop that yields the node by break, as 01 asks. That there are at most 32 nodes, and
+// that the ready count is theirs, stays a clause: any numbers may be handed over.
 pub fn choose(position: &[u32; 32], waiting: &[u8; 32], ready: u32, nodes: u32, from: u32) -> Choice
     requires nodes_bound { (nodes ≤ 32) × (from ≤ nodes) }
     requires ready_value { ready ≡ ready_count_in position.now waiting.now nodes }

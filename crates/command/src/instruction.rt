@@ -41,7 +41,8 @@ pub fn instruction_of(byte: u8, x: u32) -> Instruction
     }
 }
 
-// The handler command at a place of a job, by the row of its byte; SKIP where none is read. It has one operand at most.
+// The handler command at a place of a job, by the row of its byte; SKIP where none is read, and no `Option`: that is what
+// is promised of any bytes. It has one operand at most.
 pub fn read_instruction(job: &[u8], at: usize) -> Instruction
     ensures { instruction_of result ≡ instruction_from job.now at }
 {

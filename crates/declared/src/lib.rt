@@ -1,5 +1,6 @@
 // What the tables say of flows, nodes, variables, functions and their answers, wires, handlers, first messages, and where the items of a
-// node or a function are, each under its own kind of number; what the questions share is `entry`, `flagged`, `marked` and `half`.
+// node or a function are, each under its own kind of number; what the questions share is `entry`, `flagged`, `marked` and `half`. Tables
+// and numbers are handed over one by one: each question has its own numbers.
 #![tactic(auto)]
 
 ghost use Rattle.std.specs.Prelude.{◌≡◌, ℕ, ◌<◌, is_some, option_to_list};

@@ -25,7 +25,7 @@ use plans::plan_turn;
 // ready (S-4). Arrays of one size for every job: no heap, fixed memory. Positions lie apart from accumulators and messages, since
 // `chooser::choose` and `memory::ready` are lent the positions alone; values lie apart from senders, since both together take 8 bytes in an
 // array: the state would grow from 3,236 bytes to 4,772, and a turn copies it three times. That no more messages wait at a node than it has
-// slots stays a clause (`BoundedCounts`): `ready_count` takes any state.
+// slots, and that the ready count is that of its nodes, stay clauses (`BoundedCounts`, `CountsReady`): `ready_count` takes any state.
 #[derive(Drop)]
 pub struct State {
     pub position: [u32; 32],
@@ -46,7 +46,7 @@ pub struct Turned {
 }
 
 // Every node is idle, its accumulator and message 0; the queues hold the START values, each slot as sent by START; the variables hold
-// their starts; the ready nodes are counted.
+// their starts; the ready nodes are counted. That there are at most 32 nodes stays a clause: the tables tell it of accepted jobs alone.
 pub fn start(tables: &[u32]) -> State
     requires { count_in tables.now NODE ≤ 32 }
     ensures { Starts tables.now result }
@@ -76,7 +76,8 @@ impl State {
         self.ready
     }
 
-    // One turn of a node, by the tables and by what stands in its handler at its position: planned first, and then carried out.
+    // One turn of a node, by the tables and by what stands in its handler at its position: planned first, and then carried out. That the
+    // next position can be counted stays a clause, as in `effects`; `monitored` is a bool, by which the definitions choose (`rule_of`).
     pub fn turn(
         mut self,
         tables: &[u32],

@@ -8,7 +8,8 @@ use command::instruction::{Instruction, read_instruction};
 use command::numbers::NodeNum;
 use declared::length_of;
 
-// What the slot of a node's command stands for, SKIP where there is no slot; inside the handlers of a loaded job, its command.
+// What the slot of a node's command stands for, SKIP where there is no slot, and no `Option`: that is what is promised of any bytes; inside
+// the handlers of a loaded job, its command.
 fn read_slot(job: &[u8], work: &[u8], n: NodeNum, position: u32) -> Instruction
     ensures { instruction_of result ≡ slot_in job.now work.now n.0 position }
 {

@@ -47,7 +47,8 @@ fn index_after(c: Head, index: u32) -> u32
 }
 
 // Loads the handlers of an accepted job: up to the first command of a group above 4, since no handler command stands behind it. The
-// place goes on by the length of each command, so no range has it.
+// place goes on by the length of each command, so no range has it; nor has it an iterator: what is known of the commands so far stands in
+// the loop's invariants, and an iterator's clause would have to say it of all of them at once.
 pub fn load(job: &[u8], work: &mut [u8])
     requires { IsAccepted (decode_job job.now) }
     ensures { work.new ≡ loaded work.old (commands_of (decode_job job.now)) }

@@ -65,7 +65,8 @@ fn refuse_unused(unused: Option<usize>) -> Result<(), Refusal>
 
 // 9: refused at the first jump whose target exceeds its handler's command count. 19: if there is none, refused at the first permission that
 // its node's handler has no command for. Neither stands behind a command of a group above 4. The place goes on by the length of each
-// command, so no range has it.
+// command, so no range has it; nor has it an iterator: what is known of the commands so far stands in the loop's invariants, and an
+// iterator's clause would have to say it of all of them at once.
 pub(crate) fn check_later(job: &[u8], tables: &[u32], uses: &[u32]) -> Result<(), Refusal>
     ensures { (all : List Past) → decode job.now ≡ accepted all → Stands tables.now all
         → Uses uses.now all → verdict_of result ≡ first_of (far_jump all) (unused_permission all) }

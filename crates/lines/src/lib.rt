@@ -16,7 +16,7 @@ use snapshot::put_snapshot_lines;
 use text::put_line;
 use trace::put_entry_lines;
 
-// Puts the line of a refusal: `refused`, number, place.
+// Puts the line of a refusal: `refused`, number, place. The number is any number and no `Reason`, as a file keeps it.
 pub fn put_refusal(text: &mut [u8], at: usize, number: u8, place: usize) -> usize
     requires { at + length (refused_line number place) ≤ length text.old }
     ensures { Writes (refused_line number place) text.old at text.new result }

@@ -1,4 +1,5 @@
-// The lines of a tally (S-12).
+// The lines of a tally (S-12). The counts of node n are read by their place, 4 n, as the definitions read them: by chunks, a proof would
+// have to say where each one lies.
 ghost use Rattle.std.specs.Prelude.{◌+◌, ◌*◌, ◌≤◌, length};
 ghost use Rattle.writing.specs.Writing.{Writes};
 ghost use Rattle.lines.specs.Lines.{tally_lines_in};

@@ -1,4 +1,5 @@
-// The lines of the entries of a trace.
+// The lines of the entries of a trace. Entry k is read by its place, 7 k, as the definitions read it: by chunks, a proof would have to say
+// where each one lies. The tally reads three bytes of an entry and the lines all seven, so they share no reader of entries.
 ghost use Rattle.std.specs.Prelude.{◌+◌, ◌*◌, ◌≤◌, length};
 ghost use Rattle.writing.specs.Writing.{Writes, joined};
 ghost use Rattle.lines.specs.Lines.{entry_line};

@@ -1,4 +1,5 @@
-// Which nodes are ready (S-2), and how many (S-4). Positions and counts are lent one by one: they are fields of the state, which lies above.
+// Which nodes are ready (S-2), and how many (S-4). Positions and counts are lent one by one: they are fields of the state, which lies
+// above. That there are at most 32 nodes, and so many ready ones, stays a clause: any number may be handed over.
 ghost use Rattle.std.specs.Prelude.{◌≡◌, ◌+◌, ◌≤◌, ◌<◌};
 ghost use Rattle.tables.specs.Tables.{wired_in};
 ghost use Rattle.memory.specs.Ready.{ready_in, ready_count_in, woken_in, woken_by};

@@ -1,4 +1,5 @@
-// The bytes of the snapshot (01's "end picture"). The place of each part is carried along from part to part (S-3).
+// The bytes of the snapshot (01's "end picture"). The place of each part is carried along from part to part (S-3). That no more messages
+// wait at a node than it has slots stays a clause (`BoundedCounts`): the state comes from anyone.
 ghost use Rattle.std.specs.Prelude.{◌≡◌, ◌+◌, ◌*◌, ◌≤◌, ◌<◌, length};
 ghost use Rattle.model.specs.Table.{max_nodes, max_variables};
 ghost use Rattle.model.specs.State.{position_at};
@@ -67,7 +68,7 @@ fn put_variables(
 }
 
 // Writes the snapshot of a state: its first nodes and its first variables, as many as are asked for. That the buffer has room for every
-// snapshot stays a clause: refusal 11 is the test for it.
+// snapshot stays a clause: refusal 11 is the test for it. So do the most nodes and variables: only accepted jobs tell them.
 pub fn put_snapshot(snapshot: &mut [u8], state: &State, nodes: usize, variables: usize) -> usize
     requires snapshot_size_in_bounds { (snapshot_size ≤ length snapshot.old) × (nodes ≤ max_nodes) × (variables ≤ max_variables) }
     requires bounded_counts { BoundedCounts state.now.waiting }

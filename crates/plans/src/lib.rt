@@ -115,7 +115,8 @@ fn decide<'a>(
 // The turn of a node, by what stands in its handler at its position, its registers, the message in its first slot with its sender, how many
 // messages wait at each node, the variables, the positions of all nodes and how many are ready. A node that begins was ready and is; one
 // that finishes is no longer, unless a message waits at it. What is handed over one by one are parts of the state, which lies above: with a
-// struct of what is lent, every clause would be longer.
+// struct of what is lent, every clause would be longer. That the next position can be counted stays a clause, as in `effects`. `monitored`
+// is a bool and no closure: by it the definitions choose the rule (`rule_of`).
 pub fn plan_turn<'a>(
     tables: &[u32],
     fetched: Option<Instruction>,

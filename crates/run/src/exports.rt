@@ -1,4 +1,5 @@
-// The entry points for programs in C and Rust (include/leqsumir.h): the answer as eight numbers, with the examined total as nine.
+// The entry points for programs in C and Rust (include/leqsumir.h): the answer as eight numbers, with the examined total as nine. Each name
+// of the C interface has a function of its own.
 ghost use Rattle.std.specs.Prelude.{◌≡◌};
 ghost use Rattle.model.specs.Result.{trace_after, snapshot_after, work_after};
 ghost use Rattle.run.specs.Answers.{told_by, told_in, monitored_with, unmonitored_with};
@@ -35,7 +36,7 @@ fn numbers_in(answer: Result<Ending, Refusal>) -> [u64; 8]
     }
 }
 
-// The numbers of an answer, and the examined total.
+// The numbers of an answer, and the examined total. No `From`: it is `numbers_in` with one number more.
 fn numbers_with(handed: Handed) -> [u64; 9]
     ensures { result ≡ numbers_with (told_by handed.answer) handed.examined }
 {

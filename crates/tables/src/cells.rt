@@ -1,5 +1,6 @@
 // All tables lie in one array of cells, a section each. A cell that was not noted is 0, and so is what lies outside a section. One
-// array and no struct of arrays: one law of reading and of writing serves every section, and fixed memory is cleared in one step.
+// array and no struct of arrays: one law of reading and of writing serves every section, and fixed memory is cleared in one step. Array,
+// section and place go one by one: the places differ from question to question.
 ghost use Rattle.std.specs.Prelude.{◌≡◌, ℕ, ◌+◌, ◌<◌, length};
 ghost use Rattle.tables.specs.Bits.{bit_of};
 ghost use Rattle.tables.specs.Cells.{cell_count, entry_in, put_in, flag_in, mark_in, mark_at, half_in, put_half, blank};

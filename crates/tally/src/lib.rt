@@ -34,7 +34,7 @@ fn entries_held(turns: u64, trace: &[u8]) -> usize
 
 // Writes the four counts of each of the first nodes to the front of an array, and answers the place after them. That there are at most 32
 // nodes stays a clause, here and below: the tables tell it of accepted jobs alone. Turns, trace and snapshot go one by one, as C hands them
-// over.
+// over. Arrivals and takings are two arrays: each is counted by a function that is lent it alone.
 pub fn put_counts(
     counts: &mut [u64; COUNTS],
     tables: &[u32],

@@ -19,7 +19,7 @@ fn count_started(tables: &[u32], n: NodeNum) -> u64
 }
 
 // Writes the counts of the first nodes, four a node: started, received, taken, waiting. The place of each node's part of the snapshot (01's
-// "picture") is carried along from part to part.
+// "picture") is carried along from part to part. The counts are any slice that has room.
 pub fn put_nodes(
     counts: &mut [u64],
     tables: &[u32],

@@ -56,7 +56,8 @@ fn choice_of(
     }
 }
 
-// Writes the snapshot (01's "picture") of a state: its declared nodes and variables.
+// Writes the snapshot (01's "picture") of a state: its declared nodes and variables. What is asked of state and tables stays in clauses:
+// their types do not promise it.
 fn put_state(snapshot: &mut [u8], state: &State, tables: &[u32]) -> usize
     requires room { snapshot_size ≤ length snapshot.old }
     requires few { (count_in tables.now NODE ≤ max_nodes) × (count_in tables.now VAR ≤ max_variables) }

@@ -1,5 +1,5 @@
 // What the handlers of a job use: by node, the variables that its handler reads and writes, and the functions that it calls. The cells are
-// the decoder's own: no run has them.
+// the decoder's own: no run has them. One array and no heap: the tables' laws of reading and writing serve it too.
 #![tactic(auto)]
 
 ghost use Rattle.std.specs.Prelude.{◌≡◌, ◌||◌, eqb};

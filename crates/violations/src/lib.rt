@@ -1,4 +1,6 @@
-// The tests 4 to 8 and 15 of a command, by the tables of those before it.
+// The tests 4 to 8 and 15 of a command, by the tables of those before it. That tables stand for these commands (`Stands`), and what is
+// known of the command (`Plain`), stays in the clauses, as `Valid` and `Uses` do in `job`: the commands before are known to the proof
+// alone, and the tables come from anyone.
 #![tactic(auto)]
 
 ghost use Rattle.std.specs.Prelude.{◌≡◌, cond, ◌||◌, ◌-◌, List, eqb};
