@@ -16,7 +16,7 @@ use turns::ending::Ending;
 const CLEARED: usize = WORK;
 
 // From one byte of a buffer to the next, the value grows by this, modulo 256.
-const STEP: usize = 31;
+const STEP: u8 = 31;
 
 // Which byte is changed after a run: the first or the last of the work buffer, the last of the trace or of the snapshot buffer, or none.
 // Where a buffer is longer than what a run writes to it, its last byte is one that the run has to keep.
@@ -47,7 +47,7 @@ impl From<u8> for ChangedByte {
 fn fill_byte(seed: u8, i: usize) -> u8
     ensures { result ≡ fill_byte seed i }
 {
-    ((usize::from(seed) + STEP * (i % 256)) % 256) as u8
+    seed.wrapping_add(((i % 256) as u8).wrapping_mul(STEP))
 }
 
 // Fills a buffer from a seed.
@@ -71,7 +71,7 @@ pub fn fill_all(trace: &mut [u8], snapshot: &mut [u8], work: &mut [u8], seed: u8
     fill(work, seed);
 }
 
-// Changes a byte of a buffer, if the buffer has this place.
+// Changes a byte of a buffer, if the buffer has this place. By index: after a write through `get_mut` nothing is known of the slice.
 fn change_at(buffer: &mut [u8], at: usize)
     ensures { buffer.new ≡ changed_at buffer.old at }
 {
@@ -106,7 +106,11 @@ pub fn change_one(trace: &mut [u8], snapshot: &mut [u8], work: &mut [u8], which:
 fn is_kept(buffer: &[u8], from: usize, seed: u8) -> bool
     ensures { result ≡ is_kept buffer.now from seed }
 {
-    (from..buffer.len()).all(|i| buffer[i] == fill_byte(seed, i))
+    buffer
+        .iter()
+        .enumerate()
+        .skip(from)
+        .all(|(i, byte)| *byte == fill_byte(seed, i))
 }
 
 // Whether the front of the work buffer is 0; bytes that it does not have count as 0.

@@ -3,6 +3,7 @@ ghost use Rattle.std.specs.Prelude.{◌≤◌, IfSome, IsTrue, length};
 ghost use Rattle.conformance.specs.Input.{HeadFits};
 
 use crate::buffers::ChangedByte;
+use job::buffers::Lengths;
 use job::schedule::{Order, Schedule};
 use std::io::Read;
 
@@ -13,9 +14,7 @@ pub struct Head {
     pub change: ChangedByte,
     pub seed: u8,
     pub job: usize,
-    pub trace: usize,
-    pub snapshot: usize,
-    pub work: usize,
+    pub lengths: Lengths,
 }
 
 // The largest lengths.
@@ -46,7 +45,8 @@ fn order_of(flags: u8, budget: u16) -> Order {
 }
 
 // Fills a buffer; none if the input ends before it is full, or a read fails. This is no `read_exact`, which tries an interrupted read again:
-// here the runs are over at one.
+// here the runs are over at one. It is not one loop with `flowrun`'s `read_job`, to which an ended input is a count of bytes, and a failed
+// read an error.
 fn read_full(reader: &mut impl Read, buffer: &mut [u8]) -> Option<()> {
     let mut size: usize = 0;
     while size < buffer.len() {
@@ -68,9 +68,11 @@ fn read_head(reader: &mut impl Read) -> Option<Head> {
         change: ChangedByte::from(head[0] / 2 % 8),
         seed: head[1],
         job: usize::from(pair(head[2], head[3])),
-        trace: usize::from(pair(head[4], head[5])),
-        snapshot: usize::from(pair(head[6], head[7])),
-        work: usize::from(pair(head[8], head[9])),
+        lengths: Lengths {
+            trace: usize::from(pair(head[4], head[5])),
+            snapshot: usize::from(pair(head[6], head[7])),
+            work: usize::from(pair(head[8], head[9])),
+        },
     })
 }
 
@@ -79,9 +81,9 @@ fn is_short(head: Head) -> bool
     ensures { IsTrue result → HeadFits head }
 {
     head.job <= LONGEST_JOB
-        && head.trace <= LONGEST_TRACE
-        && head.snapshot <= LONGEST_SNAPSHOT
-        && head.work <= LONGEST_WORK
+        && head.lengths.trace <= LONGEST_TRACE
+        && head.lengths.snapshot <= LONGEST_SNAPSHOT
+        && head.lengths.work <= LONGEST_WORK
 }
 
 // Reads the next run, its job into the front of the buffer. The runs are over where the input ends, be it inside a run, and at a length

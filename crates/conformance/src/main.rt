@@ -6,7 +6,7 @@
 mod buffers;
 mod input;
 
-ghost use Rattle.std.specs.Prelude.{◌≡◌, ◌+◌, ◌≤◌, length};
+ghost use Rattle.std.specs.Prelude.{◌+◌, ◌≤◌, length};
 ghost use Rattle.writing.specs.Writing.{Writes};
 ghost use Rattle.conformance.specs.Keeping.{verdict_line};
 
@@ -79,8 +79,7 @@ fn make_room(rt: &impl Print, text: &[u8], at: usize) -> usize
 
 // Runs one job after another, with room for the largest lengths, and answers where the text that still waits ends. A proved loop has to
 // end, and nothing says that the input does: the rounds are as many as no input uses up.
-fn conform_all(rt: &impl Print, reader: &mut impl Read, text: &mut [u8]) -> usize
-    requires { length text.old ≡ 262144 }
+fn conform_all(rt: &impl Print, reader: &mut impl Read, text: &mut [u8; TEXT]) -> usize
     ensures { result ≤ 262144 }
 {
     let mut job = [0u8; LONGEST_JOB];
@@ -95,9 +94,9 @@ fn conform_all(rt: &impl Print, reader: &mut impl Read, text: &mut [u8]) -> usiz
         let end = conform(
             head,
             &job[..head.job],
-            &mut trace[..head.trace],
-            &mut snapshot[..head.snapshot],
-            &mut work[..head.work],
+            &mut trace[..head.lengths.trace],
+            &mut snapshot[..head.lengths.snapshot],
+            &mut work[..head.lengths.work],
             text,
             at,
         );
