@@ -50,13 +50,9 @@ fn number_in(word: &[u8]) -> Option<u64>
 
 // How many arguments there are, the program's name among them.
 fn argument_count(arguments: &impl Env) -> usize {
-    let mut first = [0u8; 1];
-    for i in 0..usize::MAX {
-        if let Err(FillError::NotPresent) = arguments.arg(i, &mut first) {
-            return i;
-        }
-    }
-    usize::MAX
+    (0..usize::MAX)
+        .find(|&i| matches!(arguments.arg(i, &mut [0u8; 1]), Err(FillError::NotPresent)))
+        .unwrap_or(usize::MAX)
 }
 
 // Copies an argument to the front of a room, and answers it; the empty word if it is missing or longer than the room.
@@ -98,7 +94,8 @@ fn asked(arguments: &impl Env) -> Option<Order> {
 }
 
 // Reads to the front of a buffer, until the buffer is full, the input ends or a read fails. This is no `read_exact`, which does not say how
-// many bytes it has read where the input ends before the buffer is full.
+// many bytes it has read where the input ends before the buffer is full. It is not one loop with `conformance`'s `read_full`, to which an
+// ended input and a failed read are both none.
 fn read_job(reader: &mut impl Read, job: &mut [u8]) -> io::Result<usize>
     ensures { IfOk result (λ size. size ≤ length job.old) }
 {
@@ -114,8 +111,7 @@ fn read_job(reader: &mut impl Read, job: &mut [u8]) -> io::Result<usize>
 }
 
 // Puts the lines of a job's run at the front of the text, and answers the place after them.
-fn put_lines(text: &mut [u8], job: &[u8], order: Order) -> usize
-    requires { text_size ≤ length text.old }
+fn put_lines(text: &mut [u8; TEXT], job: &[u8], order: Order) -> usize
     ensures end { result ≤ text_size }
     ensures text { Writes
         (lines_by order.schedule job.now
