@@ -56,7 +56,7 @@ const ROWS: [u64; ROW_COUNT] = [
     0x1000_3000_1000_1_6_60, // TURN
 ];
 
-// The columns of a row; the kinds are digits, and `kind_of` says which kind each stands for.
+// The columns of a row; the kinds are digits, and the `From` of `OperandKind` says which kind each stands for.
 #[derive(Clone, Copy)]
 pub struct Row {
     pub byte: u8,
@@ -74,25 +74,27 @@ pub struct Row {
 }
 
 // The kind that a digit stands for. It is asked where a kind is needed: with all four in a row, decoding a TURN takes 22 instructions more.
-pub fn kind_of(digit: u8) -> OperandKind
-    ensures { result ≡ kind_of digit }
-{
-    match digit {
-        1 => OperandKind::Scope,
-        2 => OperandKind::Owner,
-        3 => OperandKind::Node,
-        4 => OperandKind::Port,
-        5 => OperandKind::Target,
-        6 => OperandKind::Function,
-        7 => OperandKind::Variable,
-        8 => OperandKind::Start,
-        9 => OperandKind::Answer,
-        10 => OperandKind::Value,
-        11 => OperandKind::Jump,
-        12 => OperandKind::Low,
-        13 => OperandKind::High,
-        14 => OperandKind::Argument,
-        _ => OperandKind::Absent,
+impl From<u8> for OperandKind {
+    ghost from_gives = { λ digit kind. kind ≡ kind_of digit };
+
+    fn from(digit: u8) -> OperandKind {
+        match digit {
+            1 => OperandKind::Scope,
+            2 => OperandKind::Owner,
+            3 => OperandKind::Node,
+            4 => OperandKind::Port,
+            5 => OperandKind::Target,
+            6 => OperandKind::Function,
+            7 => OperandKind::Variable,
+            8 => OperandKind::Start,
+            9 => OperandKind::Answer,
+            10 => OperandKind::Value,
+            11 => OperandKind::Jump,
+            12 => OperandKind::Low,
+            13 => OperandKind::High,
+            14 => OperandKind::Argument,
+            _ => OperandKind::Absent,
+        }
     }
 }
 

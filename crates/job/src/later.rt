@@ -18,7 +18,7 @@ use uses::is_unused;
 fn is_far(c: Head, len: u32) -> bool
     ensures { result ≡ ((eqb c.byte JUMPZ || eqb c.byte JUMP) && ltb len c.first) }
 {
-    ((c.byte == bytes::JUMPZ) | (c.byte == bytes::JUMP)) & (len < c.first)
+    matches!(c.byte, bytes::JUMPZ | bytes::JUMP) && len < c.first
 }
 
 // The second operand of a permission at a place, its variable or function: the byte after its node; 0 after the end of the job.

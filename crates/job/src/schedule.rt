@@ -41,8 +41,8 @@ impl Schedule {
         ensures monitored { result.monitored ≡ false }
     {
         Order {
-            schedule: self,
             monitored: false,
+            ..self.monitored()
         }
     }
 }

@@ -25,7 +25,7 @@ pub fn fill_variables(variable: &mut [u32; 64], tables: &[u32])
     }
 }
 
-// The variables after a change; the value is what is stored.
+// The variables after a change; the value is what is stored, by index, as in `tables::cells::put`.
 pub fn change_variable(variable: &mut [u32; 64], change: Change, value: u32)
     ensures { variable.new ≡ variables_after value variable.old change }
 {

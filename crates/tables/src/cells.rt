@@ -69,7 +69,7 @@ pub fn entry(tables: &[u32], s: Section, i: usize) -> u32
     0
 }
 
-// Sets cell i of a section.
+// Sets cell i of a section: by index, since after a write through `get_mut` a proof knows nothing of the slice.
 #[tactic(auto, unfolding(crate::specs::Cells::put_in))]
 pub fn put(tables: &mut [u32], s: Section, i: usize, x: u32)
     ensures { tables.new ≡ put_in tables.old s i x }
@@ -141,8 +141,7 @@ pub fn put_half(tables: &mut [u32], s: Section, i: usize, h: u32)
 }
 
 // Makes every cell 0.
-pub fn clear(tables: &mut [u32])
-    requires { length tables.old ≡ cell_count }
+pub fn clear(tables: &mut [u32; CELLS])
     ensures { tables.new ≡ blank }
 {
     tables.fill(0);

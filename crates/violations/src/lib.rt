@@ -19,7 +19,7 @@ use command::bytes;
 use command::numbers::{FunNum, NodeNum, VarNum};
 use command::read::Command;
 use command::refusal::Reason;
-use command::table::{OperandKind, kind_of, unpack};
+use command::table::{OperandKind, unpack};
 use declared::Scope;
 
 // How many flows, nodes, variables and functions are declared.
@@ -96,7 +96,7 @@ fn has_no_owner(d: Counts, scope: u32, x: u32) -> bool
 fn names_nothing(d: Counts, scope: u32, digit: u8, x: u32) -> bool
     ensures { result ≡ names_nothing (counts_as d) scope (kind_meant (kind_of digit)) x }
 {
-    match kind_of(digit) {
+    match OperandKind::from(digit) {
         OperandKind::Scope => 2 < x,
         OperandKind::Owner => has_no_owner(d, scope, x),
         OperandKind::Node => d.nodes <= x,
