@@ -3,6 +3,7 @@ use Prim.Native.Nat.{ℕ}
 use mathlib.Core.Path.{◌≡◌, refl}
 use mathlib.Core.Bool.{Bool, true, false, cond}
 use mathlib.Core.List.{List}
+use lib.ListN.{get_or}
 use Rattle.model.specs.Program.{shared_in as is_shared}
 use Rattle.model.specs.State.{State, accumulator_at, variable_at}
 use Rattle.model.specs.Turn.{entry}
@@ -22,9 +23,10 @@ module _ (t : List ℕ) (hs : Handlers) (s : State) (n : ℕ) (x : VarNum) where
   accessed true kind value shown h = h
   accessed false kind value shown h = refl
 
-  pub read_left : (v : ℕ) → variable_at s x.0 ≡ v → entry_for n (cond (shared_in t x.0) (e.Read x v) e.Other) ≡ cond
+  pub read_left : (xs : List ℕ) → s.variable ≡ xs → entry_for n (cond (shared_in t x.0) (e.Read x (get_or xs x.0 0)) e.Other) ≡ cond
       (is_shared (program_in t hs) x.0) (entry n 3 x.0 (variable_at s x.0)) (entry n 0 0 0)
-  read_left v h = rw (← h, shared_by t hs x.0) (accessed (shared_in t x.0) 3 (variable_at s x.0) (e.Read x (variable_at s x.0)) refl)
+  read_left xs h = rw (← h, shared_by t hs x.0) (accessed (shared_in t x.0) 3 (variable_at s x.0)
+      (e.Read x (variable_at s x.0)) refl)
 
   pub write-left : (a : ℕ) → accumulator_at s n ≡ a → entry_for n (cond (shared_in t x.0) (e.Write x a) e.Other) ≡ cond
       (is_shared (program_in t hs) x.0) (entry n 4 x.0 (accumulator_at s n)) (entry n 0 0 0)

@@ -39,12 +39,24 @@ pub enum Stop {
     Full(Entry),
 }
 
-// A variable's event as it shows: only that of a shared variable does.
-fn shown(tables: &[u32], x: VarNum, event: Event) -> Event
-    ensures { result ≡ cond (shared_in tables.now x.0) event Event.Other }
+// The event of reading a variable: a shared one's shows.
+fn read_of(tables: &[u32], x: VarNum, variable: &[u32]) -> Event
+    ensures { result ≡ cond (shared_in tables.now x.0) (Event.Read x (get_or variable.now x.0 0)) Event.Other }
 {
     if is_shared(tables, x) {
-        event
+        let value = variable_at(variable, x);
+        Event::Read(x, value)
+    } else {
+        Event::Other
+    }
+}
+
+// The event of writing a variable: a shared one's shows.
+fn write_of(tables: &[u32], x: VarNum, value: u32) -> Event
+    ensures { result ≡ cond (shared_in tables.now x.0) (Event.Write x value) Event.Other }
+{
+    if is_shared(tables, x) {
+        Event::Write(x, value)
     } else {
         Event::Other
     }
@@ -60,10 +72,9 @@ pub fn event_of(
     ensures { LeavesEvent tables.now instruction accumulator variable.now result }
 {
     match instruction {
-        Instruction::Get(x) | Instruction::Plus(x) => {
-            shown(tables, x, Event::Read(x, variable_at(variable, x)))
-        }
-        Instruction::Put(x) => shown(tables, x, Event::Write(x, accumulator)),
+        Instruction::Get(x) => read_of(tables, x, variable),
+        Instruction::Put(x) => write_of(tables, x, accumulator),
+        Instruction::Plus(x) => read_of(tables, x, variable),
         Instruction::Send(port) => Event::Send(port, accumulator),
         Instruction::Call(f) => Event::Call(f, accumulator),
         _ => Event::Other,
