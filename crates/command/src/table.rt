@@ -25,8 +25,8 @@ pub enum OperandKind {
 // How many commands there are.
 const ROW_COUNT: usize = 25;
 
-// The rows, one number each: a table of structs is copied to the stack wherever it is used, 81 instructions a look, and a search through
-// numbers becomes a jump table. The columns, in hexadecimal digits: the largest count over the whole job, 0 for none (4); the kinds of the
+// The rows, one number each: a table of structs is copied to the stack wherever it is used, which takes 81 instructions a look, and a search
+// through numbers becomes a jump table. The columns, in hexadecimal digits: the largest count over the whole job, 0 for none (4); the kinds of the
 // operands, the first one first (4); their widths (4); their length, the sum of these (1); the group (1); the byte (2).
 const ROWS: [u64; ROW_COUNT] = [
     0x0008_0000_0000_0_0_01, // FLOW

@@ -120,7 +120,7 @@ fn is_cleared(work: &[u8]) -> bool
     work.iter().take(CLEARED).all(|byte| *byte == 0)
 }
 
-// The bytes of a snapshot (01's "picture") of these nodes and variables.
+// The bytes of a snapshot (01's "picture") of these nodes and variables; how many there are, the job alone tells.
 #[tactic(auto, using(output::proofs::Finding::part_first))]
 fn size_of(snapshot: &[u8], nodes: u32, variables: u32) -> usize
     ensures { result ≡ length_of snapshot.now nodes variables }

@@ -1,6 +1,6 @@
 // Runs the jobs on standard input one after the other, and prints for each the lines of its run, then `kept` if the run left every other
-// byte of its buffers as it was and its work buffer cleared, else `changed`. After some runs it changes a byte
-// itself: in the stored ones one that the run has to keep or to clear, so that `changed` has to be printed.
+// byte of its buffers as it was and its work buffer cleared, else `changed`. After some runs it changes a byte itself, in the stored runs
+// one that the run has to keep or to clear: then `changed` has to be printed.
 #![tactic(auto)]
 
 mod buffers;

@@ -8,7 +8,7 @@ use command::numbers::NodeNum;
 use declared::count_of;
 
 // How the turns of a run are given: as the TURN commands of the job, or chosen by the dispatcher (S-2), with a budget of turns. Two names and
-// no `Option` of a budget: the claims over calls go by them. That a budget passed test 13 stays a clause (`budget_refusal`): the entry points
+// no `Option` of a budget: claims go by them (`SecretCallsHold`). That a budget passed test 13 stays a clause (`budget_refusal`): the entry points
 // take any.
 #[derive(Clone, Copy)]
 pub enum Schedule {

@@ -68,7 +68,8 @@ fn put_variables(
 }
 
 // Writes the snapshot of a state: its first nodes and its first variables, as many as are asked for. That the buffer has room for every
-// snapshot stays a clause: refusal 11 is the test for it. So do the most nodes and variables: only accepted jobs tell them.
+// snapshot stays a clause: refusal 11 is the test for it. So do the most nodes and variables: only accepted jobs tell them, and how many.
+// Not inlined, so that its loop has registers of its own: in the middle of a run a waiting message takes 2 instructions more.
 #[inline(never)]
 pub fn put_snapshot(snapshot: &mut [u8], state: &State, nodes: usize, variables: usize) -> usize
     requires snapshot_size_in_bounds { (snapshot_size ≤ length snapshot.old) × (nodes ≤ max_nodes) × (variables ≤ max_variables) }

@@ -13,8 +13,8 @@ use declared::targets_of;
 use output::numbers::Kind;
 
 // Adds one for each target, of those that are the bits of a number, up to its highest. That no count is near its end stays a clause, here and
-// below: the caller has the array, and counts from 0. A loop of its own: by `Places` 4,096 sends to 31 nodes take 134 µs in place of 83, and
-// to the first four 27 in place of 20.
+// below: the caller has the array, and counts from 0. A loop of its own: by `Places` 4,096 sends to 31 nodes take 134 µs in place of 83 µs,
+// and to the first four nodes 27 µs in place of 20 µs.
 fn add_targets(counts: &mut [u64; 32], targets: u32)
     requires by_index { (n : ℕ) → n < max_nodes → get_or counts.old n 0 < 2 ^ 63 }
     ensures { Adds (bit_of targets) counts.old counts.new }
@@ -27,7 +27,8 @@ fn add_targets(counts: &mut [u64; 32], targets: u32)
     }
 }
 
-// Adds what entry k sends: one for each node that it reaches.
+// Adds what entry k sends: one for each node that it reaches. The entry is read by its place, as the definitions read it, and no more of it
+// than is asked for; that the trace has it stays a clause, here and below, for the caller counts them.
 fn add_sent(counts: &mut [u64; 32], tables: &[u32], trace: &[u8], k: usize)
     requires k_in_bounds { 7 * k + 7 ≤ length trace.now }
     requires by_index { (n : ℕ) → n < max_nodes → get_or counts.old n 0 < 2 ^ 63 }

@@ -27,8 +27,8 @@ fn put_field(text: &mut [u8], at: usize, number: u64) -> usize
     put_decimal(text, next, number)
 }
 
-// Puts numbers after another field. A loop of its own beside that of `writing::put_words`: one for both would be handed what puts a number,
-// with a clause on it that says as much as both loops.
+// Puts numbers after another field. A loop of its own beside that of `writing::put_words`: one loop for both would take the function
+// that puts a number, with a clause on it that says as much as both loops.
 pub fn put_fields(text: &mut [u8], at: usize, numbers: &[u64]) -> usize
     requires { at + length (fields numbers.now) ≤ length text.old }
     ensures { Writes (fields numbers.now) text.old at text.new result }

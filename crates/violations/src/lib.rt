@@ -1,5 +1,5 @@
 // The tests 4 to 8 and 15 of a command, by the tables of those before it. That tables stand for these commands (`Stands`), and what is
-// known of the command (`Plain`), stays in the clauses, as `Valid` and `Uses` do in `job`: the commands before are known to the proof
+// known of the command (`Known`, `Plain`), stays in the clauses, as `Valid` and `Uses` do in `job`: the commands before are known to the proof
 // alone, and the tables come from anyone.
 #![tactic(auto)]
 
