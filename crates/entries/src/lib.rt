@@ -40,7 +40,7 @@ pub enum Stop {
 }
 
 // The event of reading a variable: a shared one's shows. It and the next are two functions: with one that is handed the event, a turn takes
-// 16 instructions more (1,353.4 against 1,337.1), and a judged call 7.
+// 6 instructions more (1,353.4 against 1,347.0), and a judged call up to 131 (2,230.8 against 2,100.0).
 fn read_of(tables: &[u32], x: VarNum, variable: &[u32]) -> Event
     ensures { result ≡ cond (shared_in tables.now x.0) (Event.Read x (get_or variable.now x.0 0)) Event.Other }
 {
