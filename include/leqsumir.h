@@ -31,10 +31,10 @@ extern "C" {
  *   work      4,096 bytes
  *   answer    64 bytes; dispatched, 72; of the tally, 24
  *   counts    1,024 bytes, of the tally alone
- *   stack     a call takes less than 26,000 bytes of stack; 24,536 were measured, on x86-64, with less than 300 of the caller, and 12,248
+ *   stack     a call takes less than 26,000 bytes of stack; 24,576 were measured, on x86-64, with less than 300 of the caller, and 12,248
  *             of the tally. (As rattle-kit-5b-plain compiled what it was then, less than 20,000; 18,128 and 12,240 measured.) The tables
  *             of the decoded job and the state of the run lie there, in no other memory.
- *   code      15,691 bytes with constants of librun.a and 7,216 of libtally.a, on x86-64, and memcpy and memset of the C library; no
+ *   code      15,975 bytes with constants of librun.a and 7,686 of libtally.a, on x86-64, and memcpy and memset of the C library; no
  *             variables of their own
  *
  * A call takes no heap. */
